@@ -1,0 +1,89 @@
+//! The exported calls of the static library, and the only unsafe code of this package.
+//!
+//! A slice passes as a pointer and a length in elements. The pointer of an empty Rust slice is
+//! non-null and aligned, which is all the library asks of it.
+
+use crate::Encoding;
+
+extern "C" {
+    fn tillercoral_type_text(
+        words: *const u32,
+        words_len: usize,
+        pairs: *const u32,
+        pairs_len: usize,
+        text: *const u8,
+        text_len: usize,
+        level: u32,
+        out: *mut u8,
+        out_len: usize,
+    ) -> u64;
+
+    fn tillercoral_path_text(
+        words: *const u32,
+        words_len: usize,
+        pairs: *const u32,
+        pairs_len: usize,
+        text: *const u8,
+        text_len: usize,
+        level: u32,
+        out: *mut u8,
+        out_len: usize,
+    ) -> u64;
+
+    fn tillercoral_type_is_sound(
+        words: *const u32,
+        words_len: usize,
+        pairs: *const u32,
+        pairs_len: usize,
+        text: *const u8,
+        text_len: usize,
+    ) -> u64;
+}
+
+// Why the calls below are safe: each pointer and length come from one live slice, the library
+// reads and writes only inside these and keeps no pointer, and `out` is borrowed exclusively.
+
+pub(crate) fn type_text(e: &Encoding<'_>, level: u32, out: &mut [u8]) -> u64 {
+    unsafe {
+        tillercoral_type_text(
+            e.words.as_ptr(),
+            e.words.len(),
+            e.pairs.as_ptr(),
+            e.pairs.len(),
+            e.text.as_ptr(),
+            e.text.len(),
+            level,
+            out.as_mut_ptr(),
+            out.len(),
+        )
+    }
+}
+
+pub(crate) fn path_text(e: &Encoding<'_>, level: u32, out: &mut [u8]) -> u64 {
+    unsafe {
+        tillercoral_path_text(
+            e.words.as_ptr(),
+            e.words.len(),
+            e.pairs.as_ptr(),
+            e.pairs.len(),
+            e.text.as_ptr(),
+            e.text.len(),
+            level,
+            out.as_mut_ptr(),
+            out.len(),
+        )
+    }
+}
+
+pub(crate) fn type_is_sound(e: &Encoding<'_>) -> u64 {
+    unsafe {
+        tillercoral_type_is_sound(
+            e.words.as_ptr(),
+            e.words.len(),
+            e.pairs.as_ptr(),
+            e.pairs.len(),
+            e.text.as_ptr(),
+            e.text.len(),
+        )
+    }
+}

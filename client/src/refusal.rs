@@ -1,0 +1,129 @@
+//! The reasons why a call gives no result.
+
+use std::fmt;
+
+/// Why a call gave no result. The numbers are fixed; the library answers with them.
+///
+/// ```
+/// use tillercoral::Refusal;
+///
+/// assert_eq!(Refusal::BufferTooShort.number(), 8);
+/// assert_eq!(Refusal::from_number(8), Some(Refusal::BufferTooShort));
+/// assert_eq!(Refusal::from_number(0), None);
+/// assert_eq!(
+///     Refusal::TooDeep.to_string(),
+///     "a type begins at depth 65, and the limit is 64 (refusal 5)"
+/// );
+/// ```
+#[derive(Clone, Copy, Debug, PartialEq, Eq, Hash)]
+#[non_exhaustive]
+pub enum Refusal {
+    /// 1: more than 8,192 words, 1,024 pairs or 16,384 bytes of text.
+    OverLimit,
+    /// 2: a pair begins before the end of the one before it or ends outside the text, or half a
+    /// pair ends the table.
+    BadPair,
+    /// 3: a word is wanted and none is left.
+    EndsEarly,
+    /// 4: a word is none of those allowed at its place.
+    UnknownWord,
+    /// 5: a type begins at depth 65.
+    TooDeep,
+    /// 6: words remain after the tree.
+    WordsLeftOver,
+    /// 7: the type lacks the shape asked for.
+    NoSuchPart,
+    /// 8: the buffer is too short for the result.
+    BufferTooShort,
+    /// 9: a file is shorter than its header, or of another length than the header says.
+    BadFileLength,
+    /// 10: two rules replace the same type.
+    RepeatedRule,
+    /// 11: a level above 16.
+    BadLevel,
+}
+
+impl Refusal {
+    /// All refusals, in the order of their numbers, which begin at 1.
+    pub const ALL: [Refusal; 11] = [
+        Refusal::OverLimit,
+        Refusal::BadPair,
+        Refusal::EndsEarly,
+        Refusal::UnknownWord,
+        Refusal::TooDeep,
+        Refusal::WordsLeftOver,
+        Refusal::NoSuchPart,
+        Refusal::BufferTooShort,
+        Refusal::BadFileLength,
+        Refusal::RepeatedRule,
+        Refusal::BadLevel,
+    ];
+
+    /// The fixed number of this refusal.
+    pub const fn number(self) -> u32 {
+        match self {
+            Refusal::OverLimit => 1,
+            Refusal::BadPair => 2,
+            Refusal::EndsEarly => 3,
+            Refusal::UnknownWord => 4,
+            Refusal::TooDeep => 5,
+            Refusal::WordsLeftOver => 6,
+            Refusal::NoSuchPart => 7,
+            Refusal::BufferTooShort => 8,
+            Refusal::BadFileLength => 9,
+            Refusal::RepeatedRule => 10,
+            Refusal::BadLevel => 11,
+        }
+    }
+
+    /// The refusal with this number, if there is one.
+    pub fn from_number(number: u64) -> Option<Refusal> {
+        let index = usize::try_from(number.checked_sub(1)?).ok()?;
+        Refusal::ALL.get(index).copied()
+    }
+
+    fn words(self) -> &'static str {
+        match self {
+            Refusal::OverLimit => {
+                "more than 8,192 words, 1,024 pairs or 16,384 bytes of text were given"
+            }
+            Refusal::BadPair => {
+                "a pair overlaps the one before it or ends outside the text, or half a pair ends \
+                 the table"
+            }
+            Refusal::EndsEarly => "a word is wanted and none is left",
+            Refusal::UnknownWord => "a word is none of those allowed at its place",
+            Refusal::TooDeep => "a type begins at depth 65, and the limit is 64",
+            Refusal::WordsLeftOver => "words remain after the tree",
+            Refusal::NoSuchPart => "the type lacks the shape asked for",
+            Refusal::BufferTooShort => "the buffer is too short for the result",
+            Refusal::BadFileLength => "the file has another length than its header says",
+            Refusal::RepeatedRule => "two rules replace the same type",
+            Refusal::BadLevel => "the level is above 16",
+        }
+    }
+}
+
+impl fmt::Display for Refusal {
+    fn fmt(&self, f: &mut fmt::Formatter<'_>) -> fmt::Result {
+        write!(f, "{} (refusal {})", self.words(), self.number())
+    }
+}
+
+impl std::error::Error for Refusal {}
+
+#[cfg(test)]
+mod tests {
+    use super::*;
+
+    #[test]
+    fn numbers_go_both_ways() {
+        for (index, refusal) in Refusal::ALL.into_iter().enumerate() {
+            assert_eq!(refusal.number() as usize, index + 1);
+            assert_eq!(Refusal::from_number(refusal.number().into()), Some(refusal));
+        }
+        for number in [0, 12, 1 << 32 | 1, u64::MAX] {
+            assert_eq!(Refusal::from_number(number), None);
+        }
+    }
+}

@@ -1,0 +1,425 @@
+//! The text of a type as one would write it by hand for speed, in safe Rust: the baseline that the
+//! proved library is compared with.
+//!
+//! The first pass checks the words and adds up the length of the text, the second writes. Neither
+//! allocates. The second relies on the first for what the words are; where a bounds check remains,
+//! it is Rust's own.
+
+use crate::{Encoding, Refusal};
+
+const FIXED_COUNT: u32 = 16;
+const DEPTH_LIMIT: usize = 64;
+
+/// More children than words allow. A larger count ends in the same refusal, so it may be cut down
+/// to this, and then no sum below passes a u32: 8,192 names of 16,384 bytes stay far below.
+const MORE_THAN_WORDS: u32 = 8_193;
+
+/// A short text, padded so that it can be copied whole, which takes one move instead of a call.
+struct Short<const N: usize> {
+    bytes: [u8; N],
+    length: u8,
+}
+
+const fn short<const N: usize>(text: &[u8]) -> Short<N> {
+    let mut bytes = [b' '; N];
+    let mut i = 0;
+    while i < text.len() {
+        bytes[i] = text[i];
+        i += 1;
+    }
+    Short {
+        bytes,
+        length: text.len() as u8,
+    }
+}
+
+static FIXED: [Short<16>; FIXED_COUNT as usize] = [
+    short(b""),
+    short(b"std"),
+    short(b"rc"),
+    short(b"Rc"),
+    short(b"sync"),
+    short(b"Arc"),
+    short(b"boxed"),
+    short(b"Box"),
+    short(b"mem"),
+    short(b"MaybeUninit"),
+    short(b"dafny_runtime"),
+    short(b"Object"),
+    short(b"Ptr"),
+    short(b"MaybePlacebo"),
+    short(b"_"),
+    short(b"self"),
+];
+
+/// The texts of heads 0 to 11.
+static PLAIN: [Short<8>; 12] = [
+    short(b"u8"),
+    short(b"u16"),
+    short(b"u32"),
+    short(b"u64"),
+    short(b"u128"),
+    short(b"i8"),
+    short(b"i16"),
+    short(b"i32"),
+    short(b"i64"),
+    short(b"i128"),
+    short(b"usize"),
+    short(b"bool"),
+];
+
+/// What stands before the one child of heads 15 to 18.
+static PREFIX: [Short<8>; 4] = [
+    short(b"&"),
+    short(b"&mut "),
+    short(b"impl "),
+    short(b"dyn "),
+];
+
+const FN_OPEN: &[u8; 15] = b"::std::ops::Fn(";
+const FN_CLOSE: &[u8; 5] = b") -> ";
+
+pub fn type_text(encoding: &Encoding<'_>, level: u32, out: &mut [u8]) -> Result<usize, Refusal> {
+    let Encoding { words, pairs, text } = *encoding;
+    if level > 16 {
+        return Err(Refusal::BadLevel);
+    }
+    if words.len() > 8_192 || pairs.len() / 2 > 1_024 || text.len() > 16_384 {
+        return Err(Refusal::OverLimit);
+    }
+    check_pairs(pairs, text.len())?;
+    let length = measure(words, pairs)?;
+    let out = out.get_mut(..length).ok_or(Refusal::BufferTooShort)?;
+    let mut writer = Writer {
+        words,
+        pairs,
+        text,
+        out,
+    };
+    writer.put_type(0, 0);
+    Ok(length)
+}
+
+fn check_pairs(pairs: &[u32], text_length: usize) -> Result<(), Refusal> {
+    let (pairs, half) = pairs.as_chunks::<2>();
+    let mut end_before = 0;
+    for &[offset, length] in pairs {
+        let end = u64::from(offset) + u64::from(length);
+        if u64::from(offset) < end_before || end > text_length as u64 {
+            return Err(Refusal::BadPair);
+        }
+        end_before = end;
+    }
+    if half.is_empty() {
+        Ok(())
+    } else {
+        Err(Refusal::BadPair)
+    }
+}
+
+/// A type whose children are being read.
+#[derive(Clone, Copy)]
+struct Open {
+    children_left: u32,
+    /// Of a synonym the length of the text up to the end of its display: the base, which follows,
+    /// adds nothing.
+    length_without_base: u32,
+}
+
+const NO_SYNONYM: u32 = u32::MAX;
+
+/// The length of the text, if the words are one whole type.
+fn measure(words: &[u32], pairs: &[u32]) -> Result<usize, Refusal> {
+    let pair_count = (pairs.len() / 2) as u32;
+    let name_length = |number: u32| {
+        if number < FIXED_COUNT {
+            Ok(u32::from(FIXED[number as usize].length))
+        } else if number - FIXED_COUNT < pair_count {
+            Ok(pairs[2 * (number - FIXED_COUNT) as usize + 1])
+        } else {
+            Err(Refusal::UnknownWord)
+        }
+    };
+    let mut rest = words.iter();
+    let mut next = || rest.next().copied().ok_or(Refusal::EndsEarly);
+
+    // The types around the innermost open one. The outermost entry stands for the call itself,
+    // which waits for one child.
+    let mut outer = [Open {
+        children_left: 0,
+        length_without_base: 0,
+    }; DEPTH_LIMIT];
+    let mut depth = 0;
+    let mut open = Open {
+        children_left: 1,
+        length_without_base: NO_SYNONYM,
+    };
+    let mut length = 0_u32;
+
+    loop {
+        let head = next()?;
+        let children = match head {
+            0..=11 => {
+                length += u32::from(PLAIN[head as usize].length);
+                0
+            }
+            12 => {
+                length += name_length(next()?)?;
+                0
+            }
+            13 => {
+                length += match next()? {
+                    0 => 0,
+                    1 => 5,
+                    2 => 4,
+                    _ => return Err(Refusal::UnknownWord),
+                };
+                for _ in 0..next()? {
+                    length += 2 + name_length(next()?)?;
+                }
+                0
+            }
+            14 => {
+                let count = next()?.min(MORE_THAN_WORDS);
+                length += 2 * count; // `<`, `>` and a separator between each two
+                count + 1
+            }
+            15..=18 => {
+                length += u32::from(PREFIX[head as usize - 15].length);
+                1
+            }
+            19 => {
+                let count = next()?.min(MORE_THAN_WORDS);
+                length += 2 * count.max(1);
+                count
+            }
+            20 => {
+                let count = next()?.min(MORE_THAN_WORDS);
+                length += (FN_OPEN.len() + FN_CLOSE.len()) as u32 + 2 * count.saturating_sub(1);
+                count + 1
+            }
+            21 => {
+                length += 3;
+                2
+            }
+            22 => {
+                length += match next()? {
+                    0 => 2,
+                    size => 4 + name_length(size - 1)?,
+                };
+                1
+            }
+            23 => 2,
+            24 => {
+                if next()? > 3 {
+                    return Err(Refusal::UnknownWord);
+                }
+                1
+            }
+            _ => return Err(Refusal::UnknownWord),
+        };
+        if children > 0 {
+            depth += 1;
+            *outer.get_mut(depth).ok_or(Refusal::TooDeep)? = open;
+            open = Open {
+                children_left: children,
+                length_without_base: if head == 23 { 0 } else { NO_SYNONYM },
+            };
+            continue;
+        }
+        // A type has ended, and with it each type around it whose last child it is.
+        loop {
+            open.children_left -= 1;
+            if open.children_left > 0 {
+                if open.length_without_base != NO_SYNONYM {
+                    open.length_without_base = length;
+                }
+                break;
+            }
+            if open.length_without_base != NO_SYNONYM {
+                length = open.length_without_base;
+            }
+            if depth == 0 {
+                return if rest.as_slice().is_empty() {
+                    Ok(length as usize)
+                } else {
+                    Err(Refusal::WordsLeftOver)
+                };
+            }
+            open = outer[depth];
+            depth -= 1;
+        }
+    }
+}
+
+/// Writes a type that was measured; `out` has exactly the length of its text. Positions go from
+/// hand to hand rather than through `self`, which keeps them in registers.
+struct Writer<'a> {
+    words: &'a [u32],
+    pairs: &'a [u32],
+    text: &'a [u8],
+    out: &'a mut [u8],
+}
+
+impl Writer<'_> {
+    #[inline(always)]
+    fn put<const N: usize>(&mut self, end: usize, bytes: &[u8; N]) -> usize {
+        self.out[end..end + N].copy_from_slice(bytes);
+        end + N
+    }
+
+    /// Copies the padding too where it fits: what follows in the text goes over it.
+    #[inline(always)]
+    fn put_short<const N: usize>(&mut self, end: usize, short: &Short<N>) -> usize {
+        let length = usize::from(short.length);
+        let room = &mut self.out[end..];
+        match room.first_chunk_mut::<N>() {
+            Some(chunk) => *chunk = short.bytes,
+            None => room[..length].copy_from_slice(&short.bytes[..length]),
+        }
+        end + length
+    }
+
+    #[inline(always)]
+    fn put_name(&mut self, end: usize, number: u32) -> usize {
+        if number < FIXED_COUNT {
+            return self.put_short(end, &FIXED[number as usize]);
+        }
+        let pair = 2 * (number - FIXED_COUNT) as usize;
+        let (offset, length) = (self.pairs[pair] as usize, self.pairs[pair + 1] as usize);
+        let from = &self.text[offset..];
+        let room = &mut self.out[end..];
+        match (room.first_chunk_mut::<16>(), from.first_chunk::<16>()) {
+            (Some(chunk), Some(bytes)) if length <= 16 => *chunk = *bytes,
+            _ => room[..length].copy_from_slice(&from[..length]),
+        }
+        end + length
+    }
+
+    fn put_list(&mut self, mut at: usize, mut end: usize, count: u32) -> (usize, usize) {
+        for i in 0..count {
+            if i > 0 {
+                end = self.put(end, b", ");
+            }
+            // Most children are leaves, and need no call.
+            let head = self.words[at];
+            if head < 12 {
+                end = self.put_short(end, &PLAIN[head as usize]);
+                at += 1;
+            } else if head == 12 {
+                end = self.put_name(end, self.words[at + 1]);
+                at += 2;
+            } else {
+                (at, end) = self.put_type(at, end);
+            }
+        }
+        (at, end)
+    }
+
+    /// Writes the type at word `at` from byte `end` on, and gives where each ends.
+    fn put_type(&mut self, mut at: usize, mut end: usize) -> (usize, usize) {
+        // A type that ends with its last child goes on with that child in the next round.
+        loop {
+            let head = self.words[at];
+            at += 1;
+            match head {
+                0..=11 => return (at, self.put_short(end, &PLAIN[head as usize])),
+                12 => return (at + 1, self.put_name(end, self.words[at])),
+                13 => {
+                    match self.words[at] {
+                        0 => {}
+                        1 => end = self.put(end, b"crate"),
+                        _ => end = self.put(end, b"Self"),
+                    }
+                    let names = at + 2..at + 2 + self.words[at + 1] as usize;
+                    at = names.end;
+                    let words = self.words;
+                    for &name in &words[names] {
+                        end = self.put(end, b"::");
+                        end = self.put_name(end, name);
+                    }
+                    return (at, end);
+                }
+                14 => {
+                    let count = self.words[at];
+                    (at, end) = self.put_type(at + 1, end);
+                    if count > 0 {
+                        end = self.put(end, b"<");
+                        (at, end) = self.put_list(at, end, count);
+                        end = self.put(end, b">");
+                    }
+                    return (at, end);
+                }
+                15..=18 => end = self.put_short(end, &PREFIX[head as usize - 15]),
+                19 => {
+                    let count = self.words[at];
+                    end = self.put(end, b"(");
+                    (at, end) = self.put_list(at + 1, end, count);
+                    return (at, self.put(end, b")"));
+                }
+                20 => {
+                    let count = self.words[at];
+                    end = self.put(end, FN_OPEN);
+                    (at, end) = self.put_list(at + 1, end, count);
+                    end = self.put(end, FN_CLOSE);
+                }
+                21 => {
+                    (at, end) = self.put_type(at, end);
+                    end = self.put(end, b" + ");
+                }
+                22 => {
+                    let size = self.words[at];
+                    end = self.put(end, b"[");
+                    (at, end) = self.put_type(at + 1, end);
+                    if size > 0 {
+                        end = self.put(end, b"; ");
+                        end = self.put_name(end, size - 1);
+                    }
+                    return (at, self.put(end, b"]"));
+                }
+                23 => {
+                    (at, end) = self.put_type(at, end);
+                    return (self.skip_type(at), end);
+                }
+                _ => at += 1, // 24: the flags do not show
+            }
+        }
+    }
+
+    /// Where the type at word `at` ends. Its words were checked, so counting suffices.
+    fn skip_type(&self, mut at: usize) -> usize {
+        let mut types_left = 1_u32;
+        while types_left > 0 {
+            match self.words[at] {
+                0..=11 => {
+                    at += 1;
+                    types_left -= 1;
+                }
+                12 => {
+                    at += 2;
+                    types_left -= 1;
+                }
+                13 => {
+                    at += 3 + self.words[at + 2] as usize;
+                    types_left -= 1;
+                }
+                14 | 20 => {
+                    types_left += self.words[at + 1];
+                    at += 2;
+                }
+                15..=18 => at += 1,
+                19 => {
+                    types_left += self.words[at + 1];
+                    types_left -= 1;
+                    at += 2;
+                }
+                21 | 23 => {
+                    types_left += 1;
+                    at += 1;
+                }
+                _ => at += 2, // 22, 24
+            }
+        }
+        at
+    }
+}

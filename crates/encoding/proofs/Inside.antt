@@ -1,0 +1,158 @@
+-- What holds of a head or a type that was read: where it lies, and that its names are names.
+use Prim.Native.Nat.{ℕ, zero, suc, _+_, _≤_, _<_}
+use mathlib.Core.Path.{_≡_, refl, subst}
+use mathlib.Core.Bool.{Bool, true, false}
+use mathlib.Core.List.{List}
+use native.Mathlib.Omega.{arith}
+use native.Mathlib.Decide.{ℕ-discrete}
+use borrow.Author.Tests.{ltb-true}
+use lib.Dec.{ltb, eqb}
+use lib.ListN.{length, getD}
+use Rattle.encoding.specs.declared.PathAt.{PathAt}
+use Rattle.encoding.specs.declared.Head.{Head}
+use Rattle.encoding.specs.declared.Head.the-variants.{Apply, Tuple, Function}
+use Rattle.encoding.specs.Refusals.{pick}
+use Rattle.encoding.specs.Reading.{Reading, got, stop, _>>=_, readWord, readBelow, readNames}
+use Rattle.encoding.specs.Heads.{readPath, pathHead, headAfter, readHead, InsidePath, InsideHead}
+use Rattle.encoding.proofs.Tables.{impossible}
+
+-- P of what was read, if anything was
+abbrev Holds : {A : Type 0} → (A → ℕ → Type 0) → Reading A → Type 0
+Holds P (got a n) = P a n
+Holds P (stop r) = Unit {0}
+
+holds-on : {A B : Type 0} (Q : A → ℕ → Type 0) (P : B → ℕ → Type 0) (x : Reading A) (g : A → ℕ → Reading B)
+    → Holds Q x → ((a : A) (n : ℕ) → Q a n → Holds P (g a n)) → Holds P (x >>= g)
+holds-on Q P (got a n) g h k = k a n h
+holds-on Q P (stop r) g h k = tt
+
+holds-pick : {A : Type 0} (P : A → ℕ → Type 0) (t : Bool) (x y : Reading A)
+    → (t ≡ true → Holds P x) → Holds P y → Holds P (pick t x y)
+holds-pick P true x y h k = h refl
+holds-pick P false x y h k = k
+
+holds-weaker : {A : Type 0} (Q P : A → ℕ → Type 0) (x : Reading A) → ((a : A) (n : ℕ) → Q a n → P a n) → Holds Q x → Holds P x
+holds-weaker Q P (got a n) f h = f a n h
+holds-weaker Q P (stop r) f h = tt
+
+-- a word below b was there
+record Next (b : ℕ) (ws : List ℕ) (at w n : ℕ) : Type 0 where
+  here : at < length ws
+  next : n ≡ at + 1
+  same : w ≡ getD ws at 0
+  below : w < b
+
+record There (ws : List ℕ) (at w n : ℕ) : Type 0 where
+  here : at < length ws
+  next : n ≡ at + 1
+  same : w ≡ getD ws at 0
+
+word-holds : (ws : List ℕ) (at : ℕ) → Holds (There ws at) (readWord ws at)
+unfolding readWord
+word-holds ws at = holds-pick (There ws at) (ltb at (length ws)) _ _ (λ t. record { here = ltb-true at (length ws) t; next = refl; same = refl }) tt
+
+below-holds : (b : ℕ) (ws : List ℕ) (at : ℕ) → Holds (Next b ws at) (readBelow b ws at)
+unfolding readBelow
+below-holds b ws at =
+    holds-on (There ws at) (Next b ws at) (readWord ws at) _ (word-holds ws at)
+    (λ w n h. holds-pick (Next b ws at) (ltb w b) _ _ (λ t. record { here = h .here; next = h .next; same = h .same; below = ltb-true w b t }) tt)
+
+-- n names stand from `at` on
+record Names (b : ℕ) (ws : List ℕ) (n at : ℕ) (u : Unit {0}) (r : ℕ) : Type 0 where
+  end : r ≡ at + n
+  inside : at + n ≤ length ws
+  below : (i : ℕ) → at ≤ i → i < at + n → getD ws i 0 < b
+
+names-hold : (b : ℕ) (ws : List ℕ) (n at : ℕ) → at ≤ length ws → Holds (Names b ws n at) (readNames b ws n at)
+unfolding readNames
+names-hold b ws zero at h = record { end = omega arith; inside = omega arith; below = λ i k m. absurd (let z : ⊥ = omega arith in z) }
+names-hold b ws (suc n) at h =
+    holds-on (Next b ws at) (Names b ws (suc n) at) (readBelow b ws at) _ (below-holds b ws at) λ x p k. rw (k .next)
+    (holds-weaker (Names b ws n (at + 1)) (Names b ws (suc n) at) (readNames b ws n (at + 1)) (λ u r m. more x k m) (names-hold b ws n (at + 1) (omega (arith, k .here))))
+  where
+    more : (x : ℕ) {p : ℕ} → Next b ws at x p → {u : Unit {0}} {r : ℕ} → Names b ws n (at + 1) u r → Names b ws (suc n) at u r
+    more x k m = record {
+      end = omega (arith, m .end);
+      inside = omega (arith, m .inside);
+      below = λ i l j. first i l j (ℕ-discrete i at);
+    }
+      where
+        first : (i : ℕ) → at ≤ i → i < at + suc n → Dec (i ≡ at) → getD ws i 0 < b
+        first i l j (yes e) = rw e (rw (k .same) at (k .below))
+        first i l j (no e) = m .below i (omega arith) (omega arith)
+
+-- a path from `at` on
+record Lies {A : Type 0} (P : A → Type 0) (ws : List ℕ) (at : ℕ) (x : A) (n : ℕ) : Type 0 where
+  starts : at < n
+  ends : n ≤ length ws
+  own : P x
+
+path-holds : (b : ℕ) (ws : List ℕ) (at : ℕ) → Holds (Lies (InsidePath b ws) ws at) (readPath b ws at)
+unfolding readPath
+path-holds b ws at =
+    holds-on (Next 3 ws at) (Lies (InsidePath b ws) ws at) (readBelow 3 ws at) _ (below-holds 3 ws at) λ root p h.
+    holds-on (There ws p) (Lies (InsidePath b ws) ws at) (readWord ws p) _ (word-holds ws p) λ n q k.
+    holds-on (Names b ws n q) (Lies (InsidePath b ws) ws at) (readNames b ws n q) _ (names-hold b ws n q (omega (arith, k .here, k .next))) λ u r m. record {
+      starts = omega (arith, h .next, k .next, m .end);
+      ends = omega (arith, m .end, m .inside);
+      own = record { root = h .below; inside = m .inside; below = m .below };
+    }
+
+-- what follows the kind lies between the kind's end and the words' end
+abbrev After : ℕ → List ℕ → ℕ → Head → ℕ → Type 0
+After b ws p h n = (p ≤ n) × (n ≤ length ws) × InsideHead b ws h
+
+-- any word will do, and no more is asked of the head
+count-holds : (b : ℕ) (ws : List ℕ) (p : ℕ) (f : ℕ → Head) → ((n : ℕ) → InsideHead b ws (f n)) → Holds (After b ws p) (readWord ws p >>= λ n q. got (f n) q)
+count-holds b ws p f k =
+    holds-on (There ws p) (After b ws p) (readWord ws p) _ (word-holds ws p)
+    (λ n q h. (omega (arith, h .next), omega (arith, h .here, h .next), k n))
+
+after-holds : (b : ℕ) (ws : List ℕ) (w p : ℕ) → p ≤ length ws → Holds (After b ws p) (headAfter b ws w p)
+unfolding headAfter pathHead
+after-holds b ws w p le =
+    holds-pick (After b ws p) (ltb w 12) _ _ (λ t. (omega arith, le, ltb-true w 12 t))
+    (holds-pick (After b ws p) (eqb w 12) _ _ (λ t. holds-on (Next b ws p) (After b ws p) (readBelow b ws p) _ (below-holds b ws p) (λ x q h. (omega (arith, h .next), omega (arith, h .here, h .next), h .below)))
+    (holds-pick (After b ws p) (eqb w 13) _ _ (λ t. holds-on (Lies (InsidePath b ws) ws p) (After b ws p) (readPath b ws p) _ (path-holds b ws p) (λ x q h. (omega (arith, h .starts), h .ends, h .own)))
+    (holds-pick (After b ws p) (eqb w 14) _ _ (λ t. count-holds b ws p Apply (λ n. tt))
+    (holds-pick (After b ws p) (eqb w 15) _ _ (λ t. (omega arith, le, tt))
+    (holds-pick (After b ws p) (eqb w 16) _ _ (λ t. (omega arith, le, tt))
+    (holds-pick (After b ws p) (eqb w 17) _ _ (λ t. (omega arith, le, tt))
+    (holds-pick (After b ws p) (eqb w 18) _ _ (λ t. (omega arith, le, tt))
+    (holds-pick (After b ws p) (eqb w 19) _ _ (λ t. count-holds b ws p Tuple (λ n. tt))
+    (holds-pick (After b ws p) (eqb w 20) _ _ (λ t. count-holds b ws p Function (λ n. tt))
+    (holds-pick (After b ws p) (eqb w 21) _ _ (λ t. (omega arith, le, tt))
+    (holds-pick (After b ws p) (eqb w 22) _ _ (λ t. holds-on (Next (b + 1) ws p) (After b ws p) (readBelow (b + 1) ws p) _ (below-holds (b + 1) ws p) (λ x q h. (omega (arith, h .next), omega (arith, h .here, h .next), h .below)))
+    (holds-pick (After b ws p) (eqb w 23) _ _ (λ t. (omega arith, le, tt))
+    (holds-pick (After b ws p) (eqb w 24) _ _ (λ t. holds-on (Next 4 ws p) (After b ws p) (readBelow 4 ws p) _ (below-holds 4 ws p) (λ x q h. (omega (arith, h .next), omega (arith, h .here, h .next), tt)))
+    tt)))))))))))))
+
+head-holds : (b : ℕ) (ws : List ℕ) (at : ℕ) → Holds (Lies (InsideHead b ws) ws at) (readHead b ws at)
+unfolding readHead
+head-holds b ws at =
+    holds-on (There ws at) (Lies (InsideHead b ws) ws at) (readWord ws at) _ (word-holds ws at) λ w p h.
+    holds-weaker (After b ws p) (Lies (InsideHead b ws) ws at) (headAfter b ws w p) (λ x n k. record {
+      starts = omega (arith, h .next, k .0);
+      ends = k .1;
+      own = k .2;
+    }) (after-holds b ws w p (omega (arith, h .here, h .next)))
+
+pub record HeadLies (b : ℕ) (ws : List ℕ) (at : ℕ) (h : Head) (n : ℕ) : Type 0 where
+  pub starts : at < n
+  pub ends : n ≤ length ws
+  pub own : InsideHead b ws h
+
+pub head-lies : (b : ℕ) (ws : List ℕ) (at : ℕ) {h : Head} {n : ℕ} → readHead b ws at ≡ got h n → HeadLies b ws at h n
+head-lies b ws at e =
+    let l = subst (Holds (Lies (InsideHead b ws) ws at)) e (head-holds b ws at) in
+    record { starts = l .starts; ends = l .ends; own = l .own }
+
+pub record PathLies (b : ℕ) (ws : List ℕ) (at : ℕ) (p : PathAt) (n : ℕ) : Type 0 where
+  pub starts : at < n
+  pub ends : n ≤ length ws
+  pub own : InsidePath b ws p
+
+pub path-lies : (b : ℕ) (ws : List ℕ) (at : ℕ) {p : PathAt} {n : ℕ} → readPath b ws at ≡ got p n → PathLies b ws at p n
+path-lies b ws at e =
+    let l = subst (Holds (Lies (InsidePath b ws) ws at)) e (path-holds b ws at) in
+    record { starts = l .starts; ends = l .ends; own = l .own }

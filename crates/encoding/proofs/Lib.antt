@@ -1,0 +1,6 @@
+-- Laws of the tables, of reading, and of heads.
+pub mod Tables
+pub mod Reading
+pub mod Heads
+pub mod Inside
+pub mod Types

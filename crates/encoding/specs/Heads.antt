@@ -1,0 +1,82 @@
+-- A type's head: its kind with the words of its own, as document 01 lists them.
+use Prim.Native.Nat.{ℕ, _+_, _≤_, _<_}
+use mathlib.Core.List.{List}
+use lib.Dec.{ltb, eqb}
+use lib.ListN.{length, getD}
+use Rattle.encoding.specs.declared.Refusal.the-variants.{UnknownWord}
+use Rattle.encoding.specs.declared.PathAt.{PathAt}
+use Rattle.encoding.specs.declared.Head.{Head}
+use Rattle.encoding.specs.declared.Head.the-variants.{Plain, Name, FromPath, Apply, Ref, RefMut, Impl, Dyn, Tuple, Function, Both, ArrayOf, Synonym, Meta}
+use Rattle.encoding.specs.Refusals.{pick}
+use Rattle.encoding.specs.Reading.{Reading, got, stop, _>>=_, readWord, readBelow, readNames}
+
+-- a path: its root, how many names, and the names; it is kept by the place of its names
+unfoldable pub readPath : ℕ → List ℕ → ℕ → Reading PathAt
+readPath bound ws at =
+    readBelow 3 ws at >>= λ root p. readWord ws p >>= λ n q. readNames bound ws n q >>= λ u r.
+    got (record { root = root; start = q; count = n }) r
+
+unfoldable pub pathHead : ℕ → List ℕ → ℕ → Reading Head
+pathHead bound ws p = readPath bound ws p >>= λ x q. got (FromPath x) q
+
+-- what follows the kind w
+unfoldable pub headAfter : ℕ → List ℕ → ℕ → ℕ → Reading Head
+headAfter bound ws w p =
+    pick (ltb w 12) (got (Plain w) p)
+    (pick (eqb w 12) (readBelow bound ws p >>= λ x q. got (Name x) q)
+    (pick (eqb w 13) (pathHead bound ws p)
+    (pick (eqb w 14) (readWord ws p >>= λ n q. got (Apply n) q)
+    (pick (eqb w 15) (got Ref p)
+    (pick (eqb w 16) (got RefMut p)
+    (pick (eqb w 17) (got Impl p)
+    (pick (eqb w 18) (got Dyn p)
+    (pick (eqb w 19) (readWord ws p >>= λ n q. got (Tuple n) q)
+    (pick (eqb w 20) (readWord ws p >>= λ n q. got (Function n) q)
+    (pick (eqb w 21) (got Both p)
+    (pick (eqb w 22) (readBelow (bound + 1) ws p >>= λ s q. got (ArrayOf s) q)
+    (pick (eqb w 23) (got Synonym p)
+    (pick (eqb w 24) (readBelow 4 ws p >>= λ x q. got (Meta x) q)
+    (stop UnknownWord))))))))))))))
+
+unfoldable pub readHead : ℕ → List ℕ → ℕ → Reading Head
+readHead bound ws at = readWord ws at >>= λ w p. headAfter bound ws w p
+
+-- how many types follow a head
+abbrev pub kids : Head → ℕ
+kids (Plain w) = 0
+kids (Name x) = 0
+kids (FromPath p) = 0
+kids (Apply n) = n + 1
+kids Ref = 1
+kids RefMut = 1
+kids Impl = 1
+kids Dyn = 1
+kids (Tuple n) = n
+kids (Function n) = n + 1
+kids Both = 2
+kids (ArrayOf s) = 1
+kids Synonym = 2
+kids (Meta x) = 1
+
+-- what is true of a path that was read: its root is one of three, and its names stand within the words and are names
+pub record InsidePath (bound : ℕ) (ws : List ℕ) (p : PathAt) : Type 0 where
+  pub root : p .root < 3
+  pub inside : p .start + p .count ≤ length ws
+  pub below : (i : ℕ) → p .start ≤ i → i < p .start + p .count → getD ws i 0 < bound
+
+-- what is true of a head that was read
+abbrev pub InsideHead : ℕ → List ℕ → Head → Type 0
+InsideHead bound ws (Plain w) = w < 12
+InsideHead bound ws (Name x) = x < bound
+InsideHead bound ws (FromPath p) = InsidePath bound ws p
+InsideHead bound ws (Apply n) = Unit {0}
+InsideHead bound ws Ref = Unit {0}
+InsideHead bound ws RefMut = Unit {0}
+InsideHead bound ws Impl = Unit {0}
+InsideHead bound ws Dyn = Unit {0}
+InsideHead bound ws (Tuple n) = Unit {0}
+InsideHead bound ws (Function n) = Unit {0}
+InsideHead bound ws Both = Unit {0}
+InsideHead bound ws (ArrayOf s) = s < bound + 1
+InsideHead bound ws Synonym = Unit {0}
+InsideHead bound ws (Meta x) = Unit {0}

@@ -1,0 +1,6 @@
+pub mod Refusals
+pub mod Reading
+pub mod Tables
+pub mod Heads
+pub mod Scans
+pub mod Types

@@ -1,0 +1,396 @@
+// An encoding: words, pairs and a text. Its limits and names, the refusals, and reading the heads of types.
+ghost use mathlib.Core.Path.{_≡_};
+ghost use mathlib.Core.Bool.{true};
+ghost use mathlib.Core.List.{[]};
+ghost use Prim.Native.Nat.{_+_, _*_, _^_, _≤_, _<_};
+ghost use lib.ListN.{length, getD};
+ghost use Rattle.output.specs.Wrote.{Wrote};
+ghost use Rattle.encoding.specs.Refusals.{number};
+ghost use Rattle.encoding.specs.Tables.{checkLevel, checkTables, goodPairs, fixedNames, nameBytes, nameLength, nameCount, Good};
+ghost use Rattle.encoding.specs.Reading.{readWord, readBelow, readNames};
+ghost use Rattle.encoding.specs.Heads.{readPath, pathHead, headAfter, readHead, kids};
+ghost use Rattle.encoding.specs.Scans.{wordScan, ended, pathScan, headScan, headOf, ownWord};
+
+// Document 01's refusals. `Refusals.number` gives the number of each.
+pub enum Refusal {
+    Overlong,
+    BadPair,
+    EndsEarly,
+    UnknownWord,
+    TooDeep,
+    LeftOver,
+    NoSuchPart,
+    BufferTooShort,
+    BadFileLength,
+    RepeatedRule,
+    BadLevel,
+}
+
+pub fn refusal_number(r: Refusal) -> u32
+    ensures { λ n. ⌜ n ≡ number r ⌝ }
+{
+    match r {
+        Refusal::Overlong => 1,
+        Refusal::BadPair => 2,
+        Refusal::EndsEarly => 3,
+        Refusal::UnknownWord => 4,
+        Refusal::TooDeep => 5,
+        Refusal::LeftOver => 6,
+        Refusal::NoSuchPart => 7,
+        Refusal::BufferTooShort => 8,
+        Refusal::BadFileLength => 9,
+        Refusal::RepeatedRule => 10,
+        Refusal::BadLevel => 11,
+    }
+}
+
+// What a test that comes before reading says.
+pub enum Check {
+    Passed,
+    Failed(Refusal),
+}
+
+pub fn check_level(level: u32) -> Check
+    ensures { λ r. ⌜ r ≡ checkLevel level ⌝ }
+{
+    if 16 < level {
+        return Check::Failed(Refusal::BadLevel);
+    }
+    Check::Passed
+}
+
+// The pairs, whole, each at or behind the end of the one before, end within a text of `size` bytes.
+fn pairs_hold(pairs: &[u32], size: usize) -> bool
+    ensures { λ r. ⌜ r ≡ goodPairs (now (pairs .entry)) 0 size ⌝ }
+{
+    let mut i = 0;
+    let mut end: usize = 0;
+    while i < pairs.len() {
+        if pairs.len() - i < 2 {
+            return false;
+        }
+        let start = pairs[i] as usize;
+        let count = pairs[i + 1] as usize;
+        if start < end {
+            return false;
+        }
+        if size < start + count {
+            return false;
+        }
+        end = start + count;
+        i += 2;
+    }
+    true
+}
+
+// The limits, then the pairs.
+pub fn check_tables(words: &[u32], pairs: &[u32], text: &[u8]) -> Check
+    ensures { λ r. ⌜ r ≡ checkTables (now (words .entry)) (now (pairs .entry)) (now (text .entry)) ⌝ }
+{
+    if 8192 < words.len() {
+        return Check::Failed(Refusal::Overlong);
+    }
+    if 1024 < pairs.len() / 2 {
+        return Check::Failed(Refusal::Overlong);
+    }
+    if 16384 < text.len() {
+        return Check::Failed(Refusal::Overlong);
+    }
+    if pairs_hold(pairs, text.len()) {
+        return Check::Passed;
+    }
+    Check::Failed(Refusal::BadPair)
+}
+
+// The sixteen fixed names stand one behind the other in `put_fixed`: where each starts, and how long it is.
+const STARTS: [u8; 16] = [0, 0, 3, 5, 7, 11, 14, 19, 22, 25, 36, 49, 55, 58, 70, 71];
+
+const LENGTHS: [u8; 16] = [0, 3, 2, 2, 4, 3, 5, 3, 3, 11, 13, 6, 3, 12, 1, 4];
+
+// How many names there are: the fixed ones, and one for each pair.
+pub fn name_count(pairs: &[u32]) -> usize
+    ensures { λ r. ⌜ r ≡ nameCount (now (pairs .entry)) ⌝ }
+{
+    pairs.len() / 2 + 16
+}
+
+// How long a name is.
+pub fn name_length(pairs: &[u32], name: u32) -> usize
+    requires { ⌜ name < nameCount (now pairs) ⌝ }
+    ensures { λ r. ⌜ r ≡ nameLength (now (pairs .entry)) name ⌝ }
+{
+    if name < 16 {
+        return LENGTHS[name as usize] as usize;
+    }
+    let i = (name - 16) as usize;
+    pairs[2 * i + 1] as usize
+}
+
+// The bytes of a fixed name.
+fn put_fixed(name: usize, out: &mut [u8], pos: usize) -> usize
+    requires { ⌜ (name < 16) × (pos + length (getD fixedNames name []) ≤ length (now out)) ⌝ }
+    ensures { λ r. ⌜ Wrote (now (out .entry)) pos (getD fixedNames name []) (now (out .exit)) r ⌝ }
+{
+    let all = b"stdrcRcsyncArcboxedBoxmemMaybeUninitdafny_runtimeObjectPtrMaybePlacebo_self";
+    let start = STARTS[name] as usize;
+    let count = LENGTHS[name] as usize;
+    output::put_part(all, start, count, out, pos)
+}
+
+// The bytes of a name.
+pub fn put_name(pairs: &[u32], text: &[u8], name: u32, out: &mut [u8], pos: usize) -> usize
+    requires { ⌜ (name < nameCount (now pairs)) × Good (now pairs) (now text)
+        × (pos + length (nameBytes (now pairs) (now text) name) ≤ length (now out)) ⌝ }
+    ensures { λ r. ⌜ Wrote (now (out .entry)) pos (nameBytes (now (pairs .entry)) (now (text .entry)) name) (now (out .exit)) r ⌝ }
+{
+    if name < 16 {
+        return put_fixed(name as usize, out, pos);
+    }
+    let i = (name - 16) as usize;
+    let start = pairs[2 * i] as usize;
+    let count = pairs[2 * i + 1] as usize;
+    output::put_part(text, start, count, out, pos)
+}
+
+// A word that was read, and the position behind it.
+pub enum WordScan {
+    Word { value: u32, next: usize },
+    NoWord(Refusal),
+}
+
+// The position behind what was read.
+pub enum Scan {
+    At(usize),
+    Refused(Refusal),
+}
+
+// A path: its root, and where how many names stand.
+pub struct PathAt {
+    pub root: u32,
+    pub start: usize,
+    pub count: u32,
+}
+
+pub enum PathScan {
+    OwnPath { path: PathAt, next: usize },
+    NoPath(Refusal),
+}
+
+// A type's head: its kind, with the words of its own.
+pub enum Head {
+    Plain(u32),
+    Name(u32),
+    FromPath(PathAt),
+    Apply(u32),
+    Ref,
+    RefMut,
+    Impl,
+    Dyn,
+    Tuple(u32),
+    Function(u32),
+    Both,
+    ArrayOf(u32),
+    Synonym,
+    Meta(u32),
+}
+
+pub enum HeadScan {
+    Own { head: Head, next: usize },
+    NoHead(Refusal),
+}
+
+// One word, whichever it is.
+pub fn scan_word(words: &[u32], at: usize) -> WordScan
+    ensures { λ r. ⌜ r ≡ wordScan (readWord (now (words .entry)) at) ⌝ }
+{
+    if words.len() <= at {
+        return WordScan::NoWord(Refusal::EndsEarly);
+    }
+    WordScan::Word {
+        value: words[at],
+        next: at + 1,
+    }
+}
+
+// One word below `bound`.
+pub fn scan_below(words: &[u32], bound: usize, at: usize) -> WordScan
+    ensures { λ r. ⌜ r ≡ wordScan (readBelow bound (now (words .entry)) at) ⌝ }
+{
+    if words.len() <= at {
+        return WordScan::NoWord(Refusal::EndsEarly);
+    }
+    let w = words[at];
+    if bound <= w as usize {
+        return WordScan::NoWord(Refusal::UnknownWord);
+    }
+    WordScan::Word {
+        value: w,
+        next: at + 1,
+    }
+}
+
+// `count` names.
+pub fn scan_names(words: &[u32], bound: usize, at: usize, count: u32) -> Scan
+    ensures { λ r. ⌜ r ≡ ended (readNames bound (now (words .entry)) count at) ⌝ }
+{
+    let mut pos = at;
+    let mut left = count;
+    while 0 < left {
+        match scan_below(words, bound, pos) {
+            WordScan::Word { value: _, next } => {
+                pos = next;
+            }
+            WordScan::NoWord(r) => {
+                return Scan::Refused(r);
+            }
+        }
+        left -= 1;
+    }
+    Scan::At(pos)
+}
+
+// A path at `at`.
+pub fn scan_path(words: &[u32], bound: usize, at: usize) -> PathScan
+    ensures { λ r. ⌜ r ≡ pathScan (readPath bound (now (words .entry)) at) ⌝ }
+{
+    match scan_below(words, 3, at) {
+        WordScan::Word {
+            value: root,
+            next: p,
+        } => match scan_word(words, p) {
+            WordScan::Word {
+                value: count,
+                next: start,
+            } => match scan_names(words, bound, start, count) {
+                Scan::At(next) => {
+                    let path = PathAt { root, start, count };
+                    PathScan::OwnPath { path, next }
+                }
+                Scan::Refused(r) => PathScan::NoPath(r),
+            },
+            WordScan::NoWord(r) => PathScan::NoPath(r),
+        },
+        WordScan::NoWord(r) => PathScan::NoPath(r),
+    }
+}
+
+// The head of kind `w` whose one own word is `x`.
+fn head_of(w: u32, x: u32) -> Head
+    ensures { λ r. ⌜ r ≡ headOf w x ⌝ }
+{
+    match w {
+        12 => Head::Name(x),
+        14 => Head::Apply(x),
+        19 => Head::Tuple(x),
+        20 => Head::Function(x),
+        22 => Head::ArrayOf(x),
+        _ => Head::Meta(x),
+    }
+}
+
+// The head of kind `w`, from the scan of its one own word.
+fn own_word(w: u32, own: WordScan) -> HeadScan
+    ensures { λ r. ⌜ r ≡ ownWord w own ⌝ }
+{
+    match own {
+        WordScan::Word { value, next } => {
+            let head = head_of(w, value);
+            HeadScan::Own { head, next }
+        }
+        WordScan::NoWord(r) => HeadScan::NoHead(r),
+    }
+}
+
+// The head of a path's type.
+fn scan_path_head(words: &[u32], bound: usize, at: usize) -> HeadScan
+    ensures { λ r. ⌜ r ≡ headScan (pathHead bound (now (words .entry)) at) ⌝ }
+{
+    match scan_path(words, bound, at) {
+        PathScan::OwnPath { path, next } => {
+            let head = Head::FromPath(path);
+            HeadScan::Own { head, next }
+        }
+        PathScan::NoPath(r) => HeadScan::NoHead(r),
+    }
+}
+
+// The head of kind `w`, 12 or above, whose further words begin at `at`.
+fn scan_after(words: &[u32], bound: usize, w: u32, at: usize) -> HeadScan
+    requires { ⌜ (12 ≤ w) × (bound < 2 ^ 63) ⌝ }
+    ensures { λ r. ⌜ r ≡ headScan (headAfter bound (now (words .entry)) w at) ⌝ }
+{
+    match w {
+        12 => own_word(w, scan_below(words, bound, at)),
+        13 => scan_path_head(words, bound, at),
+        14 => own_word(w, scan_word(words, at)),
+        15 => HeadScan::Own {
+            head: Head::Ref,
+            next: at,
+        },
+        16 => HeadScan::Own {
+            head: Head::RefMut,
+            next: at,
+        },
+        17 => HeadScan::Own {
+            head: Head::Impl,
+            next: at,
+        },
+        18 => HeadScan::Own {
+            head: Head::Dyn,
+            next: at,
+        },
+        19 => own_word(w, scan_word(words, at)),
+        20 => own_word(w, scan_word(words, at)),
+        21 => HeadScan::Own {
+            head: Head::Both,
+            next: at,
+        },
+        22 => own_word(w, scan_below(words, bound + 1, at)),
+        23 => HeadScan::Own {
+            head: Head::Synonym,
+            next: at,
+        },
+        24 => own_word(w, scan_below(words, 4, at)),
+        _ => HeadScan::NoHead(Refusal::UnknownWord),
+    }
+}
+
+// A type's head at `at`.
+pub fn scan_head(words: &[u32], bound: usize, at: usize) -> HeadScan
+    requires { ⌜ bound < 2 ^ 63 ⌝ }
+    ensures { λ r. ⌜ r ≡ headScan (readHead bound (now (words .entry)) at) ⌝ }
+{
+    if words.len() <= at {
+        return HeadScan::NoHead(Refusal::EndsEarly);
+    }
+    let w = words[at];
+    if w < 12 {
+        return HeadScan::Own {
+            head: Head::Plain(w),
+            next: at + 1,
+        };
+    }
+    scan_after(words, bound, w, at + 1)
+}
+
+// How many types follow a head.
+pub fn kids_of(head: Head) -> usize
+    ensures { λ r. ⌜ r ≡ kids head ⌝ }
+{
+    match head {
+        Head::Plain(_) => 0,
+        Head::Name(_) => 0,
+        Head::FromPath(_) => 0,
+        Head::Apply(n) => n as usize + 1,
+        Head::Ref => 1,
+        Head::RefMut => 1,
+        Head::Impl => 1,
+        Head::Dyn => 1,
+        Head::Tuple(n) => n as usize,
+        Head::Function(n) => n as usize + 1,
+        Head::Both => 2,
+        Head::ArrayOf(_) => 1,
+        Head::Synonym => 2,
+        Head::Meta(_) => 1,
+    }
+}
