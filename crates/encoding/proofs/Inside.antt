@@ -156,3 +156,14 @@ pub path-lies : (b : ℕ) (ws : List ℕ) (at : ℕ) {p : PathAt} {n : ℕ} → 
 path-lies b ws at e =
     let l = subst (Holds (Lies (InsidePath b ws) ws at)) e (path-holds b ws at) in
     record { starts = l .starts; ends = l .ends; own = l .own }
+
+path-ends : (b : ℕ) (ws : List ℕ) (at : ℕ) → Holds (λ p n. n ≡ p .start + p .count) (readPath b ws at)
+unfolding readPath
+path-ends b ws at =
+    holds-on (Next 3 ws at) (λ p n. n ≡ p .start + p .count) (readBelow 3 ws at) _ (below-holds 3 ws at) λ root p h.
+    holds-on (There ws p) (λ p n. n ≡ p .start + p .count) (readWord ws p) _ (word-holds ws p) λ n q k.
+    holds-on (Names b ws n q) (λ p n. n ≡ p .start + p .count) (readNames b ws n q) _ (names-hold b ws n q (omega (arith, k .here, k .next))) λ u r m. m .end
+
+-- a path ends with its last name
+pub path-end : (b : ℕ) (ws : List ℕ) (at : ℕ) {p : PathAt} {n : ℕ} → readPath b ws at ≡ got p n → n ≡ p .start + p .count
+path-end b ws at e = subst (Holds (λ p n. n ≡ p .start + p .count)) e (path-ends b ws at)

@@ -41,11 +41,11 @@ same-eq (a ∷ x) (b ∷ y) e =
 -- ---- the table of the fixed names
 
 -- a test holds at each number below n
-unfoldable everyBelow : (ℕ → Bool) → ℕ → Bool
+unfoldable pub everyBelow : (ℕ → Bool) → ℕ → Bool
 everyBelow f zero = true
 everyBelow f (suc n) = f n and everyBelow f n
 
-every-at : (f : ℕ → Bool) (n : ℕ) → everyBelow f n ≡ true → (k : ℕ) → k < n → f k ≡ true
+pub every-at : (f : ℕ → Bool) (n : ℕ) → everyBelow f n ≡ true → (k : ℕ) → k < n → f k ≡ true
 unfolding everyBelow
 every-at f zero e k h = absurd (let z : ⊥ = omega arith in z)
 every-at f (suc n) e k h = go (ℕ-discrete k n) (every-at f n (and-right (f n) (everyBelow f n) e) k)

@@ -1,0 +1,83 @@
+-- What is left to a pass: the same before and behind each of its steps.
+use Prim.Native.Nat.{ℕ, zero, suc, _+_, _*_, _-_, _/_, _%_, _≤_, _<_}
+use mathlib.Core.Path.{_≡_, refl, _∙_}
+use mathlib.Core.List.{List, [], _∷_}
+use native.Mathlib.Omega.{arith}
+use native.Mathlib.Nat.{add-assoc, add-zero}
+use native.Mathlib.Numerals.{add-one}
+use lib.ListN.{length, getD, set}
+use lib.Seq.{getD-set-same, getD-set-other}
+use Rattle.rast.specs.Bytes.{Bytes}
+use Rattle.rast.specs.Tree.{Ty}
+use Rattle.encoding.specs.declared.Refusal.{Refusal}
+use Rattle.encoding.specs.declared.Refusal.the-variants.{TooDeep}
+use Rattle.encoding.specs.declared.Head.{Head}
+use Rattle.encoding.specs.Refusals.{pick}
+use Rattle.encoding.specs.Reading.{Reading, got, stop, _>>=_}
+use Rattle.encoding.specs.Tables.{Good, nameBytes, nameLength, nameCount}
+use Rattle.encoding.specs.Heads.{kids, readHead}
+use Rattle.encoding.specs.Types.{readTypes, readNode, readType}
+use Rattle.encoding.proofs.Inside.{head-lies}
+use Rattle.measure.specs.Lengths.{ownLength, modeOf}
+use Rattle.measure.specs.Levels.{shows, shownLength, levelsAt, restAt, stacked}
+use Rattle.measure.proofs.Texts.{bind-assoc, bind-same, node-length}
+
+-- ---- levels
+
+pub level-due : (k m : ℕ) → m < 4 → (4 * k + m) / 4 ≡ k
+level-due k m h = omega arith
+
+pub level-mode : (k m : ℕ) → m < 4 → (4 * k + m) % 4 ≡ m
+level-mode k m h = omega arith
+
+stacked-below : (levels : List ℕ) (i v d : ℕ) → d ≤ i → stacked (set levels i v) d ≡ stacked levels d
+unfolding stacked
+stacked-below levels i v zero h = refl
+stacked-below levels i v (suc d) h = rw (getD-set-other levels i d v 0 (λ e. omega arith), stacked-below levels i v d (omega arith))
+
+pub stacked-push : (levels : List ℕ) (d v : ℕ) → d < length levels → stacked (set levels d v) (d + 1) ≡ v ∷ stacked levels d
+unfolding stacked
+stacked-push levels d v h = rw (add-one d, getD-set-same levels d v 0 h, stacked-below levels d v d (omega arith))
+
+pub stacked-top : (levels : List ℕ) (d : ℕ) → 0 < d → stacked levels d ≡ getD levels (d - 1) 0 ∷ stacked levels (d - 1)
+unfolding stacked
+stacked-top levels zero h = absurd (let z : ⊥ = omega arith in z)
+stacked-top levels (suc d) h = let e : suc d - 1 ≡ d = omega arith in rw e
+
+-- ---- steps
+
+-- the innermost level has ended
+pub rest-above : (f : ℕ → ℕ → Reading (Ty Bytes)) (d m l : ℕ) (ls : List ℕ) (p total : ℕ)
+    → restAt f d m 0 (l ∷ ls) p total ≡ restAt f (suc d) (l % 4) (l / 4) ls p total
+unfolding restAt readTypes levelsAt shownLength
+rest-above f d m l ls p total = rw (add-zero total)
+
+pub rest-ended : (f : ℕ → ℕ → Reading (Ty Bytes)) (d m p total : ℕ) → restAt f d m 0 [] p total ≡ got total p
+unfolding restAt readTypes levelsAt shownLength
+rest-ended f d m p total = rw (add-zero total)
+
+module _ (ws pairs : List ℕ) (text : Bytes) (good : Good pairs text) where
+  abbrev pub types : ℕ → ℕ → Reading (Ty Bytes)
+  types = readType (nameCount pairs) ws (nameBytes pairs text)
+
+  pub rest-deep : (m k : ℕ) (ls : List ℕ) (p total : ℕ) → restAt types 0 m (suc k) ls p total ≡ stop TooDeep
+  unfolding restAt readTypes readType
+  rest-deep m k ls p total = refl
+
+  pub rest-stop : (d m k : ℕ) (ls : List ℕ) (p total : ℕ) {r : Refusal} → readHead (nameCount pairs) ws p ≡ stop r
+      → restAt types (suc d) m (suc k) ls p total ≡ stop r
+  unfolding restAt readTypes readType
+  rest-stop d m k ls p total e = rw e
+
+  -- behind a type's head its types are due, one level down
+  pub rest-down : (d m k : ℕ) (ls : List ℕ) (p total : ℕ) {h : Head} {q : ℕ} → m < 4 → readHead (nameCount pairs) ws p ≡ got h q
+      → restAt types (suc d) m (suc k) ls p total
+      ≡ restAt types d (pick (shows m k) (modeOf h) 0) (kids h) ((4 * k + m) ∷ ls) q (total + pick (shows m k) (ownLength ws (nameLength pairs) h) 0)
+  unfolding restAt readTypes readType levelsAt shownLength
+  rest-down d m k ls p total {h} {q} l e =
+      let g : ℕ → ℕ → Reading ℕ = λ n r. readTypes (types (suc d)) k r >>= λ ts s. levelsAt types (suc d) ls s (total + (n + shownLength m k ts)) in
+      rw (e, level-due k m l, level-mode k m l)
+      (bind-assoc (readNode ws (nameBytes pairs text) (types d) h q) _ _
+      ∙ bind-same (readNode ws (nameBytes pairs text) (types d) h q) _ _ (λ t r i. bind-assoc (readTypes (types (suc d)) k r) _ _)
+      ∙ node-length ws pairs text good (types d) g (shows m k) h q (head-lies (nameCount pairs) ws p e .own)
+      ∙ simp add-assoc)

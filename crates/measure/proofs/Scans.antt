@@ -1,0 +1,42 @@
+-- From a head's reading to the code's answer.
+use Prim.Native.Nat.{ℕ, _^_, _≤_, _<_}
+use mathlib.Core.Path.{_≡_, refl}
+use mathlib.Core.Bool.{Bool, true, false}
+use mathlib.Core.List.{List}
+use native.Mathlib.Omega.{arith}
+use borrow.Author.Tests.{ltb-true}
+use lib.Dec.{ltb}
+use Rattle.encoding.specs.declared.Refusal.{Refusal}
+use Rattle.encoding.specs.declared.Refusal.the-variants.{UnknownWord}
+use Rattle.encoding.specs.declared.Head.{Head}
+use Rattle.encoding.specs.Refusals.{pick}
+use Rattle.encoding.specs.Reading.{Reading, got, stop, readWord, readBelow}
+use Rattle.encoding.specs.Tables.{nameLength}
+use Rattle.encoding.specs.Heads.{kids}
+use Rattle.encoding.proofs.Tables.{impossible}
+use Rattle.encoding.proofs.Types.{bind-got}
+use Rattle.measure.specs.declared.OwnScan.{OwnScan}
+use Rattle.measure.specs.declared.OwnScan.the-variants.{Node, NoNode}
+use Rattle.measure.specs.Lengths.{ownLength, modeOf, Scanned}
+
+-- a word that was read below a bound is below it
+pub below-less : (b : ℕ) (ws : List ℕ) (at : ℕ) {w n : ℕ} → readBelow b ws at ≡ got w n → w < b
+unfolding readBelow
+below-less b ws at {w} {n} e =
+    let t = bind-got (readWord ws at) _ e in
+    go (t .value) (t .end) (ltb (t .value) b) (ltb-true (t .value) b) (t .rest)
+  where
+    go : (v m : ℕ) (t : Bool) → (t ≡ true → v < b) → pick t (got v m) (stop UnknownWord) ≡ got w n → w < b
+    go v m true h d = let f : v ≡ w = cc in omega (arith, h refl)
+    go v m false h d = impossible (cc)
+
+module _ (ws pairs : List ℕ) {x : Reading Head} where
+  pub scanned-got : (h : Head) {r : OwnScan} {n k b m : ℕ} → x ≡ got h n → r ≡ Node n k b m
+      → k ≡ kids h → b ≡ ownLength ws (nameLength pairs) h → m ≡ modeOf h → k ≤ 2 ^ 32 → b ≤ 2 ^ 46 → Scanned ws pairs x r
+  scanned-got h e d k b m few short = record { same = rw (e, d, k, b, m); small = rw d (few, short) }
+
+  pub scanned-stop : {r : OwnScan} {k : Refusal} → x ≡ stop k → r ≡ NoNode k → Scanned ws pairs x r
+  scanned-stop e d = record { same = rw (e, d); small = rw d tt }
+
+  pub scanned-as : {y : Reading Head} {r : OwnScan} → x ≡ y → Scanned ws pairs y r → Scanned ws pairs x r
+  scanned-as e s = rw e s

@@ -1,0 +1,58 @@
+use mathlib.Core.Path.{refl, ap}
+use Rattle.encoding.specs.declared.Head.the-variants.{Tuple}
+use Rattle.encoding.specs.Reading.{readWord}
+use Rattle.encoding.proofs.Reading.{word-got, word-stop}
+use Rattle.measure.specs.Lengths.{worded, ownLength}
+use Rattle.measure.proofs.Scans.{scanned-got, scanned-stop}
+use Prim.Native.Nat.{_+_}
+use native.Mathlib.Omega.{arith}
+use borrow.Author.Needs.{needs}
+use Rattle.measure.proofs.own_tuple.Statement.{statement}
+use Rattle.measure.proofs.own_tuple.Tie as tie
+
+scan-word-requires : tie.Need-scan-word-requires
+scan-word-requires c κs = search needs
+
+enum-known-value : tie.Need-enum-known-value
+enum-known-value c = search needs
+
+cast-own-node : tie.Need-cast-own-node
+cast-own-node c = search needs
+
+commas-length-requires : tie.Need-commas-length-requires
+commas-length-requires c κs = search needs
+
+add-own-node : tie.Need-add-own-node
+add-own-node c = search needs
+
+own-node-requires : tie.Need-own-node-requires
+own-node-requires c κs = search needs
+
+enum-known-r : tie.Need-enum-known-r
+enum-known-r c = search needs
+
+returns : tie.Need-returns
+unfolding ownLength
+returns c =
+    let a = c .before .before .before .before .before .before .before .before .args in
+    let e = word-got (readWord (a .words .now) (a .at)) (c .before .before .before .before .before .scan-word .ensures) (c .before .before .before .value .given .1) in
+    scanned-got (a .words .now) (a .pairs .now) (Tuple _) (ap (worded Tuple) e) (c .own-node .ensures) refl (ap (λ n. 2 + n) (c .before .commas-length .ensures)) refl (omega arith) (omega (arith, c .before .commas-length .ensures))
+
+returns-2 : tie.Need-returns-2
+returns-2 c =
+    let a = c .before .before .before .before .before .before .args in
+    scanned-stop (a .words .now) (a .pairs .now) (ap (worded Tuple) (word-stop (readWord (a .words .now) (a .at)) (c .before .before .before .scan-word .ensures) (c .before .r .given .1))) refl
+
+pub own-tuple-spec : {M : Type 1} → statement M
+own-tuple-spec =
+    tie.close
+    (tie.spec
+    scan-word-requires
+    enum-known-value
+    cast-own-node
+    commas-length-requires
+    add-own-node
+    own-node-requires
+    enum-known-r
+    returns
+    returns-2)

@@ -1,0 +1,65 @@
+use Prim.Native.Nat.{_+_}
+use mathlib.Core.Path.{refl, _∙_}
+use lib.ListN.{getD}
+use Rattle.encoding.specs.declared.Head.the-variants.{Plain}
+use Rattle.encoding.proofs.Heads.{head-at, head-end, head-plain}
+use Rattle.measure.specs.Lengths.{ownLength}
+use Rattle.measure.proofs.Scans.{scanned-got, scanned-stop, scanned-as}
+use native.Mathlib.Omega.{arith}
+use borrow.Author.Needs.{needs}
+use Rattle.measure.proofs.scan_own.Statement.{statement}
+use Rattle.measure.proofs.scan_own.Tie as tie
+
+returns : tie.Need-returns
+returns c =
+    let a = c .before .before .before .args in
+    scanned-stop (a .words .now) (a .pairs .now) (head-end (a .bound) (a .words .now) (a .at) (c .if1 .taken)) refl
+
+mul-w : tie.Need-mul-w
+mul-w c = search needs
+
+shared-slice-read-w : tie.Need-shared-slice-read-w
+shared-slice-read-w c = search needs
+
+add-own-node : tie.Need-add-own-node
+add-own-node c = search needs
+
+primitive-length-requires : tie.Need-primitive-length-requires
+primitive-length-requires c κs = search needs
+
+own-node-requires : tie.Need-own-node-requires
+own-node-requires c κs = search needs
+
+returns-2 : tie.Need-returns-2
+unfolding ownLength
+returns-2 c =
+    let a = c .before .before .before .before .before .before .before .args in
+    scanned-got (a .words .now) (a .pairs .now) (Plain _)
+    (head-at (a .bound) (a .words .now) (a .at) (c .before .before .before .before .if1 .left) ∙ head-plain (a .bound) (a .words .now) (getD (a .words .now) (a .at) 0) (a .at + 1) (c .before .before .if2 .taken))
+    (c .own-node .ensures) refl (c .before .primitive-length .ensures .0) refl (omega arith) (omega (arith, c .before .primitive-length .ensures .1))
+
+add-own-after : tie.Need-add-own-after
+add-own-after c = search needs
+
+own-after-requires : tie.Need-own-after-requires
+own-after-requires c κs = (c .if2 .left, c .before .before .before .before .before .pre .0, c .before .before .before .before .before .pre .1)
+
+returns-3 : tie.Need-returns-3
+returns-3 c =
+    let a = c .before .before .before .before .before .before .args in
+    scanned-as (a .words .now) (a .pairs .now) (head-at (a .bound) (a .words .now) (a .at) (c .before .before .before .if1 .left)) (c .own-after .ensures)
+
+pub scan-own-spec : {M : Type 1} → statement M
+scan-own-spec =
+    tie.close
+    (tie.spec
+    returns
+    mul-w
+    shared-slice-read-w
+    add-own-node
+    primitive-length-requires
+    own-node-requires
+    returns-2
+    add-own-after
+    own-after-requires
+    returns-3)

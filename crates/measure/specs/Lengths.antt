@@ -1,0 +1,90 @@
+-- How many bytes each head adds to the texts of its types, and the code's answers that say so.
+use Prim.Native.Nat.{ℕ, _+_, _*_, _-_, _^_, _≤_}
+use mathlib.Core.Path.{_≡_}
+use mathlib.Core.List.{List, [], _∷_}
+use lib.Dec.{eqb}
+use lib.ListN.{length, getD, take, drop}
+use Rattle.rast.specs.Bytes.{Bytes}
+use Rattle.rast.specs.Tree.{Ty, U8}
+use Rattle.rast.specs.ToString.{Path·ToString, Primitive·ToString, Type·ToString}
+use Rattle.encoding.specs.declared.PathAt.{PathAt}
+use Rattle.encoding.specs.declared.Head.{Head}
+use Rattle.encoding.specs.declared.Head.the-variants.{Plain, Name, FromPath, Apply, Ref, RefMut, Impl, Dyn, Tuple, Function, Both, ArrayOf, Synonym, Meta}
+use Rattle.encoding.specs.Refusals.{pick}
+use Rattle.encoding.specs.Reading.{Reading, got, stop, _>>=_}
+use Rattle.encoding.specs.Tables.{nameLength}
+use Rattle.encoding.specs.Heads.{kids}
+use Rattle.encoding.specs.Types.{primitives, rootOf}
+use Rattle.measure.specs.declared.Measure.{Measure}
+use Rattle.measure.specs.declared.Measure.the-variants.{Measured, Stopped}
+use Rattle.measure.specs.declared.OwnScan.{OwnScan}
+use Rattle.measure.specs.declared.OwnScan.the-variants.{Node, NoNode}
+
+-- where a type ends and how long its text is
+abbrev pub measureOf : Reading (Ty Bytes) → Measure
+measureOf (got t n) = Measured n (length (Type·ToString t))
+measureOf (stop r) = Stopped r
+
+-- `::` and a name, for each of the names; `len` says how long a name is
+unfoldable pub namesLength : (ℕ → ℕ) → List ℕ → ℕ
+namesLength len [] = 0
+namesLength len (x ∷ xs) = 2 + len x + namesLength len xs
+
+unfoldable pub pathLength : List ℕ → (ℕ → ℕ) → PathAt → ℕ
+pathLength ws len p = length (Path·ToString (rootOf (p .root))) + namesLength len (take (p .count) (drop (p .start) ws))
+
+-- the brackets of an array, and its size if it has one
+unfoldable pub arrayLength : (ℕ → ℕ) → ℕ → ℕ
+arrayLength len s = pick (eqb s 0) 2 (4 + len (s - 1))
+
+-- a head with one own word
+abbrev pub worded : (ℕ → Head) → Reading ℕ → Reading Head
+worded f x = x >>= λ w n. got (f w) n
+
+-- what a head adds to the texts of its types
+unfoldable pub ownLength : List ℕ → (ℕ → ℕ) → Head → ℕ
+ownLength ws len (Plain w) = length (Primitive·ToString (getD primitives w U8))
+ownLength ws len (Name x) = len x
+ownLength ws len (FromPath p) = pathLength ws len p
+ownLength ws len (Apply n) = 2 * n
+ownLength ws len Ref = 1
+ownLength ws len RefMut = 5
+ownLength ws len Impl = 5
+ownLength ws len Dyn = 4
+ownLength ws len (Tuple n) = 2 + 2 * (n - 1)
+ownLength ws len (Function n) = 20 + 2 * (n - 1)
+ownLength ws len Both = 3
+ownLength ws len (ArrayOf s) = arrayLength len s
+ownLength ws len Synonym = 0
+ownLength ws len (Meta x) = 0
+
+-- the mode of a head's types where the head shows: 1 if all show, 2 if all but the last do
+abbrev pub modeOf : Head → ℕ
+modeOf (Plain w) = 1
+modeOf (Name x) = 1
+modeOf (FromPath p) = 1
+modeOf (Apply n) = 1
+modeOf Ref = 1
+modeOf RefMut = 1
+modeOf Impl = 1
+modeOf Dyn = 1
+modeOf (Tuple n) = 1
+modeOf (Function n) = 1
+modeOf Both = 1
+modeOf (ArrayOf s) = 1
+modeOf Synonym = 2
+modeOf (Meta x) = 1
+
+abbrev pub ownScan : List ℕ → (ℕ → ℕ) → Reading Head → OwnScan
+ownScan ws len (got h n) = Node n (kids h) (ownLength ws len h) (modeOf h)
+ownScan ws len (stop r) = NoNode r
+
+-- few enough types and bytes that no sum over the words overflows
+abbrev pub Small : OwnScan → Type 0
+Small (Node n k b m) = (k ≤ 2 ^ 32) × (b ≤ 2 ^ 46)
+Small (NoNode r) = Unit {0}
+
+-- the answer says what the reading of a head says
+pub record Scanned (ws pairs : List ℕ) (x : Reading Head) (r : OwnScan) : Type 0 where
+  pub same : r ≡ ownScan ws (nameLength pairs) x
+  pub small : Small r

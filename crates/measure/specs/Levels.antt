@@ -1,0 +1,110 @@
+-- The pass over the words of a type: what is left to read, from the levels that are open.
+use Prim.Native.Nat.{ℕ, zero, suc, _+_, _*_, _-_, _^_, _/_, _%_, _≤_, _<_}
+use mathlib.Core.Path.{_≡_}
+use mathlib.Core.Bool.{Bool, not}
+use mathlib.Core.List.{List, [], _∷_}
+use lib.Dec.{eqb}
+use lib.ListN.{length, getD, set}
+use Rattle.rast.specs.Bytes.{Bytes}
+use Rattle.rast.specs.Tree.{Ty, Tys, nil, cons}
+use Rattle.rast.specs.ToString.{Type·ToString}
+use Rattle.encoding.specs.declared.Refusal.{Refusal}
+use Rattle.encoding.specs.Refusals.{pick}
+use Rattle.encoding.specs.Reading.{Reading, got, stop, _>>=_}
+use Rattle.encoding.specs.Tables.{nameBytes, nameCount}
+use Rattle.encoding.specs.Types.{readTypes, readType}
+use Rattle.measure.specs.declared.Pass.{Pass}
+use Rattle.measure.specs.declared.Step.{Step}
+use Rattle.measure.specs.declared.Step.the-variants.{On, Ended, Halt}
+
+-- whether a type shows, after which k more are due at its level: mode 0 none, 1 all, 2 all but the last
+abbrev pub shows : ℕ → ℕ → Bool
+shows m k = pick (eqb m 2) (not (eqb k 0)) (eqb m 1)
+
+-- how long the texts are of those of k types that show
+unfoldable pub shownLength : ℕ → ℕ → Tys Bytes → ℕ
+shownLength m zero ts = 0
+shownLength m (suc k) nil = 0
+shownLength m (suc k) (cons t ts) = pick (shows m k) (length (Type·ToString t)) 0 + shownLength m k ts
+
+-- what is left behind the innermost level, which may go d types deep: the levels around it, the inner ones first.
+-- Each is kept as four times the number of its types that are due, plus their mode.
+unfoldable pub levelsAt : (ℕ → ℕ → Reading (Ty Bytes)) → ℕ → List ℕ → ℕ → ℕ → Reading ℕ
+levelsAt f d [] p total = got total p
+levelsAt f d (l ∷ ls) p total =
+    readTypes (f (suc d)) (l / 4) p >>= λ ts q. levelsAt f (suc d) ls q (total + shownLength (l % 4) (l / 4) ts)
+
+-- what is left where k types are due at the innermost level, and how long the text is in all
+unfoldable pub restAt : (ℕ → ℕ → Reading (Ty Bytes)) → ℕ → ℕ → ℕ → List ℕ → ℕ → ℕ → Reading ℕ
+restAt f d m k ls p total = readTypes (f d) k p >>= λ ts q. levelsAt f d ls q (total + shownLength m k ts)
+
+-- the first d levels, the last of them first
+unfoldable pub stacked : List ℕ → ℕ → List ℕ
+stacked levels zero = []
+stacked levels (suc d) = getD levels d 0 ∷ stacked levels d
+
+-- what is left to a pass
+unfoldable pub restOf : List ℕ → List ℕ → Bytes → List ℕ → Pass → Reading ℕ
+restOf ws pairs text levels p =
+    restAt (readType (nameCount pairs) ws (nameBytes pairs text)) (64 - p .depth) (p .mode) (p .due) (stacked levels (p .depth)) (p .place) (p .bytes)
+
+-- the pass behind the innermost level: the one around it is taken up
+abbrev pub leaving : List ℕ → Pass → Pass
+leaving levels p = record {
+  place = p .place;
+  bytes = p .bytes;
+  depth = p .depth - 1;
+  due = getD levels (p .depth - 1) 0 / 4;
+  mode = getD levels (p .depth - 1) 0 % 4;
+}
+
+-- whether the type that is due next shows
+abbrev pub nextShows : Pass → Bool
+nextShows p = shows (p .mode) (p .due - 1)
+
+-- the pass behind a head that ends at `next` and adds `bytes` where it shows, if no type follows it
+abbrev pub beside : Pass → ℕ → ℕ → Pass
+beside p next bytes = record {
+  place = next;
+  bytes = p .bytes + pick (nextShows p) bytes 0;
+  depth = p .depth;
+  due = p .due - 1;
+  mode = p .mode;
+}
+
+-- the same if `kids` types follow it, of which those that `below` says show where it shows
+abbrev pub under : Pass → ℕ → ℕ → ℕ → ℕ → Pass
+under p next kids bytes below = record {
+  place = next;
+  bytes = p .bytes + pick (nextShows p) bytes 0;
+  depth = p .depth + 1;
+  due = kids;
+  mode = pick (nextShows p) below 0;
+}
+
+abbrev pub entering : Pass → ℕ → ℕ → ℕ → ℕ → Pass
+entering p next kids bytes below = pick (eqb kids 0) (beside p next bytes) (under p next kids bytes below)
+
+-- a level as it is kept: how many of its types are due behind the next one, and their mode
+abbrev pub levelOf : Pass → ℕ
+levelOf p = 4 * (p .due - 1) + p .mode
+
+-- the levels behind a head
+abbrev pub pushed : List ℕ → Pass → ℕ → List ℕ
+pushed levels p kids = pick (eqb kids 0) levels (set levels (p .depth) (levelOf p))
+
+-- what holds of a pass at each step
+pub record Kept (ws levels : List ℕ) (p : Pass) : Type 0 where
+  pub room : length levels ≡ 64
+  pub place : p .place ≤ length ws
+  pub bytes : p .bytes ≤ p .place * 2 ^ 46
+  pub depth : p .depth ≤ 64
+  pub due : p .due ≤ 2 ^ 62
+  pub mode : p .mode < 4
+
+-- the pass goes on, and the same is left to it with fewer words or levels; or nothing is left; or it is refused
+pub data Stepped (ws pairs : List ℕ) (text : Bytes) (levels : List ℕ) (p : Pass) (levels′ : List ℕ) : Step → Type 0 where
+  on : {p′ : Pass} → Kept ws levels′ p′ → restOf ws pairs text levels′ p′ ≡ restOf ws pairs text levels p
+      → 2 * (length ws - p′ .place) + p′ .depth < 2 * (length ws - p .place) + p .depth → Stepped ws pairs text levels p levels′ (On p′)
+  ended : restOf ws pairs text levels p ≡ got (p .bytes) (p .place) → Stepped ws pairs text levels p levels′ Ended
+  halt : {r : Refusal} → restOf ws pairs text levels p ≡ stop r → Stepped ws pairs text levels p levels′ (Halt r)

@@ -1,0 +1,410 @@
+// One pass over the words of a type, with no recursion: it accepts or refuses the type, and finds how long its text is.
+ghost use mathlib.Core.Path.{_≡_};
+ghost use Prim.Native.Nat.{_+_, _*_, _-_, _^_, _/_, _≤_, _<_};
+ghost use lib.ListN.{length, getD};
+ghost use Rattle.rast.specs.Tree.{U8};
+ghost use Rattle.rast.specs.ToString.{Path·ToString, Primitive·ToString};
+ghost use Rattle.encoding.specs.Refusals.{pick};
+ghost use Rattle.encoding.specs.Reading.{readWord, readBelow};
+ghost use Rattle.encoding.specs.Tables.{Good, nameBytes, nameLength, nameCount};
+ghost use Rattle.encoding.specs.Heads.{InsidePath, pathHead, headAfter, readHead};
+ghost use Rattle.encoding.specs.Types.{primitives, rootOf, pathOf, typeAt};
+ghost use Rattle.encoding.specs.declared.Head.the-variants.{Name, Apply, Tuple, Function, ArrayOf, Meta};
+ghost use Rattle.measure.specs.Lengths.{measureOf, pathLength, arrayLength, worded, Scanned};
+ghost use Rattle.measure.specs.Levels.{shows, leaving, entering, pushed, Kept, Stepped};
+use encoding::PathAt;
+use encoding::PathScan;
+use encoding::Refusal;
+use encoding::WordScan;
+
+// Where a type ends and how long its text is, or the refusal that is met first.
+pub enum Measure {
+    Measured { next: usize, bytes: usize },
+    Stopped(Refusal),
+}
+
+// A head: where its own words end, how many types follow, how many bytes it adds to theirs, and which of them show if it shows itself.
+enum OwnScan {
+    Node {
+        next: usize,
+        kids: u64,
+        bytes: usize,
+        below: u64,
+    },
+    NoNode(Refusal),
+}
+
+// A pass that has come to `place` with `bytes` of text: `due` types are still to be read at the innermost of `depth` open levels, and `mode` says which of them show:
+// 0 none, inside a synonym's base; 1 all; 2 all but the last, which is a synonym's base.
+struct Pass {
+    place: usize,
+    bytes: usize,
+    depth: usize,
+    due: u64,
+    mode: u64,
+}
+
+// What a step comes to: a further pass, the end, or a refusal.
+enum Step {
+    On(Pass),
+    Ended,
+    Halt(Refusal),
+}
+
+// How long a plain type's text is.
+fn primitive_length(kind: u32) -> usize
+    requires { ⌜ kind < 12 ⌝ }
+    ensures { λ r. ⌜ (r ≡ length (Primitive·ToString (getD primitives kind U8))) × (r ≤ 5) ⌝ }
+{
+    match kind {
+        0 => 2,
+        4 => 4,
+        5 => 2,
+        9 => 4,
+        10 => 5,
+        11 => 4,
+        _ => 3,
+    }
+}
+
+// How long a path's root is.
+fn root_length(root: u32) -> usize
+    ensures { λ r. ⌜ (r ≡ length (Path·ToString (rootOf root))) × (r ≤ 5) ⌝ }
+{
+    match root {
+        0 => 0,
+        1 => 5,
+        _ => 4,
+    }
+}
+
+// The bytes between `count` types.
+fn commas_length(count: u32) -> usize
+    ensures { λ r. ⌜ r ≡ 2 * (count - 1) ⌝ }
+{
+    if count == 0 {
+        return 0;
+    }
+    2 * (count as usize - 1)
+}
+
+// The brackets of an array, and its size if it has one.
+fn array_length(pairs: &[u32], size: u32) -> usize
+    requires { ⌜ size < nameCount (now pairs) + 1 ⌝ }
+    ensures { λ r. ⌜ (r ≡ arrayLength (nameLength (now (pairs .entry))) size) × (r ≤ 2 ^ 46) ⌝ }
+{
+    if size == 0 {
+        return 2;
+    }
+    4 + encoding::name_length(pairs, size - 1)
+}
+
+// How long a path's text is, from the lengths of its names.
+fn path_bytes(words: &[u32], pairs: &[u32], path: PathAt) -> usize
+    requires { ⌜ InsidePath (nameCount (now pairs)) (now words) path × (length (now words) ≤ 8192) ⌝ }
+    ensures { λ r. ⌜ (r ≡ pathLength (now (words .entry)) (nameLength (now (pairs .entry))) path) × (r ≤ 2 ^ 46) ⌝ }
+{
+    let start = path.start;
+    let end = start + path.count as usize;
+    let mut bytes = root_length(path.root);
+    let mut i = start;
+    while i < end {
+        bytes += 2 + encoding::name_length(pairs, words[i]);
+        i += 1;
+    }
+    bytes
+}
+
+// How long a path's text is.
+pub fn path_length(words: &[u32], pairs: &[u32], text: &[u8], path: PathAt) -> usize
+    requires { ⌜ InsidePath (nameCount (now pairs)) (now words) path × Good (now pairs) (now text)
+        × (length (now words) ≤ 8192) × (length (now text) ≤ 16384) ⌝ }
+    ensures { λ r. ⌜ r ≡ length (Path·ToString (pathOf (now (words .entry)) (nameBytes (now (pairs .entry)) (now (text .entry))) path)) ⌝ }
+{
+    path_bytes(words, pairs, path)
+}
+
+// A head whose own words are read.
+fn own_node(next: usize, kids: u64, bytes: usize, below: u64) -> OwnScan
+    ensures { λ r. ⌜ r ≡ OwnScan.Node next kids bytes below ⌝ }
+{
+    OwnScan::Node {
+        next,
+        kids,
+        bytes,
+        below,
+    }
+}
+
+// A name's head, from the words behind its kind; the heads below likewise.
+fn own_name(words: &[u32], pairs: &[u32], bound: usize, at: usize) -> OwnScan
+    requires { ⌜ bound ≡ nameCount (now pairs) ⌝ }
+    ensures { λ r. ⌜ Scanned (now (words .entry)) (now (pairs .entry)) (worded Name (readBelow bound (now (words .entry)) at)) r ⌝ }
+{
+    match encoding::scan_below(words, bound, at) {
+        WordScan::Word { value, next } => {
+            let bytes = encoding::name_length(pairs, value);
+            own_node(next, 0, bytes, 1)
+        }
+        WordScan::NoWord(r) => OwnScan::NoNode(r),
+    }
+}
+
+// A path's head.
+fn own_path(words: &[u32], pairs: &[u32], bound: usize, at: usize) -> OwnScan
+    requires { ⌜ (bound ≡ nameCount (now pairs)) × (length (now words) ≤ 8192) ⌝ }
+    ensures { λ r. ⌜ Scanned (now (words .entry)) (now (pairs .entry)) (pathHead bound (now (words .entry)) at) r ⌝ }
+{
+    match encoding::scan_path(words, bound, at) {
+        PathScan::OwnPath { path, next } => {
+            let bytes = path_bytes(words, pairs, path);
+            own_node(next, 0, bytes, 1)
+        }
+        PathScan::NoPath(r) => OwnScan::NoNode(r),
+    }
+}
+
+// The head of a type with arguments.
+fn own_apply(words: &[u32], pairs: &[u32], at: usize) -> OwnScan
+    ensures { λ r. ⌜ Scanned (now (words .entry)) (now (pairs .entry)) (worded Apply (readWord (now (words .entry)) at)) r ⌝ }
+{
+    match encoding::scan_word(words, at) {
+        WordScan::Word { value, next } => own_node(next, value as u64 + 1, 2 * value as usize, 1),
+        WordScan::NoWord(r) => OwnScan::NoNode(r),
+    }
+}
+
+// A tuple's head.
+fn own_tuple(words: &[u32], pairs: &[u32], at: usize) -> OwnScan
+    ensures { λ r. ⌜ Scanned (now (words .entry)) (now (pairs .entry)) (worded Tuple (readWord (now (words .entry)) at)) r ⌝ }
+{
+    match encoding::scan_word(words, at) {
+        WordScan::Word { value, next } => own_node(next, value as u64, 2 + commas_length(value), 1),
+        WordScan::NoWord(r) => OwnScan::NoNode(r),
+    }
+}
+
+// A function's head.
+fn own_function(words: &[u32], pairs: &[u32], at: usize) -> OwnScan
+    ensures { λ r. ⌜ Scanned (now (words .entry)) (now (pairs .entry)) (worded Function (readWord (now (words .entry)) at)) r ⌝ }
+{
+    match encoding::scan_word(words, at) {
+        WordScan::Word { value, next } => own_node(
+            next,
+            value as u64 + 1,
+            20 + commas_length(value),
+            1,
+        ),
+        WordScan::NoWord(r) => OwnScan::NoNode(r),
+    }
+}
+
+// An array's head.
+fn own_array(words: &[u32], pairs: &[u32], bound: usize, at: usize) -> OwnScan
+    requires { ⌜ bound ≡ nameCount (now pairs) ⌝ }
+    ensures { λ r. ⌜ Scanned (now (words .entry)) (now (pairs .entry)) (worded ArrayOf (readBelow (bound + 1) (now (words .entry)) at)) r ⌝ }
+{
+    match encoding::scan_below(words, bound + 1, at) {
+        WordScan::Word { value, next } => {
+            let bytes = array_length(pairs, value);
+            own_node(next, 1, bytes, 1)
+        }
+        WordScan::NoWord(r) => OwnScan::NoNode(r),
+    }
+}
+
+// The head of metadata, which adds nothing.
+fn own_meta(words: &[u32], pairs: &[u32], at: usize) -> OwnScan
+    ensures { λ r. ⌜ Scanned (now (words .entry)) (now (pairs .entry)) (worded Meta (readBelow 4 (now (words .entry)) at)) r ⌝ }
+{
+    match encoding::scan_below(words, 4, at) {
+        WordScan::Word { value: _, next } => own_node(next, 1, 0, 1),
+        WordScan::NoWord(r) => OwnScan::NoNode(r),
+    }
+}
+
+// The head of kind `w`, 12 or above, whose further words begin at `at`.
+fn own_after(words: &[u32], pairs: &[u32], bound: usize, w: u32, at: usize) -> OwnScan
+    requires { ⌜ (12 ≤ w) × (bound ≡ nameCount (now pairs)) × (length (now words) ≤ 8192) ⌝ }
+    ensures { λ r. ⌜ Scanned (now (words .entry)) (now (pairs .entry)) (headAfter bound (now (words .entry)) w at) r ⌝ }
+{
+    match w {
+        12 => own_name(words, pairs, bound, at),
+        13 => own_path(words, pairs, bound, at),
+        14 => own_apply(words, pairs, at),
+        15 => own_node(at, 1, 1, 1),
+        16 => own_node(at, 1, 5, 1),
+        17 => own_node(at, 1, 5, 1),
+        18 => own_node(at, 1, 4, 1),
+        19 => own_tuple(words, pairs, at),
+        20 => own_function(words, pairs, at),
+        21 => own_node(at, 2, 3, 1),
+        22 => own_array(words, pairs, bound, at),
+        23 => own_node(at, 2, 0, 2),
+        24 => own_meta(words, pairs, at),
+        _ => OwnScan::NoNode(Refusal::UnknownWord),
+    }
+}
+
+// The head at `at`.
+fn scan_own(words: &[u32], pairs: &[u32], bound: usize, at: usize) -> OwnScan
+    requires { ⌜ (bound ≡ nameCount (now pairs)) × (length (now words) ≤ 8192) ⌝ }
+    ensures { λ r. ⌜ Scanned (now (words .entry)) (now (pairs .entry)) (readHead bound (now (words .entry)) at) r ⌝ }
+{
+    if words.len() <= at {
+        return OwnScan::NoNode(Refusal::EndsEarly);
+    }
+    let w = words[at];
+    if w < 12 {
+        return own_node(at + 1, 0, primitive_length(w), 1);
+    }
+    own_after(words, pairs, bound, w, at + 1)
+}
+
+// Whether a type shows, after which `after` more are due at its level.
+fn is_shown(mode: u64, after: u64) -> bool
+    ensures { λ r. ⌜ r ≡ shows mode after ⌝ }
+{
+    if mode == 2 {
+        return after != 0;
+    }
+    mode == 1
+}
+
+// What shows counts, and nothing else does. (A branch here leaves the caller one way to follow.)
+fn bytes_if(shown: bool, bytes: usize) -> usize
+    ensures { λ r. ⌜ r ≡ pick shown bytes 0 ⌝ }
+{
+    if shown { bytes } else { 0 }
+}
+
+// The mode below a head: none of its types shows where it does not.
+fn mode_if(shown: bool, mode: u64) -> u64
+    ensures { λ r. ⌜ r ≡ pick shown mode 0 ⌝ }
+{
+    if shown { mode } else { 0 }
+}
+
+// How many types are due at a level. A parameter is known to fit its type, an element of a lent array is not.
+fn level_due(level: u64) -> u64
+    ensures { λ r. ⌜ (r ≡ level / 4) × (r < 2 ^ 62) ⌝ }
+{
+    level / 4
+}
+
+// The pass behind the innermost level: the one around it is taken up.
+fn leave(levels: &[u64; 64], pass: Pass) -> Pass
+    requires { ⌜ (0 < pass .depth) × (pass .depth ≤ 64) ⌝ }
+    ensures { λ r. ⌜ (r ≡ leaving (now (levels .entry)) pass) × (r .due < 2 ^ 62) ⌝ }
+{
+    let above = pass.depth - 1;
+    let level = levels[above];
+    Pass {
+        place: pass.place,
+        bytes: pass.bytes,
+        depth: above,
+        due: level_due(level),
+        mode: level % 4,
+    }
+}
+
+// The pass behind a head that ends at `next`: at the same level if no type follows it, else one level down.
+fn enter(
+    levels: &mut [u64; 64],
+    pass: Pass,
+    next: usize,
+    kids: u64,
+    bytes: usize,
+    below: u64,
+) -> Pass
+    requires { ⌜ (0 < pass .due) × (pass .due ≤ 2 ^ 62) × (pass .mode < 4) × (pass .depth < 64) × (pass .bytes + bytes < 2 ^ 64) ⌝ }
+    ensures { λ r. ⌜ (r ≡ entering pass next kids bytes below) × (now (levels .exit) ≡ pushed (now (levels .entry)) pass kids) ⌝ }
+{
+    let depth = pass.depth;
+    let after = pass.due - 1;
+    let mode = pass.mode;
+    let shown = is_shown(mode, after);
+    let bytes = pass.bytes + bytes_if(shown, bytes);
+    if kids == 0 {
+        return Pass {
+            place: next,
+            bytes,
+            depth,
+            due: after,
+            mode,
+        };
+    }
+    levels[depth] = 4 * after + mode;
+    Pass {
+        place: next,
+        bytes,
+        depth: depth + 1,
+        due: kids,
+        mode: mode_if(shown, below),
+    }
+}
+
+// One step of the pass: a level that has ended, or a head.
+fn advance(
+    words: &[u32],
+    pairs: &[u32],
+    text: &[u8],
+    bound: usize,
+    levels: &mut [u64; 64],
+    pass: Pass,
+) -> Step
+    requires { ⌜ (bound ≡ nameCount (now pairs)) × Good (now pairs) (now text) × (length (now words) ≤ 8192)
+        × Kept (now words) (now levels) pass ⌝ }
+    ensures { λ r. ⌜ Stepped (now (words .entry)) (now (pairs .entry)) (now (text .entry)) (now (levels .entry)) pass (now (levels .exit)) r ⌝ }
+{
+    if pass.due == 0 {
+        if pass.depth == 0 {
+            return Step::Ended;
+        }
+        return Step::On(leave(levels, pass));
+    }
+    if pass.depth == 64 {
+        return Step::Halt(Refusal::TooDeep);
+    }
+    match scan_own(words, pairs, bound, pass.place) {
+        OwnScan::Node {
+            next,
+            kids,
+            bytes,
+            below,
+        } => Step::On(enter(levels, pass, next, kids, bytes, below)),
+        OwnScan::NoNode(r) => Step::Halt(r),
+    }
+}
+
+// Where the type at `at` ends and how long its text is, or the refusal that is met first.
+pub fn measure_type(words: &[u32], pairs: &[u32], text: &[u8], at: usize) -> Measure
+    requires { ⌜ Good (now pairs) (now text) × (length (now words) ≤ 8192) × (length (now text) ≤ 16384) × (at ≤ length (now words)) ⌝ }
+    ensures { λ r. ⌜ r ≡ measureOf (typeAt (now (words .entry)) (now (pairs .entry)) (now (text .entry)) at) ⌝ }
+{
+    let bound = encoding::name_count(pairs);
+    let mut levels = [0u64; 64];
+    let mut pass = Pass {
+        place: at,
+        bytes: 0,
+        depth: 0,
+        due: 1,
+        mode: 1,
+    };
+    loop {
+        match advance(words, pairs, text, bound, &mut levels, pass) {
+            Step::On(p) => {
+                pass = p;
+            }
+            Step::Ended => {
+                return Measure::Measured {
+                    next: pass.place,
+                    bytes: pass.bytes,
+                };
+            }
+            Step::Halt(r) => {
+                return Measure::Stopped(r);
+            }
+        }
+    }
+}

@@ -1,0 +1,4 @@
+-- Laws of names and of judging.
+pub mod Names
+pub mod Paths
+pub mod Judging

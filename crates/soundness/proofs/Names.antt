@@ -1,0 +1,160 @@
+-- Laws of words, of the words that are no names, and of names and sizes.
+use Prim.Native.Nat.{ℕ, suc, _+_, _-_, _≤_, _<_}
+use mathlib.Core.Path.{_≡_, refl, ap}
+use mathlib.Core.Bool.{Bool, true, false, not, Bool·beq}
+use mathlib.Core.List.{List, [], _∷_}
+use mathlib.Core.Option.{some}
+use native.Mathlib.Omega.{arith}
+use native.Mathlib.Numerals.{add-one}
+use borrow.Author.Tests.{ne-eqb, leb-true}
+use lib.Dec.{eqb, leb}
+use lib.ListN.{length, getD, take, drop, drop-of-length-le}
+use lib.Seq.{drop-cons}
+use Rattle.rast.specs.Bytes.{Bytes, ascii, same, each, among, _and_, _or_}
+use Rattle.rast.specs.Sound.{within, isLetter, isWordStart, isWordByte, isWord, excluded, soundName, soundSize}
+use Rattle.encoding.specs.Tables.{fixedNames, nameBytes}
+use Rattle.encoding.specs.Types.{sizeOf}
+use Rattle.encoding.proofs.Tables.{impossible, everyBelow, every-at, same-eq, name-fixed}
+
+pub and-false : (a : Bool) → (a and false) ≡ false
+unfolding _and_
+and-false true = refl
+and-false false = refl
+
+pub and-true : (a : Bool) → (a and true) ≡ a
+unfolding _and_
+and-true true = refl
+and-true false = refl
+
+-- a conjunction, by what its first part is
+pub and-no : {a : Bool} (b : Bool) → a ≡ false → (a and b) ≡ false
+unfolding _and_
+and-no b e = rw e
+
+pub and-yes : {a : Bool} (b : Bool) → a ≡ true → (a and b) ≡ b
+unfolding _and_
+and-yes b e = rw e
+
+pub or-false : (a : Bool) → (a or false) ≡ a
+or-false true = refl
+or-false false = refl
+
+pub and-assoc : (a b c : Bool) → (a and b and c) ≡ (a and (b and c))
+unfolding _and_
+and-assoc true b c = refl
+and-assoc false b c = refl
+
+-- the part from s to s + n
+pub part-to : (l : Bytes) (s n : ℕ) → take (s + n - s) (drop s l) ≡ take n (drop s l)
+part-to l s n =
+    let e : s + n - s ≡ n = omega arith in
+    rw e
+
+-- ---- words
+
+pub each-more : (f : ℕ → Bool) (l : Bytes) (i : ℕ) → i < length l → each f (drop i l) ≡ (f (getD l i 0) and each f (drop (i + 1) l))
+unfolding each
+each-more f l i h = rw (add-one i, drop-cons l i 0 h)
+
+pub each-end : (f : ℕ → Bool) (l : Bytes) (i : ℕ) → length l ≤ i → each f (drop i l) ≡ true
+unfolding each
+each-end f l i h = rw (drop-of-length-le l h)
+
+pub word-none : (l : Bytes) → length l ≡ 0 → isWord l ≡ false
+unfolding isWord
+word-none [] h = refl
+word-none (x ∷ l) h = absurd (let z : ⊥ = omega arith in z)
+
+pub word-some : (l : Bytes) → 0 < length l → isWord l ≡ (isWordStart (getD l 0 0) and each isWordByte (drop 1 l))
+unfolding isWord
+word-some [] h = absurd (let z : ⊥ = omega arith in z)
+word-some (x ∷ l) h = refl
+
+-- ---- equal bytes
+
+pub same-apart : (a b : Bytes) → (length a ≡ length b → ⊥) → same a b ≡ false
+unfolding same
+same-apart [] [] h = absurd (h refl)
+same-apart [] (y ∷ b) h = refl
+same-apart (x ∷ a) [] h = refl
+same-apart (x ∷ a) (y ∷ b) h = rw (same-apart a b (λ e. h (ap suc e))) (and-false (eqb x y))
+
+pub same-more : (a b : Bytes) (i : ℕ) → i < length a → i < length b
+    → same (drop i a) (drop i b) ≡ (eqb (getD a i 0) (getD b i 0) and same (drop (i + 1) a) (drop (i + 1) b))
+unfolding same
+same-more a b i h k = rw (add-one i, drop-cons a i 0 h, drop-cons b i 0 k)
+
+pub same-end : (a b : Bytes) (i : ℕ) → length a ≤ i → length b ≤ i → same (drop i a) (drop i b) ≡ true
+unfolding same
+same-end a b i h k = rw (drop-of-length-le a h, drop-of-length-le b k)
+
+-- ---- the words that are no names
+
+pub among-more : (x : Bytes) (l : List Bytes) (k : ℕ) → k < length l → among x (drop k l) ≡ (same x (getD l k []) or among x (drop (k + 1) l))
+unfolding among
+among-more x l k h = rw (add-one k, drop-cons l k [] h)
+
+pub among-end : (x : Bytes) (l : List Bytes) (k : ℕ) → length l ≤ k → among x (drop k l) ≡ false
+unfolding among
+among-end x l k h = rw (drop-of-length-le l h)
+
+unfoldable pub starts : List ℕ
+starts = 0 ∷ 2 ∷ 5 ∷ 8 ∷ 11 ∷ 15 ∷ 17 ∷ 20 ∷ 23 ∷ 26 ∷ 30 ∷ 35 ∷ 39 ∷ 42 ∷ 46 ∷ 49 ∷ 54 ∷ []
+
+unfoldable pub lengths : List ℕ
+lengths = 2 ∷ 3 ∷ 3 ∷ 3 ∷ 4 ∷ 2 ∷ 3 ∷ 3 ∷ 3 ∷ 4 ∷ 5 ∷ 4 ∷ 3 ∷ 4 ∷ 3 ∷ 5 ∷ 4 ∷ []
+
+unfoldable pub letters : Bytes
+letters = ascii "u8u16u32u64u128i8i16i32i64i128usizeboolmutimpldyncrateSelf"
+
+pub excluded-part : (k : ℕ) → k < 17 → take (getD lengths k 0) (drop (getD starts k 0) letters) ≡ getD excluded k []
+unfolding everyBelow same starts lengths letters excluded ascii _and_
+excluded-part k h =
+    same-eq (take (getD lengths k 0) (drop (getD starts k 0) letters)) (getD excluded k [])
+    (every-at (λ i. same (take (getD lengths i 0) (drop (getD starts i 0) letters)) (getD excluded i [])) 17 refl k h)
+
+-- each of these words lies within the letters
+pub excluded-inside : (k : ℕ) → k < 17 → getD starts k 0 + getD lengths k 0 ≤ 58
+unfolding everyBelow starts lengths _and_
+excluded-inside k h =
+    leb-true (getD starts k 0 + getD lengths k 0) 58
+    (every-at (λ i. leb (getD starts i 0 + getD lengths i 0) 58) 17 refl k h)
+
+-- ---- fixed names
+
+beq-eq : (a b : Bool) → Bool·beq a b ≡ true → a ≡ b
+beq-eq true true e = refl
+beq-eq true false e = impossible (cc)
+beq-eq false true e = impossible (cc)
+beq-eq false false e = refl
+
+-- of the fixed names only the first, the empty one, is unsound
+pub fixed-sound : (pairs text : List ℕ) (x : ℕ) → x < 16 → soundName (nameBytes pairs text x) ≡ not (eqb x 0)
+unfolding everyBelow _and_ soundName isWord each isWordByte isWordStart isLetter within among same excluded fixedNames ascii
+fixed-sound pairs text x h =
+    rw (name-fixed pairs text x h)
+    (beq-eq (soundName (getD fixedNames x [])) (not (eqb x 0))
+    (every-at (λ i. Bool·beq (soundName (getD fixedNames i [])) (not (eqb i 0))) 16 refl x h))
+
+-- ---- sizes
+
+pub size-fixed : (pairs text : List ℕ) (s : ℕ) → s < 17 → soundSize (sizeOf (nameBytes pairs text) s) ≡ not (eqb s 1)
+unfolding everyBelow _and_ soundSize sizeOf each isWordByte isWordStart isLetter within fixedNames ascii
+size-fixed pairs text s h =
+    rw (name-fixed pairs text (s - 1) (omega arith))
+    (beq-eq (soundSize (sizeOf (λ x. getD fixedNames x []) s)) (not (eqb s 1))
+    (every-at (λ i. Bool·beq (soundSize (sizeOf (λ x. getD fixedNames x []) i)) (not (eqb i 1))) 17 refl s h))
+
+pub size-named : (name : ℕ → Bytes) (s : ℕ) → 0 < s → sizeOf name s ≡ some (name (s - 1))
+unfolding sizeOf
+size-named name s h = rw (ne-eqb s 0 (omega arith))
+
+pub size-empty : (l : Bytes) → length l ≡ 0 → soundSize (some l) ≡ false
+unfolding soundSize
+size-empty [] h = refl
+size-empty (x ∷ l) h = absurd (let z : ⊥ = omega arith in z)
+
+pub size-some : (l : Bytes) → 0 < length l → soundSize (some l) ≡ each isWordByte l
+unfolding soundSize each
+size-some [] h = absurd (let z : ⊥ = omega arith in z)
+size-some (x ∷ l) h = refl

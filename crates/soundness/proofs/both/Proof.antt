@@ -1,0 +1,14 @@
+use Rattle.rast.specs.Bytes.{_and_}
+use Rattle.soundness.proofs.both.Statement.{statement}
+use Rattle.soundness.proofs.both.Tie as tie
+
+returns : tie.Need-returns
+unfolding _and_
+returns c = rw (c .if1 .taken)
+
+returns-2 : tie.Need-returns-2
+unfolding _and_
+returns-2 c = rw (c .if1 .left)
+
+pub both-spec : {M : Type 1} → statement M
+both-spec = tie.close (tie.spec returns returns-2)

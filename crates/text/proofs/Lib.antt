@@ -1,0 +1,2 @@
+-- Laws of the text calls' answers and buffers.
+pub mod Calls

@@ -1,0 +1,80 @@
+use lib.ListN.{length}
+use Rattle.rast.specs.ToString.{Path·ToString}
+use Rattle.encoding.specs.declared.PathAt.{PathAt}
+use Rattle.encoding.specs.Tables.{nameBytes, nameCount}
+use Rattle.encoding.specs.Reading.{whole}
+use Rattle.encoding.specs.Heads.{readPath}
+use Rattle.encoding.specs.Types.{pathOf}
+use Rattle.encoding.proofs.Reading.{path-got, path-stop}
+use Rattle.encoding.proofs.Inside.{path-lies}
+use Rattle.text.proofs.Calls.{map-twice, text-stop, text-left, text-short, text-done}
+use native.Mathlib.Omega.{arith}
+use borrow.Author.Needs.{needs}
+use Rattle.text.proofs.fill_path.Statement.{statement}
+use Rattle.text.proofs.fill_path.Tie as tie
+
+name-count-requires : tie.Need-name-count-requires
+name-count-requires c κs = search needs
+
+scan-path-requires : tie.Need-scan-path-requires
+scan-path-requires c κs = search needs
+
+enum-known-path : tie.Need-enum-known-path
+enum-known-path c = search needs
+
+returns : tie.Need-returns
+returns c =
+    let a = c .before .before .before .before .before .before .before .before .before .before .args in
+    let m = path-got (readPath (nameCount (a .pairs .now)) (a .words .now) 0) (rw (c .before .before .before .before .before .name-count .ensures) at (c .before .before .before .before .scan-path .ensures)) (c .before .before .path .given .1) in
+    rw (map-twice Path·ToString (pathOf (a .words .now) (nameBytes (a .pairs .now) (a .text .now))) (whole (length (a .words .now)) (readPath (nameCount (a .pairs .now)) (a .words .now) 0))) (text-left (λ (p : PathAt). Path·ToString (pathOf (a .words .now) (nameBytes (a .pairs .now) (a .text .now)) p)) (length (a .words .now)) (a .out .now) (readPath (nameCount (a .pairs .now)) (a .words .now) 0) m (c .if1 .taken))
+
+path-length-requires : tie.Need-path-length-requires
+path-length-requires c κs =
+    let a = c .before .before .before .before .before .before .before .before .before .before .args in
+    let m = path-got (readPath (nameCount (a .pairs .now)) (a .words .now) 0) (rw (c .before .before .before .before .before .name-count .ensures) at (c .before .before .before .before .scan-path .ensures)) (c .before .before .path .given .1) in
+    (path-lies _ _ _ m .own, c .before .before .before .before .before .before .before .before .before .before .pre .0, c .before .before .before .before .before .before .before .before .before .before .pre .1, c .before .before .before .before .before .before .before .before .before .before .pre .2)
+
+returns-2 : tie.Need-returns-2
+returns-2 c =
+    let a = c .before .before .before .before .before .before .before .before .before .before .before .before .args in
+    let m = path-got (readPath (nameCount (a .pairs .now)) (a .words .now) 0) (rw (c .before .before .before .before .before .before .before .name-count .ensures) at (c .before .before .before .before .before .before .scan-path .ensures)) (c .before .before .before .before .path .given .1) in
+    rw (map-twice Path·ToString (pathOf (a .words .now) (nameBytes (a .pairs .now) (a .text .now))) (whole (length (a .words .now)) (readPath (nameCount (a .pairs .now)) (a .words .now) 0))) (text-short (λ (p : PathAt). Path·ToString (pathOf (a .words .now) (nameBytes (a .pairs .now) (a .text .now)) p)) (length (a .words .now)) (a .out .now) (readPath (nameCount (a .pairs .now)) (a .words .now) 0) m (c .before .before .if1 .left) (omega (arith, c .if2 .taken, c .before .path-length .ensures)))
+
+put-path-requires : tie.Need-put-path-requires
+put-path-requires c κs =
+    let a = c .before .before .before .before .before .before .before .before .before .before .before .before .before .args in
+    let m = path-got (readPath (nameCount (a .pairs .now)) (a .words .now) 0) (rw (c .before .before .before .before .before .before .before .before .name-count .ensures) at (c .before .before .before .before .before .before .before .scan-path .ensures)) (c .before .before .before .before .before .path .given .1) in
+    (path-lies _ _ _ m .own, c .before .before .before .before .before .before .before .before .before .before .before .before .before .pre .0, omega (arith, c .before .if2 .left, c .before .before .path-length .ensures))
+
+enum-known-r : tie.Need-enum-known-r
+enum-known-r c = search needs
+
+same-length : tie.Need-same-length
+same-length c = search needs
+
+returns-3 : tie.Need-returns-3
+returns-3 c =
+    let a = c .before .before .before .before .before .before .before .before .before .before .before .before .before .before .before .before .args in
+    let m = path-got (readPath (nameCount (a .pairs .now)) (a .words .now) 0) (rw (c .before .before .before .before .before .before .before .before .before .before .before .name-count .ensures) at (c .before .before .before .before .before .before .before .before .before .before .scan-path .ensures)) (c .before .before .before .before .before .before .before .before .path .given .1) in
+    rw (map-twice Path·ToString (pathOf (a .words .now) (nameBytes (a .pairs .now) (a .text .now))) (whole (length (a .words .now)) (readPath (nameCount (a .pairs .now)) (a .words .now) 0))) (text-done (λ (p : PathAt). Path·ToString (pathOf (a .words .now) (nameBytes (a .pairs .now) (a .text .now)) p)) (length (a .words .now)) (a .out .now) (readPath (nameCount (a .pairs .now)) (a .words .now) 0) _ m (c .before .before .before .before .before .before .if1 .left) (omega (arith, c .before .before .before .before .if2 .left, c .before .before .before .before .before .path-length .ensures)) (c .before .before .before .before .before .path-length .ensures) (c .before .before .put-path .ensures .bytes))
+
+returns-4 : tie.Need-returns-4
+returns-4 c =
+    let a = c .before .before .before .before .before .before .before .before .before .args in
+    rw (map-twice Path·ToString (pathOf (a .words .now) (nameBytes (a .pairs .now) (a .text .now))) (whole (length (a .words .now)) (readPath (nameCount (a .pairs .now)) (a .words .now) 0))) (text-stop (λ (p : PathAt). Path·ToString (pathOf (a .words .now) (nameBytes (a .pairs .now) (a .text .now)) p)) (length (a .words .now)) (a .out .now) (readPath (nameCount (a .pairs .now)) (a .words .now) 0) (path-stop (readPath (nameCount (a .pairs .now)) (a .words .now) 0) (rw (c .before .before .before .before .name-count .ensures) at (c .before .before .before .scan-path .ensures)) (c .before .r .given .1)))
+
+pub fill-path-spec : {M : Type 1} → statement M
+fill-path-spec =
+    tie.close
+    (tie.spec
+    name-count-requires
+    scan-path-requires
+    enum-known-path
+    returns
+    path-length-requires
+    returns-2
+    put-path-requires
+    enum-known-r
+    same-length
+    returns-3
+    returns-4)

@@ -1,0 +1,71 @@
+use mathlib.Core.Path.{_≡_, ap, _∙_}
+use lib.ListN.{length}
+use lib.Seq.{sets}
+use Rattle.rast.specs.Bytes.{Bytes}
+use Rattle.rast.specs.Tree.{Ty}
+use Rattle.rast.specs.ToString.{Type·ToString}
+use Rattle.encoding.specs.Types.{typeAt}
+use Rattle.text.proofs.Calls.{measured-got, measured-stop, text-stop, text-left, text-short, text-done}
+use native.Mathlib.Omega.{arith}
+use borrow.Author.Needs.{needs}
+use Rattle.text.proofs.fill_type.Statement.{statement}
+use Rattle.text.proofs.fill_type.Tie as tie
+
+measure-type-requires : tie.Need-measure-type-requires
+measure-type-requires c κs =
+    let a = c .before .before .before .before .args in
+    (c .before .before .before .before .pre .0, c .before .before .before .before .pre .1, c .before .before .before .before .pre .2, omega arith)
+
+enum-known-next : tie.Need-enum-known-next
+enum-known-next c = search needs
+
+returns : tie.Need-returns
+returns c =
+    let a = c .before .before .before .before .before .before .before .before .before .args in
+    let m = measured-got (typeAt (a .words .now) (a .pairs .now) (a .text .now) 0) (c .before .before .before .before .measure-type .ensures) (c .before .before .next .given .1) in
+    text-left Type·ToString (length (a .words .now)) (a .out .now) (typeAt (a .words .now) (a .pairs .now) (a .text .now) 0) (m .reads) (c .if1 .taken)
+
+returns-2 : tie.Need-returns-2
+returns-2 c =
+    let a = c .before .before .before .before .before .before .before .before .before .before .args in
+    let m = measured-got (typeAt (a .words .now) (a .pairs .now) (a .text .now) 0) (c .before .before .before .before .before .measure-type .ensures) (c .before .before .before .next .given .1) in
+    text-short Type·ToString (length (a .words .now)) (a .out .now) (typeAt (a .words .now) (a .pairs .now) (a .text .now) 0) (m .reads) (c .before .if1 .left) (omega (arith, c .if2 .taken, m .size))
+
+write-type-requires : tie.Need-write-type-requires
+write-type-requires c κs =
+    let a = c .before .before .before .before .before .before .before .before .before .before .before .args in
+    let m = measured-got (typeAt (a .words .now) (a .pairs .now) (a .text .now) 0) (c .before .before .before .before .before .before .measure-type .ensures) (c .before .before .before .before .next .given .1) in
+    (c .before .before .before .before .before .before .before .before .before .before .before .pre .0, record { value = m .type; end = _; reads = m .reads; room = omega (arith, c .before .if2 .left, m .size) })
+
+enum-known-r : tie.Need-enum-known-r
+enum-known-r c = search needs
+
+same-length : tie.Need-same-length
+same-length c = search needs
+
+returns-3 : tie.Need-returns-3
+returns-3 c =
+    let a = c .before .before .before .before .before .before .before .before .before .before .before .before .before .before .args in
+    let m = measured-got (typeAt (a .words .now) (a .pairs .now) (a .text .now) 0) (c .before .before .before .before .before .before .before .before .before .measure-type .ensures) (c .before .before .before .before .before .before .before .next .given .1) in
+    let w = c .before .before .write-type .ensures in
+    let v : w .value ≡ m .type = cc (w .reads, m .reads) in
+    text-done Type·ToString (length (a .words .now)) (a .out .now) (typeAt (a .words .now) (a .pairs .now) (a .text .now) 0) _ (m .reads) (c .before .before .before .before .before .if1 .left) (omega (arith, c .before .before .before .before .if2 .left, m .size)) (m .size) (w .wrote .bytes ∙ ap (λ (t : Ty Bytes). sets (a .out .now) 0 (Type·ToString t)) v)
+
+returns-4 : tie.Need-returns-4
+returns-4 c =
+    let a = c .before .before .before .before .before .before .before .before .args in
+    text-stop Type·ToString (length (a .words .now)) (a .out .now) (typeAt (a .words .now) (a .pairs .now) (a .text .now) 0) (measured-stop (typeAt (a .words .now) (a .pairs .now) (a .text .now) 0) (c .before .before .before .measure-type .ensures) (c .before .r .given .1))
+
+pub fill-type-spec : {M : Type 1} → statement M
+fill-type-spec =
+    tie.close
+    (tie.spec
+    measure-type-requires
+    enum-known-next
+    returns
+    returns-2
+    write-type-requires
+    enum-known-r
+    same-length
+    returns-3
+    returns-4)

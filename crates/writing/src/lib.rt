@@ -1,0 +1,415 @@
+// Writing the texts of paths and types that were accepted, into a buffer that has room for them.
+ghost use mathlib.Core.Path.{_≡_};
+ghost use Prim.Native.Nat.{_+_, _≤_, _<_};
+ghost use lib.ListN.{length, getD};
+ghost use Rattle.rast.specs.Tree.{U8};
+ghost use Rattle.rast.specs.ToString.{Path·ToString, Primitive·ToString, Type·ToString, commaText};
+ghost use Rattle.output.specs.Wrote.{Wrote};
+ghost use Rattle.encoding.specs.Tables.{Good, nameBytes, nameCount};
+ghost use Rattle.encoding.specs.Heads.{InsidePath};
+ghost use Rattle.encoding.specs.Types.{primitives, rootOf, pathOf, sizeOf, readTypes, typeAt};
+ghost use Rattle.encoding.specs.declared.Head.the-variants.{Apply, Tuple, Function, Both, ArrayOf, Synonym};
+ghost use Rattle.writing.specs.Written.{Readable, EndsAt, Room, Written, Front, PartWritten, nodeAt, memberText, endText};
+use encoding::HeadScan;
+use encoding::PathAt;
+
+// Where a writer has come to: in the words, and in the buffer.
+pub struct Spot {
+    pub next: usize,
+    pub pos: usize,
+}
+
+// A type of which all is written, or all but the type at `next` that ends it.
+pub enum Part {
+    Rest(Spot),
+    Done(Spot),
+}
+
+// ---- what has no types in it
+
+fn put_primitive(kind: u32, out: &mut [u8], pos: usize) -> usize
+    requires { ⌜ (kind < 12) × (pos + length (Primitive·ToString (getD primitives kind U8)) ≤ length (now out)) ⌝ }
+    ensures { λ r. ⌜ Wrote (now (out .entry)) pos (Primitive·ToString (getD primitives kind U8)) (now (out .exit)) r ⌝ }
+{
+    match kind {
+        0 => output::put(b"u8", out, pos),
+        1 => output::put(b"u16", out, pos),
+        2 => output::put(b"u32", out, pos),
+        3 => output::put(b"u64", out, pos),
+        4 => output::put(b"u128", out, pos),
+        5 => output::put(b"i8", out, pos),
+        6 => output::put(b"i16", out, pos),
+        7 => output::put(b"i32", out, pos),
+        8 => output::put(b"i64", out, pos),
+        9 => output::put(b"i128", out, pos),
+        10 => output::put(b"usize", out, pos),
+        _ => output::put(b"bool", out, pos),
+    }
+}
+
+fn put_root(root: u32, out: &mut [u8], pos: usize) -> usize
+    requires { ⌜ pos + length (Path·ToString (rootOf root)) ≤ length (now out) ⌝ }
+    ensures { λ r. ⌜ Wrote (now (out .entry)) pos (Path·ToString (rootOf root)) (now (out .exit)) r ⌝ }
+{
+    match root {
+        0 => pos,
+        1 => output::put(b"crate", out, pos),
+        _ => output::put(b"Self", out, pos),
+    }
+}
+
+// One more name of a path.
+fn put_member(pairs: &[u32], text: &[u8], name: u32, out: &mut [u8], pos: usize) -> usize
+    requires { ⌜ (name < nameCount (now pairs)) × Good (now pairs) (now text)
+        × (pos + length (memberText (nameBytes (now pairs) (now text) name)) ≤ length (now out)) ⌝ }
+    ensures { λ r. ⌜ Wrote (now (out .entry)) pos (memberText (nameBytes (now (pairs .entry)) (now (text .entry)) name)) (now (out .exit)) r ⌝ }
+{
+    let p = output::put(b"::", out, pos);
+    encoding::put_name(pairs, text, name, out, p)
+}
+
+pub fn put_path(
+    words: &[u32],
+    pairs: &[u32],
+    text: &[u8],
+    path: PathAt,
+    out: &mut [u8],
+    pos: usize,
+) -> usize
+    requires { ⌜ InsidePath (nameCount (now pairs)) (now words) path × Good (now pairs) (now text)
+        × (pos + length (Path·ToString (pathOf (now words) (nameBytes (now pairs) (now text)) path)) ≤ length (now out)) ⌝ }
+    ensures { λ r. ⌜ Wrote (now (out .entry)) pos (Path·ToString (pathOf (now (words .entry)) (nameBytes (now (pairs .entry)) (now (text .entry))) path)) (now (out .exit)) r ⌝ }
+{
+    let start = path.start;
+    let end = start + path.count as usize;
+    let mut p = put_root(path.root, out, pos);
+    let mut i = start;
+    while i < end {
+        p = put_member(pairs, text, words[i], out, p);
+        i += 1;
+    }
+    p
+}
+
+// The end of an array's text.
+fn put_size(pairs: &[u32], text: &[u8], size: u32, out: &mut [u8], pos: usize) -> usize
+    requires { ⌜ (size < nameCount (now pairs) + 1) × Good (now pairs) (now text)
+        × (pos + length (endText (sizeOf (nameBytes (now pairs) (now text)) size)) ≤ length (now out)) ⌝ }
+    ensures { λ r. ⌜ Wrote (now (out .entry)) pos (endText (sizeOf (nameBytes (now (pairs .entry)) (now (text .entry))) size)) (now (out .exit)) r ⌝ }
+{
+    if size == 0 {
+        return output::put(b"]", out, pos);
+    }
+    let p = output::put(b"; ", out, pos);
+    let q = encoding::put_name(pairs, text, size - 1, out, p);
+    output::put(b"]", out, q)
+}
+
+// Where the type at `at`, which was accepted, ends: each type read leaves as many due as follow its head.
+fn skip_type(words: &[u32], pairs: &[u32], text: &[u8], at: usize) -> usize
+    requires { ⌜ Readable (typeAt (now words) (now pairs) (now text) at) ⌝ }
+    ensures { λ r. ⌜ EndsAt (typeAt (now (words .entry)) (now (pairs .entry)) (now (text .entry)) at) r ⌝ }
+{
+    let bound = encoding::name_count(pairs);
+    let mut due: usize = 1;
+    let mut place = at;
+    while 0 < due {
+        let HeadScan::Own { head, next } = encoding::scan_head(words, bound, place) else {
+            return place;
+        };
+        due = due - 1 + encoding::kids_of(head);
+        place = next;
+    }
+    place
+}
+
+// A type of kind 0 to 13: no other type stands in it.
+fn write_leaf(
+    words: &[u32],
+    pairs: &[u32],
+    text: &[u8],
+    at: usize,
+    out: &mut [u8],
+    pos: usize,
+) -> Spot
+    requires { ⌜ (getD (now words) at 0 < 14) × Good (now pairs) (now text) × Room (now out) pos Type·ToString (typeAt (now words) (now pairs) (now text) at) ⌝ }
+    ensures { λ r. ⌜ Written (now (out .entry)) pos Type·ToString (typeAt (now (words .entry)) (now (pairs .entry)) (now (text .entry)) at) (now (out .exit)) r ⌝ }
+{
+    let w = words[at];
+    if w < 12 {
+        return Spot {
+            next: at + 1,
+            pos: put_primitive(w, out, pos),
+        };
+    }
+    if w == 12 {
+        return Spot {
+            next: at + 2,
+            pos: encoding::put_name(pairs, text, words[at + 1], out, pos),
+        };
+    }
+    let start = at + 3;
+    let count = words[at + 2];
+    let path = PathAt {
+        root: words[at + 1],
+        start,
+        count,
+    };
+    Spot {
+        next: start + count as usize,
+        pos: put_path(words, pairs, text, path, out, pos),
+    }
+}
+
+// ---- types, and lists of them
+
+// The type at `at`, which was accepted and for whose text there is room. A type that ends with another goes on in the next turn.
+pub fn write_type(
+    words: &[u32],
+    pairs: &[u32],
+    text: &[u8],
+    at: usize,
+    out: &mut [u8],
+    pos: usize,
+) -> Spot
+    requires { ⌜ Good (now pairs) (now text) × Room (now out) pos Type·ToString (typeAt (now words) (now pairs) (now text) at) ⌝ }
+    ensures { λ r. ⌜ Written (now (out .entry)) pos Type·ToString (typeAt (now (words .entry)) (now (pairs .entry)) (now (text .entry)) at) (now (out .exit)) r ⌝ }
+{
+    let mut place = at;
+    let mut p = pos;
+    loop {
+        match write_head(words, pairs, text, place, out, p) {
+            Part::Rest(spot) => {
+                place = spot.next;
+                p = spot.pos;
+            }
+            Part::Done(spot) => {
+                return spot;
+            }
+        }
+    }
+}
+
+// A type, or all of it but the type that ends it.
+fn write_head(
+    words: &[u32],
+    pairs: &[u32],
+    text: &[u8],
+    at: usize,
+    out: &mut [u8],
+    pos: usize,
+) -> Part
+    requires { ⌜ Good (now pairs) (now text) × Room (now out) pos Type·ToString (typeAt (now words) (now pairs) (now text) at) ⌝ }
+    ensures { λ r. ⌜ PartWritten (typeAt (now (words .entry)) (now (pairs .entry)) (now (text .entry))) (at + 1) (now (out .entry)) pos (typeAt (now (words .entry)) (now (pairs .entry)) (now (text .entry)) at) (now (out .exit)) r ⌝ }
+{
+    let w = words[at];
+    if w < 14 {
+        return Part::Done(write_leaf(words, pairs, text, at, out, pos));
+    }
+    match w {
+        14 => Part::Done(write_apply(words, pairs, text, at + 2, words[at + 1], out, pos)),
+        15 => Part::Rest(Spot {
+            next: at + 1,
+            pos: output::put(b"&", out, pos),
+        }),
+        16 => Part::Rest(Spot {
+            next: at + 1,
+            pos: output::put(b"&mut ", out, pos),
+        }),
+        17 => Part::Rest(Spot {
+            next: at + 1,
+            pos: output::put(b"impl ", out, pos),
+        }),
+        18 => Part::Rest(Spot {
+            next: at + 1,
+            pos: output::put(b"dyn ", out, pos),
+        }),
+        19 => Part::Done(write_tuple(words, pairs, text, at + 2, words[at + 1], out, pos)),
+        20 => Part::Rest(write_inputs(words, pairs, text, at + 2, words[at + 1], out, pos)),
+        21 => Part::Rest(write_left(words, pairs, text, at + 1, out, pos)),
+        22 => Part::Done(write_array(words, pairs, text, at + 2, words[at + 1], out, pos)),
+        23 => Part::Done(write_synonym(words, pairs, text, at + 1, out, pos)),
+        _ => Part::Rest(Spot { next: at + 2, pos }),
+    }
+}
+
+// A type that stands in another: most are leaves, and need no further call.
+fn write_part(
+    words: &[u32],
+    pairs: &[u32],
+    text: &[u8],
+    at: usize,
+    out: &mut [u8],
+    pos: usize,
+) -> Spot
+    requires { ⌜ Good (now pairs) (now text) × Room (now out) pos Type·ToString (typeAt (now words) (now pairs) (now text) at) ⌝ }
+    ensures { λ r. ⌜ Written (now (out .entry)) pos Type·ToString (typeAt (now (words .entry)) (now (pairs .entry)) (now (text .entry)) at) (now (out .exit)) r ⌝ }
+{
+    if words[at] < 14 {
+        return write_leaf(words, pairs, text, at, out, pos);
+    }
+    write_type(words, pairs, text, at, out, pos)
+}
+
+// `n` types, with a comma and a space between them.
+fn write_list(
+    words: &[u32],
+    pairs: &[u32],
+    text: &[u8],
+    at: usize,
+    n: u32,
+    out: &mut [u8],
+    pos: usize,
+) -> Spot
+    requires { ⌜ (0 < n) × Good (now pairs) (now text) × Room (now out) pos commaText (readTypes (typeAt (now words) (now pairs) (now text)) n at) ⌝ }
+    ensures { λ r. ⌜ Written (now (out .entry)) pos commaText (readTypes (typeAt (now (words .entry)) (now (pairs .entry)) (now (text .entry))) n at) (now (out .exit)) r ⌝ }
+{
+    let mut place = at;
+    let mut p = pos;
+    let mut left = n;
+    loop {
+        let spot = write_part(words, pairs, text, place, out, p);
+        left -= 1;
+        if left == 0 {
+            return spot;
+        }
+        place = spot.next;
+        p = output::put(b", ", out, spot.pos);
+    }
+}
+
+// A base, and its `n` arguments if there are any.
+fn write_apply(
+    words: &[u32],
+    pairs: &[u32],
+    text: &[u8],
+    at: usize,
+    n: u32,
+    out: &mut [u8],
+    pos: usize,
+) -> Spot
+    requires { ⌜ Good (now pairs) (now text) × Room (now out) pos Type·ToString (nodeAt (now words) (now pairs) (now text) (Apply n) at) ⌝ }
+    ensures { λ r. ⌜ Written (now (out .entry)) pos Type·ToString (nodeAt (now (words .entry)) (now (pairs .entry)) (now (text .entry)) (Apply n) at) (now (out .exit)) r ⌝ }
+{
+    let base = write_part(words, pairs, text, at, out, pos);
+    if n == 0 {
+        return base;
+    }
+    let p = output::put(b"<", out, base.pos);
+    let list = write_list(words, pairs, text, base.next, n, out, p);
+    Spot {
+        next: list.next,
+        pos: output::put(b">", out, list.pos),
+    }
+}
+
+fn write_tuple(
+    words: &[u32],
+    pairs: &[u32],
+    text: &[u8],
+    at: usize,
+    n: u32,
+    out: &mut [u8],
+    pos: usize,
+) -> Spot
+    requires { ⌜ Good (now pairs) (now text) × Room (now out) pos Type·ToString (nodeAt (now words) (now pairs) (now text) (Tuple n) at) ⌝ }
+    ensures { λ r. ⌜ Written (now (out .entry)) pos Type·ToString (nodeAt (now (words .entry)) (now (pairs .entry)) (now (text .entry)) (Tuple n) at) (now (out .exit)) r ⌝ }
+{
+    if n == 0 {
+        return Spot {
+            next: at,
+            pos: output::put(b"()", out, pos),
+        };
+    }
+    let p = output::put(b"(", out, pos);
+    let list = write_list(words, pairs, text, at, n, out, p);
+    Spot {
+        next: list.next,
+        pos: output::put(b")", out, list.pos),
+    }
+}
+
+// A function type up to its return type.
+fn write_inputs(
+    words: &[u32],
+    pairs: &[u32],
+    text: &[u8],
+    at: usize,
+    n: u32,
+    out: &mut [u8],
+    pos: usize,
+) -> Spot
+    requires { ⌜ Good (now pairs) (now text) × Room (now out) pos Type·ToString (nodeAt (now words) (now pairs) (now text) (Function n) at) ⌝ }
+    ensures { λ r. ⌜ Front (typeAt (now (words .entry)) (now (pairs .entry)) (now (text .entry))) at (now (out .entry)) pos (nodeAt (now (words .entry)) (now (pairs .entry)) (now (text .entry)) (Function n) at) (now (out .exit)) r ⌝ }
+{
+    let p = output::put(b"::std::ops::Fn(", out, pos);
+    if n == 0 {
+        return Spot {
+            next: at,
+            pos: output::put(b") -> ", out, p),
+        };
+    }
+    let list = write_list(words, pairs, text, at, n, out, p);
+    Spot {
+        next: list.next,
+        pos: output::put(b") -> ", out, list.pos),
+    }
+}
+
+// An intersection up to its right side.
+fn write_left(
+    words: &[u32],
+    pairs: &[u32],
+    text: &[u8],
+    at: usize,
+    out: &mut [u8],
+    pos: usize,
+) -> Spot
+    requires { ⌜ Good (now pairs) (now text) × Room (now out) pos Type·ToString (nodeAt (now words) (now pairs) (now text) Both at) ⌝ }
+    ensures { λ r. ⌜ Front (typeAt (now (words .entry)) (now (pairs .entry)) (now (text .entry))) at (now (out .entry)) pos (nodeAt (now (words .entry)) (now (pairs .entry)) (now (text .entry)) Both at) (now (out .exit)) r ⌝ }
+{
+    let left = write_type(words, pairs, text, at, out, pos);
+    Spot {
+        next: left.next,
+        pos: output::put(b" + ", out, left.pos),
+    }
+}
+
+fn write_array(
+    words: &[u32],
+    pairs: &[u32],
+    text: &[u8],
+    at: usize,
+    size: u32,
+    out: &mut [u8],
+    pos: usize,
+) -> Spot
+    requires { ⌜ (size < nameCount (now pairs) + 1) × Good (now pairs) (now text) × Room (now out) pos Type·ToString (nodeAt (now words) (now pairs) (now text) (ArrayOf size) at) ⌝ }
+    ensures { λ r. ⌜ Written (now (out .entry)) pos Type·ToString (nodeAt (now (words .entry)) (now (pairs .entry)) (now (text .entry)) (ArrayOf size) at) (now (out .exit)) r ⌝ }
+{
+    let p = output::put(b"[", out, pos);
+    let element = write_type(words, pairs, text, at, out, p);
+    Spot {
+        next: element.next,
+        pos: put_size(pairs, text, size, out, element.pos),
+    }
+}
+
+// The display is written, and the base passed over.
+fn write_synonym(
+    words: &[u32],
+    pairs: &[u32],
+    text: &[u8],
+    at: usize,
+    out: &mut [u8],
+    pos: usize,
+) -> Spot
+    requires { ⌜ Good (now pairs) (now text) × Room (now out) pos Type·ToString (nodeAt (now words) (now pairs) (now text) Synonym at) ⌝ }
+    ensures { λ r. ⌜ Written (now (out .entry)) pos Type·ToString (nodeAt (now (words .entry)) (now (pairs .entry)) (now (text .entry)) Synonym at) (now (out .exit)) r ⌝ }
+{
+    let display = write_type(words, pairs, text, at, out, pos);
+    Spot {
+        next: skip_type(words, pairs, text, display.next),
+        pos: display.pos,
+    }
+}
