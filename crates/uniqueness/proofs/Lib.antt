@@ -1,0 +1,2 @@
+-- The theorem over encodings, from the theorem over trees.
+pub mod EqualText
