@@ -102,7 +102,11 @@ pub fn path_text(encoding: &Encoding<'_>, level: u32, out: &mut [u8]) -> Result<
 /// assert_eq!(type_is_sound(&borrowed_sum), Ok(false));
 /// ```
 pub fn type_is_sound(encoding: &Encoding<'_>) -> Result<bool, Refusal> {
-    answer(ffi::type_is_sound(encoding)).map(|yes| yes != 0)
+    answer(ffi::type_is_sound(encoding)).map(|yes| match yes {
+        0 => false,
+        1 => true,
+        other => unreachable!("the library answers 0 or 1, not {other}"),
+    })
 }
 
 /// Takes a number of the library apart: below 2^63 it is a result, from there on a refusal.

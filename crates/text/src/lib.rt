@@ -71,12 +71,12 @@ fn fill_path(words: &[u32], pairs: &[u32], text: &[u8], out: &mut [u8]) -> TextA
             if next != words.len() {
                 return TextAnswer::Refused(Refusal::LeftOver);
             }
-            let bytes = measure::path_length(words, pairs, text, path);
-            if out.len() < bytes {
+            let size = measure::path_length(words, pairs, text, path);
+            if out.len() < size {
                 return TextAnswer::Refused(Refusal::BufferTooShort);
             }
             writing::put_path(words, pairs, text, path, out, 0);
-            TextAnswer::Length(bytes)
+            TextAnswer::Length(size)
         }
         PathScan::NoPath(r) => TextAnswer::Refused(r),
     }

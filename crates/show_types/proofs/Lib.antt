@@ -1,0 +1,2 @@
+-- A law of the text calls that the proofs cite.
+pub mod Within

@@ -1,0 +1,41 @@
+-- The length that a text call answers lies within the buffer, by the call's contract.
+use Prim.Native.Nat.{ℕ, _≤_}
+use mathlib.Core.Path.{_≡_, ap}
+use mathlib.Core.Bool.{Bool, true, false}
+use mathlib.Core.List.{List, _++_}
+use native.Mathlib.Omega.{arith}
+use lib.Dec.{leb}
+use lib.ListN.{length, drop, length-append}
+use Rattle.rast.specs.Bytes.{Bytes}
+use Rattle.encoding.specs.declared.Refusal.the-variants.{BufferTooShort}
+use Rattle.encoding.specs.Refusals.{Answer, given, refused, pick}
+use Rattle.text.specs.declared.TextAnswer.{TextAnswer}
+use Rattle.text.specs.declared.TextAnswer.the-variants.{Length, Refused}
+use Rattle.text.specs.Calls.{filled}
+
+answer-of : TextAnswer × List ℕ → TextAnswer
+answer-of p = p .0
+
+buffer-of : TextAnswer × List ℕ → List ℕ
+buffer-of p = p .1
+
+module _ (o after : List ℕ) (r : TextAnswer) (n : ℕ) (q : r ≡ Length n) where
+  within-picked : (fits : Bool) (b : Bytes)
+      → _≡_ {A = TextAnswer × List ℕ} (r, after) (pick fits (Length (length b), b ++ drop (length b) o) (Refused BufferTooShort, o))
+      → n ≤ length after
+  unfolding answer-of buffer-of
+  within-picked true b e =
+      let p : r ≡ Length (length b) = ap answer-of e in
+      let m : n ≡ length b = cc in
+      let l : after ≡ b ++ drop (length b) o = ap buffer-of e in
+      rw l (simp length-append (omega arith))
+  within-picked false b e =
+      let p : r ≡ Refused BufferTooShort = ap answer-of e in
+      let z : _≡_ {A = ℕ} 0 1 = cc in omega arith
+
+  pub within : (a : Answer Bytes) → _≡_ {A = TextAnswer × List ℕ} (r, after) (filled o a) → n ≤ length after
+  unfolding filled answer-of
+  within (given b) e = within-picked (leb (length b) (length o)) b e
+  within (refused x) e =
+      let p : r ≡ Refused x = ap answer-of e in
+      let z : _≡_ {A = ℕ} 0 1 = cc in omega arith

@@ -1,0 +1,2 @@
+-- Laws of lists that the proofs share.
+pub mod Fronts

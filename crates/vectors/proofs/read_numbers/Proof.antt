@@ -1,0 +1,41 @@
+use borrow.Author.Needs.{needs}
+use Rattle.vectors.proofs.Fronts.{front-lent}
+use Rattle.vectors.proofs.read_numbers.Statement.{statement}
+use Rattle.vectors.proofs.read_numbers.Tie as tie
+
+mul-size : tie.Need-mul-size
+mul-size c = search needs
+
+array-borrow-prefix-bytes : tie.Need-array-borrow-prefix-bytes
+array-borrow-prefix-bytes c = search needs
+
+slice-aggregate-read-full : tie.Need-slice-aggregate-read-full
+slice-aggregate-read-full c = front-lent _ _ (array-borrow-prefix-bytes (c .before))
+
+read-full-requires : tie.Need-read-full-requires
+read-full-requires c κs = search needs
+
+returns : tie.Need-returns
+returns c = search needs
+
+decode-requires : tie.Need-decode-requires
+decode-requires c κs = search needs
+
+same-length : tie.Need-same-length
+same-length c = search needs
+
+returns-2 : tie.Need-returns-2
+returns-2 c = search needs
+
+pub read-numbers-spec : {M : Type 1} → statement M
+read-numbers-spec =
+    tie.close
+    (tie.spec
+    mul-size
+    array-borrow-prefix-bytes
+    slice-aggregate-read-full
+    read-full-requires
+    returns
+    decode-requires
+    same-length
+    returns-2)
