@@ -6,13 +6,15 @@ use mathlib.Core.List.{List, [], _∷_}
 use native.Mathlib.Omega.{arith}
 use native.Mathlib.Numerals.{add-one, add-two}
 use native.Mathlib.Decide.{ℕ-discrete, decLt}
-use borrow.Author.Tests.{lt-ltb, le-ltb, le-leb, lt-leb, eqb-true, leb-true}
-use lib.Dec.{eqb, leb}
+use borrow.Author.Tests.{lt-ltb, le-ltb, le-leb, lt-leb, eqb-true, leb-true, ltb-false}
+use lib.Dec.{eqb, leb, ltb}
 use lib.ListN.{length, getD, take, drop, drop-of-length-le, length-take, length-drop}
 use lib.Seq.{drop-cons}
-use Rattle.rast.specs.Bytes.{Bytes, ascii, same, _and_}
+use Rattle.rast.specs.Bytes.{Bytes, ascii, same, _and_, _or_}
+use Rattle.encoding.specs.declared.Refusal.the-variants.{Overlong, BadPair}
+use Rattle.encoding.specs.declared.Check.the-variants.{Passed, Failed}
 use Rattle.encoding.specs.Refusals.{pick}
-use Rattle.encoding.specs.Tables.{goodPairs, Good, fixedNames, nameBytes, nameLength, nameCount, pairBytes}
+use Rattle.encoding.specs.Tables.{overlong, checkTables, goodPairs, Good, fixedNames, nameBytes, nameLength, nameCount, pairBytes}
 
 -- nothing holds where two numbers are one
 pub impossible : {A : Type 0} → _≡_ {A = ℕ} 0 1 → A
@@ -162,3 +164,29 @@ name-length pairs text x g h = go (decLt x 16)
         let k′ : 16 ≤ x = omega arith in
         let i = pair-inside pairs text x g k′ h in
         rw (name-pair pairs text x k′, length-pair pairs x k′) (simp (length-take, length-drop) (omega arith))
+
+-- ---- what passed tests say
+
+pub record Tables (words pairs : List ℕ) (text : Bytes) : Type 0 where
+  pub good : Good pairs text
+  pub few : length words ≤ 8192
+  pub pairs-few : length pairs / 2 ≤ 1024
+  pub short : length text ≤ 16384
+
+passed : (a b c g : Bool) → pick (a or b or c) (Failed Overlong) (pick g Passed (Failed BadPair)) ≡ Passed → (a ≡ false) × (b ≡ false) × (c ≡ false) × (g ≡ true)
+passed false false false true e = (refl, refl, refl, refl)
+passed false false false false e = impossible (cc)
+passed false false true g e = impossible (cc)
+passed false true c g e = impossible (cc)
+passed true b c g e = impossible (cc)
+
+pub tables-passed : (words pairs : List ℕ) (text : Bytes) → checkTables words pairs text ≡ Passed → Tables words pairs text
+unfolding checkTables overlong
+tables-passed words pairs text e =
+    let p = passed (ltb 8192 (length words)) (ltb 1024 (length pairs / 2)) (ltb 16384 (length text)) (goodPairs pairs 0 (length text)) e in
+    record {
+      good = p .3;
+      few = ltb-false 8192 (length words) (p .0);
+      pairs-few = ltb-false 1024 (length pairs / 2) (p .1);
+      short = ltb-false 16384 (length text) (p .2);
+    }

@@ -230,7 +230,7 @@ pub fn scan_below(words: &[u32], bound: usize, at: usize) -> WordScan
 }
 
 // `count` names.
-pub fn scan_names(words: &[u32], bound: usize, at: usize, count: u32) -> Scan
+fn scan_names(words: &[u32], bound: usize, at: usize, count: u32) -> Scan
     ensures { λ r. ⌜ r ≡ ended (readNames bound (now (words .entry)) count at) ⌝ }
 {
     let mut pos = at;

@@ -1,5 +1,5 @@
 -- The text of a path and of a type: `Path.ToString`, `Type.ToString`, `SeqToString`. The source's indent shows in neither and is left out.
-use mathlib.Core.List.{List, [], _∷_, _++_}
+use mathlib.Core.List.{_++_}
 use mathlib.Core.Option.{Option, some, none}
 use Rattle.rast.specs.Bytes.{Bytes, ascii}
 use Rattle.rast.specs.Tree.{Path, Global, Crate, Self, PMemberSelect, PrimitiveTy, U8, U16, U32, U64, U128, I8, I16, I32, I64, I128, USIZE, Bool·, Ty, Tys, Primitive, TIdentifier, TypeFromPath, TypeApp, Borrowed, BorrowedMut, ImplType, DynType, TupleType, FnType, IntersectionType, Array, TSynonym, TMetaData, nil, cons}

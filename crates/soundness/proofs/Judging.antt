@@ -5,23 +5,23 @@ use mathlib.Core.Bool.{Bool, true, false, not}
 use mathlib.Core.List.{List}
 use native.Mathlib.Omega.{arith}
 use native.Mathlib.Numerals.{add-one, sub-one}
-use borrow.Author.Tests.{lt-ltb, ltb-false, eq-eqb, ne-eqb}
+use borrow.Author.Tests.{lt-ltb, eq-eqb, ne-eqb}
 use lib.Dec.{ltb}
 use lib.ListN.{length}
-use Rattle.rast.specs.Bytes.{Bytes, _and_, _or_}
+use Rattle.rast.specs.Bytes.{Bytes, _and_}
 use Rattle.rast.specs.Tree.{Ty, Tys, Primitive, TIdentifier, TypeFromPath, TypeApp, Borrowed, BorrowedMut, ImplType, DynType, TupleType, FnType, IntersectionType, Array, TSynonym, TMetaData, nil, cons}
 use Rattle.rast.specs.Sound.{sound, sounds, isNamed, isIntersection, isEmpty}
 use Rattle.encoding.specs.declared.Refusal.{Refusal}
-use Rattle.encoding.specs.declared.Refusal.the-variants.{Overlong, BadPair, TooDeep, LeftOver}
-use Rattle.encoding.specs.declared.Check.the-variants.{Passed, Failed}
+use Rattle.encoding.specs.declared.Refusal.the-variants.{TooDeep, LeftOver}
+use Rattle.encoding.specs.declared.Check.the-variants.{Passed}
 use Rattle.encoding.specs.declared.Head.{Head}
 use Rattle.encoding.specs.declared.Head.the-variants.{Plain, Name, FromPath, Apply, Ref, RefMut, Impl, Dyn, Tuple, Function, Both, ArrayOf, Synonym, Meta}
 use Rattle.encoding.specs.Refusals.{pick, given, mapAnswer}
 use Rattle.encoding.specs.Reading.{Reading, got, stop, _>>=_, whole}
-use Rattle.encoding.specs.Tables.{overlong, goodPairs, checkTables}
+use Rattle.encoding.specs.Tables.{checkTables}
 use Rattle.encoding.specs.Heads.{readHead, kids}
 use Rattle.encoding.specs.Types.{readTypes, readNode, readType}
-use Rattle.encoding.proofs.Tables.{impossible}
+use Rattle.encoding.proofs.Tables.{impossible, tables-passed}
 use Rattle.encoding.proofs.Types.{made₂-got}
 use Rattle.soundness.specs.declared.SoundAnswer.the-variants.{Refused}
 use Rattle.soundness.specs.declared.Shape.{Shape}
@@ -299,13 +299,4 @@ whole-judged size (stop k) e d h = impossible (cc)
 
 -- tables that pass are ready for reading
 pub passed-ready : (words pairs : List ℕ) (text : Bytes) → checkTables words pairs text ≡ Passed → Ready pairs text
-unfolding checkTables overlong
-passed-ready words pairs text e = go (ltb 8192 (length words)) (ltb 1024 (length pairs / 2)) (ltb 16384 (length text)) (goodPairs pairs 0 (length text)) refl refl e
-  where
-    go : (a b c g : Bool) → ltb 1024 (length pairs / 2) ≡ b → goodPairs pairs 0 (length text) ≡ g
-        → pick (a or b or c) (Failed Overlong) (pick g Passed (Failed BadPair)) ≡ Passed → Ready pairs text
-    go true b c g d k e = impossible (cc)
-    go false true c g d k e = impossible (cc)
-    go false false true g d k e = impossible (cc)
-    go false false false false d k e = impossible (cc)
-    go false false false true d k e = let h = ltb-false 1024 (length pairs / 2) d in (k, omega arith)
+passed-ready words pairs text e = let t = tables-passed words pairs text e in (t .good, omega (arith, t .pairs-few))

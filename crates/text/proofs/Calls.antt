@@ -4,20 +4,17 @@ use mathlib.Core.Path.{_≡_, refl, ap, sym, _∙_}
 use mathlib.Core.Bool.{Bool, true, false}
 use mathlib.Core.List.{List, [], _∷_, _++_}
 use native.Mathlib.Omega.{arith}
-use borrow.Author.Tests.{ltb-false, le-leb, lt-leb, eq-eqb, ne-eqb}
-use lib.Dec.{ltb}
-use lib.ListN.{length, drop, set}
+use borrow.Author.Tests.{le-leb, lt-leb, eq-eqb, ne-eqb}
+use lib.Dec.{leb}
+use lib.ListN.{length, drop, set, length-append}
 use lib.Seq.{sets}
-use Rattle.rast.specs.Bytes.{Bytes, _or_}
+use Rattle.rast.specs.Bytes.{Bytes}
 use Rattle.rast.specs.Tree.{Ty}
 use Rattle.rast.specs.ToString.{Type·ToString}
 use Rattle.encoding.specs.declared.Refusal.{Refusal}
-use Rattle.encoding.specs.declared.Refusal.the-variants.{Overlong, BadPair, LeftOver, BufferTooShort}
-use Rattle.encoding.specs.declared.Check.{Check}
-use Rattle.encoding.specs.declared.Check.the-variants.{Passed, Failed}
-use Rattle.encoding.specs.Refusals.{pick, Answer, given, refused, mapAnswer, unless}
+use Rattle.encoding.specs.declared.Refusal.the-variants.{LeftOver, BufferTooShort}
+use Rattle.encoding.specs.Refusals.{pick, Answer, given, refused, mapAnswer}
 use Rattle.encoding.specs.Reading.{Reading, got, stop, whole}
-use Rattle.encoding.specs.Tables.{overlong, goodPairs, Good, checkTables}
 use Rattle.encoding.proofs.Tables.{impossible}
 use Rattle.measure.specs.declared.Measure.{Measure}
 use Rattle.measure.specs.declared.Measure.the-variants.{Measured, Stopped}
@@ -77,22 +74,31 @@ unfolding mapAnswer
 map-twice f g (given a) = refl
 map-twice f g (refused r) = refl
 
--- ---- the tables
+-- ---- an answered length lies within the buffer
 
-pub record Tables (words pairs : List ℕ) (text : Bytes) : Type 0 where
-  pub good : Good pairs text
-  pub few : length words ≤ 8192
-  pub short : length text ≤ 16384
+answer-of : TextAnswer × List ℕ → TextAnswer
+answer-of p = p .0
 
-passed : (a b c g : Bool) → pick (a or b or c) (Failed Overlong) (pick g Passed (Failed BadPair)) ≡ Passed → (a ≡ false) × (c ≡ false) × (g ≡ true)
-passed false false false true e = (refl, refl, refl)
-passed false false false false e = impossible (cc)
-passed false false true g e = impossible (cc)
-passed false true c g e = impossible (cc)
-passed true b c g e = impossible (cc)
+buffer-of : TextAnswer × List ℕ → List ℕ
+buffer-of p = p .1
 
-pub tables-passed : (words pairs : List ℕ) (text : Bytes) → checkTables words pairs text ≡ Passed → Tables words pairs text
-unfolding checkTables overlong
-tables-passed words pairs text e =
-    let p = passed (ltb 8192 (length words)) _ (ltb 16384 (length text)) (goodPairs pairs 0 (length text)) e in
-    record { good = p .2; few = ltb-false 8192 (length words) (p .0); short = ltb-false 16384 (length text) (p .1) }
+module _ (o after : List ℕ) (r : TextAnswer) (n : ℕ) (q : r ≡ Length n) where
+  within-picked : (fits : Bool) (b : Bytes)
+      → _≡_ {A = TextAnswer × List ℕ} (r, after) (pick fits (Length (length b), b ++ drop (length b) o) (Refused BufferTooShort, o))
+      → n ≤ length after
+  unfolding answer-of buffer-of
+  within-picked true b e =
+      let p : r ≡ Length (length b) = ap answer-of e in
+      let m : n ≡ length b = cc in
+      let l : after ≡ b ++ drop (length b) o = ap buffer-of e in
+      rw l (simp length-append (omega arith))
+  within-picked false b e =
+      let p : r ≡ Refused BufferTooShort = ap answer-of e in
+      impossible (cc)
+
+  pub within : (a : Answer Bytes) → _≡_ {A = TextAnswer × List ℕ} (r, after) (filled o a) → n ≤ length after
+  unfolding filled answer-of
+  within (given b) e = within-picked (leb (length b) (length o)) b e
+  within (refused x) e =
+      let p : r ≡ Refused x = ap answer-of e in
+      impossible (cc)

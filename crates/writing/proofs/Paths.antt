@@ -2,15 +2,15 @@
 use Prim.Native.Nat.{ℕ, zero, suc, _+_, _-_, _≤_, _<_}
 use mathlib.Core.Path.{_≡_, refl, ap, sym, _∙_}
 use mathlib.Core.Bool.{true, false}
-use mathlib.Core.List.{List, [], _∷_, _++_, map, append-nil, append-assoc}
+use mathlib.Core.List.{List, [], _∷_, _++_, map, flatten, append-assoc}
 use native.Mathlib.Omega.{arith}
 use native.Mathlib.Numerals.{add-one}
 use borrow.Author.Tests.{ne-eqb}
 use lib.ListN.{length, getD, take, drop}
 use lib.Seq.{drop-cons}
 use Rattle.rast.specs.Bytes.{Bytes, ascii}
-use Rattle.rast.specs.Tree.{Path, Global, Crate, Self, PMemberSelect, MSels}
 use Rattle.rast.specs.ToString.{Path·ToString, sizeText}
+use Rattle.rast.proofs.SourceEquations.{path-text as segments-text}
 use Rattle.output.specs.Wrote.{Wrote}
 use Rattle.encoding.specs.declared.PathAt.{PathAt}
 use Rattle.encoding.specs.Types.{rootOf, pathOf, sizeOf}
@@ -18,21 +18,13 @@ use Rattle.encoding.proofs.Heads.{past-six}
 use Rattle.writing.specs.Written.{memberText, endText}
 
 -- the text of the names, each behind its colons
-unfoldable pub membersText : List Bytes → Bytes
-membersText [] = []
-membersText (x ∷ xs) = memberText x ++ membersText xs
-
-pub path-members : (p : Path Bytes) (xs : List Bytes) → Path·ToString (MSels p xs) ≡ Path·ToString p ++ membersText xs
-unfolding MSels membersText Path·ToString
-path-members p [] = sym (append-nil (Path·ToString p))
-path-members p (x ∷ xs) =
-    path-members (PMemberSelect p x) xs
-    ∙ simp append-assoc
+abbrev pub membersText : List Bytes → Bytes
+membersText xs = flatten (map memberText xs)
 
 -- the names from i to the end
 pub members-from : (name : ℕ → Bytes) (ws : List ℕ) (i end : ℕ) → i < end → end ≤ length ws
     → membersText (map name (take (end - i) (drop i ws))) ≡ memberText (name (getD ws i 0)) ++ membersText (map name (take (end - (i + 1)) (drop (i + 1) ws)))
-unfolding membersText
+unfolding flatten
 members-from name ws i end h k =
     let h′ : i < length ws = omega arith in
     let e : end - i ≡ suc (end - suc i) = omega arith in
@@ -72,4 +64,4 @@ pub path-text : (ws : List ℕ) (name : ℕ → Bytes) (path : PathAt)
 unfolding pathOf
 path-text ws name path =
     let e : path .start + path .count - path .start ≡ path .count = omega arith in
-    rw e (path-members (rootOf (path .root)) (map name (take (path .count) (drop (path .start) ws))))
+    rw e (segments-text (rootOf (path .root)) (map name (take (path .count) (drop (path .start) ws))))

@@ -233,7 +233,7 @@ fn write_head(
     }
 }
 
-// A type that stands in another: most are leaves, and need no further call.
+// A type that stands in another: most are names or other leaves, and need no further turn.
 fn write_part(
     words: &[u32],
     pairs: &[u32],
@@ -245,7 +245,14 @@ fn write_part(
     requires { ⌜ Good (now pairs) (now text) × Room (now out) pos Type·ToString (typeAt (now words) (now pairs) (now text) at) ⌝ }
     ensures { λ r. ⌜ Written (now (out .entry)) pos Type·ToString (typeAt (now (words .entry)) (now (pairs .entry)) (now (text .entry)) at) (now (out .exit)) r ⌝ }
 {
-    if words[at] < 14 {
+    let w = words[at];
+    if w == 12 {
+        return Spot {
+            next: at + 2,
+            pos: encoding::put_name(pairs, text, words[at + 1], out, pos),
+        };
+    }
+    if w < 14 {
         return write_leaf(words, pairs, text, at, out, pos);
     }
     write_type(words, pairs, text, at, out, pos)

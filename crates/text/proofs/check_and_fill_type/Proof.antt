@@ -2,7 +2,7 @@ use mathlib.Core.Path.{sym, _∙_}
 use Rattle.encoding.specs.Refusals.{unless, mapAnswer}
 use Rattle.encoding.specs.Types.{typeOf}
 use Rattle.text.specs.Calls.{filled}
-use Rattle.text.proofs.Calls.{tables-passed}
+use Rattle.encoding.proofs.Tables.{tables-passed}
 use native.Mathlib.Omega.{arith}
 use borrow.Author.Needs.{needs}
 use Rattle.text.proofs.check_and_fill_type.Statement.{statement}

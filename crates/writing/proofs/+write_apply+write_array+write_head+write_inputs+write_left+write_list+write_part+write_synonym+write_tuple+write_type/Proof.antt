@@ -1,5 +1,5 @@
 use Prim.Native.Nat.{_+_, _-_, _*_, _%_}
-use mathlib.Core.Path.{refl, sym, _∙_}
+use mathlib.Core.Path.{refl, ap, sym, _∙_}
 use mathlib.Core.List.{[]}
 use lib.Dec.{eqb, leb}
 use lib.ListN.{length, getD}
@@ -10,8 +10,9 @@ use Rattle.output.proofs.Laws.{wrote-nothing, wrote-then, wrote-kept}
 use Rattle.encoding.specs.declared.Head.the-variants.{Apply, Tuple, Function, Both, ArrayOf, Synonym}
 use Rattle.encoding.specs.Types.{readNode, typeAt}
 use Rattle.writing.specs.Written.{Front, front, whole}
-use Rattle.writing.proofs.Laws.{written-same}
-use Rattle.writing.proofs.Accepted.{type-here, ref-head, mut-head, impl-head, dyn-head, both-head, synonym-head, apply-head, tuple-head, function-head, array-head, meta-head}
+use Rattle.writing.proofs.Laws.{room-as, written-as, written-same}
+use Rattle.encoding.specs.Tables.{nameBytes}
+use Rattle.writing.proofs.Accepted.{type-here, name-type, ref-head, mut-head, impl-head, dyn-head, both-head, synonym-head, apply-head, tuple-head, function-head, array-head, meta-head}
 use Rattle.writing.proofs.Parts.{apply-base, apply-none, apply-open, apply-list, apply-close, apply-done, tuple-empty, tuple-none, tuple-open, tuple-list, tuple-close, tuple-done, inputs-open, inputs-none-arrow, inputs-none, inputs-list, inputs-arrow, inputs-done, left-type, left-plus, left-done, array-open, array-element, array-end, array-done, synonym-display, synonym-base, synonym-done}
 use Rattle.writing.proofs.Turns.{ListLeft, written-later, part-rest, part-done, front-same, node-room, prefix-room, prefix-done, turn-start, turn-next, turn-here, turn-again, turn-last, list-start, item-room, item-here, list-done, comma-room, list-again}
 use borrow.Author.Needs.{needs}
@@ -49,6 +50,7 @@ use Rattle.writing.proofs.+write_apply+write_array+write_head+write_inp
 use Rattle.writing.proofs.write_type.Reads as write-type
 use Rattle.writing.proofs.write_type.Kinds as write-type-kinds
 use Rattle.writing.proofs.+write_apply+write_array+write_head+write_inputs+write_left+write_list+write_part+write_synonym+write_tuple+write_type.Lts-write_type as write-type-lts
+use Rattle.encoding.proofs.put_name.Reads as put-name-reads
 use Rattle.output.proofs.put.Reads as put-reads
 use Rattle.writing.proofs.put_size.Reads as put-size-reads
 use Rattle.writing.proofs.skip_type.Reads as skip-type-reads
@@ -197,7 +199,7 @@ abbrev write-list-calls : ℕ → write-list-lts.Claims
 write-list-calls t = (write-part-below t, write-part.Post, put-reads.Asked, put-reads.Learnt)
 
 abbrev write-part-calls : ℕ → write-part-lts.Claims
-write-part-calls t = (write-leaf-reads.Asked, write-leaf-reads.Learnt, write-type-below t, write-type.Post)
+write-part-calls t = (put-name-reads.Asked, put-name-reads.Learnt, write-leaf-reads.Asked, write-leaf-reads.Learnt, write-type-below t, write-type.Post)
 
 abbrev write-synonym-calls : ℕ → write-synonym-lts.Claims
 write-synonym-calls t = (write-type-below t, write-type.Post, skip-type-reads.Asked, skip-type-reads.Learnt)
@@ -789,41 +791,88 @@ write-list-loop-again t c =
     let l = c .before .before .before .before .before .before .before .before .before .before .loop .inv in
     list-again (a .words .now) (a .pairs .now) (a .text .now) (a .n) (a .at) l (c .before .before .before .before .before .before .before .before .write-part .ensures) (omega (arith, c .before .before .before .before .before .if1 .left)) (c .before .before .put .ensures)
 
-write-part-mul-if1 : (t : ℕ) → write-part-lts.Need-mul-if1 (write-part-calls t) (write-part-at t) write-part.Post
-write-part-mul-if1 t c =
+write-part-mul-w : (t : ℕ) → write-part-lts.Need-mul-w (write-part-calls t) (write-part-at t) write-part.Post
+write-part-mul-w t c =
     let a = c .before .before .before .before .args in
     let pre = c .before .before .before .before .pre .1 in
     omega (arith, type-here (a .words .now) (a .pairs .now) (a .text .now) (a .at) (pre .1 .reads))
 
-write-part-shared-slice-read-if1 : (t : ℕ) → write-part-lts.Need-shared-slice-read-if1 (write-part-calls t) (write-part-at t) write-part.Post
-write-part-shared-slice-read-if1 t c =
+write-part-shared-slice-read-w : (t : ℕ) → write-part-lts.Need-shared-slice-read-w (write-part-calls t) (write-part-at t) write-part.Post
+write-part-shared-slice-read-w t c =
     let a = c .before .before .before .before .before .args in
     let pre = c .before .before .before .before .before .pre .1 in
     omega (arith, type-here (a .words .now) (a .pairs .now) (a .text .now) (a .at) (pre .1 .reads))
 
-write-part-write-leaf-requires : (t : ℕ) → write-part-lts.Need-write-leaf-requires (write-part-calls t) (write-part-at t) write-part.Post
-write-part-write-leaf-requires t c κs =
+write-part-add-t12 : (t : ℕ) → write-part-lts.Need-add-t12 (write-part-calls t) (write-part-at t) write-part.Post
+write-part-add-t12 t c =
+    let a = c .before .before .before .before .before .before .args in
+    let pre = c .before .before .before .before .before .before .pre .1 in
+    let k = name-type (a .words .now) (a .pairs .now) (a .text .now) (a .at) (pre .1 .reads) (c .if1 .taken) in
+    omega (arith, k .inside)
+
+write-part-add-put-name : (t : ℕ) → write-part-lts.Need-add-put-name (write-part-calls t) (write-part-at t) write-part.Post
+write-part-add-put-name t c =
+    let a = c .before .before .before .before .before .before .args in
+    let pre = c .before .before .before .before .before .before .pre .1 in
+    let k = name-type (a .words .now) (a .pairs .now) (a .text .now) (a .at) (pre .1 .reads) (c .if1 .taken) in
+    omega (arith, k .inside)
+
+write-part-mul-put-name : (t : ℕ) → write-part-lts.Need-mul-put-name (write-part-calls t) (write-part-at t) write-part.Post
+write-part-mul-put-name t c =
+    let a = c .before .before .before .before .before .before .args in
+    let pre = c .before .before .before .before .before .before .pre .1 in
+    let k = name-type (a .words .now) (a .pairs .now) (a .text .now) (a .at) (pre .1 .reads) (c .if1 .taken) in
+    omega (arith, k .inside)
+
+write-part-shared-slice-read-put-name : (t : ℕ) → write-part-lts.Need-shared-slice-read-put-name (write-part-calls t) (write-part-at t) write-part.Post
+write-part-shared-slice-read-put-name t c =
     let a = c .before .before .before .before .before .before .before .args in
     let pre = c .before .before .before .before .before .before .before .pre .1 in
-    (c .before .if1 .taken, pre .0, pre .1)
+    let k = name-type (a .words .now) (a .pairs .now) (a .text .now) (a .at) (pre .1 .reads) (c .before .if1 .taken) in
+    omega (arith, k .inside)
+
+write-part-put-name-requires : (t : ℕ) → write-part-lts.Need-put-name-requires (write-part-calls t) (write-part-at t) write-part.Post
+unfolding Type·ToString
+write-part-put-name-requires t c κs =
+    let a = c .before .before .before .before .before .before .before .before .args in
+    let pre = c .before .before .before .before .before .before .before .before .pre .1 in
+    let k = name-type (a .words .now) (a .pairs .now) (a .text .now) (a .at) (pre .1 .reads) (c .before .before .if1 .taken) in
+    (k .below, pre .0, room-as (pre .1) (nameBytes (a .pairs .now) (a .text .now) (getD (a .words .now) (a .at + 1) 0)) (ap Type·ToString (k .type)))
 
 write-part-same-length : (t : ℕ) → write-part-lts.Need-same-length (write-part-calls t) (write-part-at t) write-part.Post
 write-part-same-length t c = search needs
 
 write-part-returns : (t : ℕ) → write-part-lts.Need-returns (write-part-calls t) (write-part-at t) write-part.Post
-write-part-returns t c = c .before .before .write-leaf .ensures
+unfolding Type·ToString
+write-part-returns t c =
+    let a = c .before .before .before .before .before .before .before .before .before .before .before .args in
+    let pre = c .before .before .before .before .before .before .before .before .before .before .before .pre .1 in
+    let k = name-type (a .words .now) (a .pairs .now) (a .text .now) (a .at) (pre .1 .reads) (c .before .before .before .before .before .if1 .taken) in
+    written-as (pre .1) (a .at + 2) _ (k .end) (nameBytes (a .pairs .now) (a .text .now) (getD (a .words .now) (a .at + 1) 0)) (ap Type·ToString (k .type)) (c .before .before .put-name .ensures)
 
-write-part-write-type-requires : (t : ℕ) → write-part-lts.Need-write-type-requires (write-part-calls t) (write-part-at t) write-part.Post
-write-part-write-type-requires t c κs =
-    let a = c .before .before .before .before .before .before .before .args in
-    let pre = c .before .before .before .before .before .before .before .pre .1 in
-    (omega (arith, c .before .before .before .before .before .before .before .pre .0), (pre .0, pre .1))
+write-part-write-leaf-requires : (t : ℕ) → write-part-lts.Need-write-leaf-requires (write-part-calls t) (write-part-at t) write-part.Post
+write-part-write-leaf-requires t c κs =
+    let a = c .before .before .before .before .before .before .before .before .args in
+    let pre = c .before .before .before .before .before .before .before .before .pre .1 in
+    (c .before .if2 .taken, pre .0, pre .1)
 
 write-part-same-length-2 : (t : ℕ) → write-part-lts.Need-same-length-2 (write-part-calls t) (write-part-at t) write-part.Post
 write-part-same-length-2 t c = search needs
 
 write-part-returns-2 : (t : ℕ) → write-part-lts.Need-returns-2 (write-part-calls t) (write-part-at t) write-part.Post
-write-part-returns-2 t c = c .before .before .write-type .ensures
+write-part-returns-2 t c = c .before .before .write-leaf .ensures
+
+write-part-write-type-requires : (t : ℕ) → write-part-lts.Need-write-type-requires (write-part-calls t) (write-part-at t) write-part.Post
+write-part-write-type-requires t c κs =
+    let a = c .before .before .before .before .before .before .before .before .args in
+    let pre = c .before .before .before .before .before .before .before .before .pre .1 in
+    (omega (arith, c .before .before .before .before .before .before .before .before .pre .0), (pre .0, pre .1))
+
+write-part-same-length-3 : (t : ℕ) → write-part-lts.Need-same-length-3 (write-part-calls t) (write-part-at t) write-part.Post
+write-part-same-length-3 t c = search needs
+
+write-part-returns-3 : (t : ℕ) → write-part-lts.Need-returns-3 (write-part-calls t) (write-part-at t) write-part.Post
+write-part-returns-3 t c = c .before .before .write-type .ensures
 
 write-synonym-write-type-requires : (t : ℕ) → write-synonym-lts.Need-write-type-requires (write-synonym-calls t) (write-synonym-at t) write-synonym.Post
 write-synonym-write-type-requires t c κs =
@@ -1099,14 +1148,21 @@ pub +write-apply+write-array+write-head+write-inputs+write-left+write-list+write
     (λ t. write-part-lts.spec (write-part-calls t)
     (write-part-at t)
     write-part.Post
-    (write-part-mul-if1 t)
-    (write-part-shared-slice-read-if1 t)
-    (write-part-write-leaf-requires t)
+    (write-part-mul-w t)
+    (write-part-shared-slice-read-w t)
+    (write-part-add-t12 t)
+    (write-part-add-put-name t)
+    (write-part-mul-put-name t)
+    (write-part-shared-slice-read-put-name t)
+    (write-part-put-name-requires t)
     (write-part-same-length t)
     (write-part-returns t)
-    (write-part-write-type-requires t)
+    (write-part-write-leaf-requires t)
     (write-part-same-length-2 t)
-    (write-part-returns-2 t))
+    (write-part-returns-2 t)
+    (write-part-write-type-requires t)
+    (write-part-same-length-3 t)
+    (write-part-returns-3 t))
     (λ t. write-synonym-lts.spec (write-synonym-calls t)
     (write-synonym-at t)
     write-synonym.Post

@@ -1,5 +1,5 @@
 use Rattle.output.proofs.Laws.{wrote-kept}
-use mathlib.Core.List.{[], _++_, map, append-assoc, append-nil}
+use mathlib.Core.List.{[], _++_, map, append-assoc, append-nil, flatten}
 use lib.ListN.{length, getD, take, drop, length-append}
 use Prim.Native.Nat.{_+_, _-_}
 use mathlib.Core.Path.{_≡_, refl, sym, ap, _∙_}
@@ -85,7 +85,7 @@ same-length : tie.Need-same-length Inv-loop μ-loop
 same-length c = wrote-kept (wrote-then (c .before .before .before .before .put-root .ensures) (c .before .loop .inv .wrote))
 
 returns : tie.Need-returns Inv-loop μ-loop
-unfolding membersText
+unfolding flatten
 returns c =
     let a = c .before .before .before .before .before .before .before .before .before .before .before .args in
     let l = c .before .loop in
