@@ -154,7 +154,7 @@ fn read_whole<'a, T>(
     };
     let tree = read_tree(&mut reader)?;
     if reader.next < reader.words.len() {
-        return Err(Refusal::WordsLeftOver);
+        return Err(Refusal::LeftOver);
     }
     Ok(tree)
 }
@@ -166,7 +166,7 @@ fn check_limits(encoding: &Encoding<'_>) -> Result<(), Refusal> {
         || whole_pairs > PAIR_LIMIT
         || encoding.text.len() > TEXT_LIMIT
     {
-        return Err(Refusal::OverLimit);
+        return Err(Refusal::Overlong);
     }
     Ok(())
 }
@@ -738,8 +738,8 @@ mod tests {
         };
         assert_eq!(with_pairs(&vec![0; 2048]), None);
         assert_eq!(with_pairs(&vec![0; 2049]), Some(Refusal::BadPair));
-        assert_eq!(with_pairs(&vec![0; 2050]), Some(Refusal::OverLimit));
-        assert_eq!(with_pairs(&vec![0; 2051]), Some(Refusal::OverLimit));
+        assert_eq!(with_pairs(&vec![0; 2050]), Some(Refusal::Overlong));
+        assert_eq!(with_pairs(&vec![0; 2051]), Some(Refusal::Overlong));
         assert_eq!(with_pairs(&[10, 0, 10, 0]), None);
         assert_eq!(with_pairs(&[11, 0]), Some(Refusal::BadPair));
         assert_eq!(with_pairs(&[0, 11]), Some(Refusal::BadPair));
@@ -784,12 +784,12 @@ mod tests {
         );
         assert_eq!(
             call(&too_many_words, &[1], 16, 0),
-            (Err(OverLimit), *b"....")
+            (Err(Overlong), *b"....")
         );
         assert_eq!(call(&[], &[1], 16, 0), (Err(BadPair), *b"...."));
         assert_eq!(call(&[], &[], 16, 0), (Err(EndsEarly), *b"...."));
         assert_eq!(call(&[25], &[], 16, 0), (Err(UnknownWord), *b"...."));
-        assert_eq!(call(&[0, 0], &[], 16, 0), (Err(WordsLeftOver), *b"...."));
+        assert_eq!(call(&[0, 0], &[], 16, 0), (Err(LeftOver), *b"...."));
         assert_eq!(call(&[0], &[], 16, 1), (Err(BufferTooShort), *b"...."));
         assert_eq!(call(&[0], &[], 16, 2), (Ok(2), *b"u8.."));
         assert_eq!(call(&[1], &[], 0, 4), (Ok(3), *b"u16."));
@@ -811,6 +811,6 @@ mod tests {
         assert_eq!(text(&[13, 0, 0], 0), Err(Refusal::UnknownWord));
         assert_eq!(text(&[], 0), Err(Refusal::EndsEarly));
         assert_eq!(text(&[0], 0), Err(Refusal::EndsEarly));
-        assert_eq!(text(&[0, 0, 0], 0), Err(Refusal::WordsLeftOver));
+        assert_eq!(text(&[0, 0, 0], 0), Err(Refusal::LeftOver));
     }
 }

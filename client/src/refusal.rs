@@ -19,7 +19,7 @@ use std::fmt;
 #[non_exhaustive]
 pub enum Refusal {
     /// 1: more than 8,192 words, 1,024 pairs or 16,384 bytes of text.
-    OverLimit,
+    Overlong,
     /// 2: a pair begins before the end of the one before it or ends outside the text, or half a
     /// pair ends the table.
     BadPair,
@@ -30,7 +30,7 @@ pub enum Refusal {
     /// 5: a type begins at depth 65.
     TooDeep,
     /// 6: words remain after the tree.
-    WordsLeftOver,
+    LeftOver,
     /// 7: the type lacks the shape asked for.
     NoSuchPart,
     /// 8: the buffer is too short for the result.
@@ -46,12 +46,12 @@ pub enum Refusal {
 impl Refusal {
     /// All refusals, in the order of their numbers, which begin at 1.
     pub const ALL: [Refusal; 11] = [
-        Refusal::OverLimit,
+        Refusal::Overlong,
         Refusal::BadPair,
         Refusal::EndsEarly,
         Refusal::UnknownWord,
         Refusal::TooDeep,
-        Refusal::WordsLeftOver,
+        Refusal::LeftOver,
         Refusal::NoSuchPart,
         Refusal::BufferTooShort,
         Refusal::BadFileLength,
@@ -62,12 +62,12 @@ impl Refusal {
     /// The fixed number of this refusal.
     pub const fn number(self) -> u32 {
         match self {
-            Refusal::OverLimit => 1,
+            Refusal::Overlong => 1,
             Refusal::BadPair => 2,
             Refusal::EndsEarly => 3,
             Refusal::UnknownWord => 4,
             Refusal::TooDeep => 5,
-            Refusal::WordsLeftOver => 6,
+            Refusal::LeftOver => 6,
             Refusal::NoSuchPart => 7,
             Refusal::BufferTooShort => 8,
             Refusal::BadFileLength => 9,
@@ -84,7 +84,7 @@ impl Refusal {
 
     fn words(self) -> &'static str {
         match self {
-            Refusal::OverLimit => {
+            Refusal::Overlong => {
                 "more than 8,192 words, 1,024 pairs or 16,384 bytes of text were given"
             }
             Refusal::BadPair => {
@@ -94,7 +94,7 @@ impl Refusal {
             Refusal::EndsEarly => "a word is wanted and none is left",
             Refusal::UnknownWord => "a word is none of those allowed at its place",
             Refusal::TooDeep => "a type begins at depth 65, and the limit is 64",
-            Refusal::WordsLeftOver => "words remain after the tree",
+            Refusal::LeftOver => "words remain after the tree",
             Refusal::NoSuchPart => "the type lacks the shape asked for",
             Refusal::BufferTooShort => "the buffer is too short for the result",
             Refusal::BadFileLength => "the file has another length than its header says",

@@ -85,7 +85,7 @@ pub fn type_text(encoding: &Encoding<'_>, level: u32, out: &mut [u8]) -> Result<
         return Err(Refusal::BadLevel);
     }
     if words.len() > 8_192 || pairs.len() / 2 > 1_024 || text.len() > 16_384 {
-        return Err(Refusal::OverLimit);
+        return Err(Refusal::Overlong);
     }
     check_pairs(pairs, text.len())?;
     let length = measure(words, pairs)?;
@@ -243,7 +243,7 @@ fn measure(words: &[u32], pairs: &[u32]) -> Result<usize, Refusal> {
                 return if rest.as_slice().is_empty() {
                     Ok(length as usize)
                 } else {
-                    Err(Refusal::WordsLeftOver)
+                    Err(Refusal::LeftOver)
                 };
             }
             open = outer[depth];

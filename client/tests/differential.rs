@@ -234,7 +234,7 @@ fn damaged_types() {
     println!("{tally:?}");
     assert!(tally.texts > 5_000);
     use Refusal::*;
-    for refusal in [BadPair, EndsEarly, UnknownWord, TooDeep, WordsLeftOver] {
+    for refusal in [BadPair, EndsEarly, UnknownWord, TooDeep, LeftOver] {
         assert!(tally.refused(refusal) > 1_500, "{refusal}");
     }
 }
@@ -280,7 +280,7 @@ fn truncated_types() {
     }
     println!("{tally:?}");
     assert!(tally.refused(Refusal::EndsEarly) > 10_000);
-    assert!(tally.refused(Refusal::WordsLeftOver) > 1_000);
+    assert!(tally.refused(Refusal::LeftOver) > 1_000);
 }
 
 /// All runs of up to four words that could mean something, as a type and as a path.
@@ -335,7 +335,7 @@ fn paths() {
     println!("{tally:?}");
     assert!(tally.texts > 10_000);
     use Refusal::*;
-    for refusal in [BadPair, EndsEarly, UnknownWord, WordsLeftOver, BadLevel] {
+    for refusal in [BadPair, EndsEarly, UnknownWord, LeftOver, BadLevel] {
         assert!(tally.refused(refusal) > 50, "{refusal}");
     }
 }
@@ -513,7 +513,7 @@ fn limit_of_words() {
         check_path(&bare(&path), 0, &mut tally);
     }
     assert_eq!(tally.texts, 3 * 3);
-    assert_eq!(tally.refused(Refusal::OverLimit), 3 * 5);
+    assert_eq!(tally.refused(Refusal::Overlong), 3 * 5);
 }
 
 #[test]
@@ -571,7 +571,7 @@ fn limit_of_pairs() {
         };
         check_path(&encoding, 0, &mut tally);
     }
-    assert_eq!(tally.refused(Refusal::OverLimit), 5 * 6);
+    assert_eq!(tally.refused(Refusal::Overlong), 5 * 6);
     assert_eq!(tally.refused(Refusal::BadPair), 3 * 6);
     assert_eq!(tally.refused(Refusal::UnknownWord), 4 * 2);
     assert_eq!(tally.texts, 4 * 4);
@@ -604,7 +604,7 @@ fn limit_of_text() {
     }
     assert_eq!(tally.texts, 2 * 3 * 2);
     assert_eq!(tally.refused(Refusal::BadPair), 2 * 2 * 2);
-    assert_eq!(tally.refused(Refusal::OverLimit), 2 * 5 * 2);
+    assert_eq!(tally.refused(Refusal::Overlong), 2 * 5 * 2);
 }
 
 /// The longest text there is room for in this test: far more bytes than words.

@@ -118,7 +118,7 @@ fn path_bytes(words: &[u32], pairs: &[u32], path: PathAt) -> usize
 // How long a path's text is.
 pub fn path_length(words: &[u32], pairs: &[u32], text: &[u8], path: PathAt) -> usize
     requires { ⌜ InsidePath (nameCount (now pairs)) (now words) path × Good (now pairs) (now text)
-        × (length (now words) ≤ 8192) × (length (now text) ≤ 16384) ⌝ }
+        × (length (now words) ≤ 8192) ⌝ }
     ensures { λ r. ⌜ r ≡ length (Path·ToString (pathOf (now (words .entry)) (nameBytes (now (pairs .entry)) (now (text .entry))) path)) ⌝ }
 {
     path_bytes(words, pairs, path)
@@ -379,7 +379,7 @@ fn advance(
 
 // Where the type at `at` ends and how long its text is, or the refusal that is met first.
 pub fn measure_type(words: &[u32], pairs: &[u32], text: &[u8], at: usize) -> Measure
-    requires { ⌜ Good (now pairs) (now text) × (length (now words) ≤ 8192) × (length (now text) ≤ 16384) × (at ≤ length (now words)) ⌝ }
+    requires { ⌜ Good (now pairs) (now text) × (length (now words) ≤ 8192) × (at ≤ length (now words)) ⌝ }
     ensures { λ r. ⌜ r ≡ measureOf (typeAt (now (words .entry)) (now (pairs .entry)) (now (text .entry)) at) ⌝ }
 {
     let bound = encoding::name_count(pairs);

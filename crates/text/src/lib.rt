@@ -18,7 +18,7 @@ pub enum TextAnswer {
 
 // A type is accepted and measured before a byte is written, since a refusal leaves the buffer unchanged.
 fn fill_type(words: &[u32], pairs: &[u32], text: &[u8], out: &mut [u8]) -> TextAnswer
-    requires { ⌜ Good (now pairs) (now text) × (length (now words) ≤ 8192) × (length (now text) ≤ 16384) ⌝ }
+    requires { ⌜ Good (now pairs) (now text) × (length (now words) ≤ 8192) ⌝ }
     ensures { λ r. ⌜ (r, now (out .exit)) ≡ filled (now (out .entry)) (wholeTypeText (now (words .entry)) (now (pairs .entry)) (now (text .entry))) ⌝ }
 {
     match measure::measure_type(words, pairs, text, 0) {
@@ -62,7 +62,7 @@ pub fn type_text(
 }
 
 fn fill_path(words: &[u32], pairs: &[u32], text: &[u8], out: &mut [u8]) -> TextAnswer
-    requires { ⌜ Good (now pairs) (now text) × (length (now words) ≤ 8192) × (length (now text) ≤ 16384) ⌝ }
+    requires { ⌜ Good (now pairs) (now text) × (length (now words) ≤ 8192) ⌝ }
     ensures { λ r. ⌜ (r, now (out .exit)) ≡ filled (now (out .entry)) (wholePathText (now (words .entry)) (now (pairs .entry)) (now (text .entry))) ⌝ }
 {
     let bound = encoding::name_count(pairs);

@@ -18,7 +18,7 @@ name-count-requires : tie.Need-name-count-requires Inv-loop μ-loop
 name-count-requires c κs = search needs
 
 loop-holds : tie.Need-loop-holds Inv-loop μ-loop
-loop-holds c = (record { room = refl; place = c .before .before .before .before .pre .3; bytes = omega arith; depth = omega arith; due = omega arith; mode = omega arith }, refl)
+loop-holds c = (record { room = refl; place = c .before .before .before .before .pre .2; bytes = omega arith; depth = omega arith; due = omega arith; mode = omega arith }, refl)
 
 advance-requires : tie.Need-advance-requires Inv-loop μ-loop
 advance-requires c κs =

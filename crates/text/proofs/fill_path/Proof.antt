@@ -32,7 +32,7 @@ path-length-requires : tie.Need-path-length-requires
 path-length-requires c κs =
     let a = c .before .before .before .before .before .before .before .before .before .before .args in
     let m = path-got (readPath (nameCount (a .pairs .now)) (a .words .now) 0) (rw (c .before .before .before .before .before .name-count .ensures) at (c .before .before .before .before .scan-path .ensures)) (c .before .before .path .given .1) in
-    (path-lies _ _ _ m .own, c .before .before .before .before .before .before .before .before .before .before .pre .0, c .before .before .before .before .before .before .before .before .before .before .pre .1, c .before .before .before .before .before .before .before .before .before .before .pre .2)
+    (path-lies _ _ _ m .own, c .before .before .before .before .before .before .before .before .before .before .pre .0, c .before .before .before .before .before .before .before .before .before .before .pre .1)
 
 returns-2 : tie.Need-returns-2
 returns-2 c =
