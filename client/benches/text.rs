@@ -3,149 +3,37 @@
 //!
 //! The buffers are not cleared between calls, so only the calls themselves are timed.
 
-use std::hint::black_box;
-use std::time::{Duration, Instant};
+mod timing;
 
-use tillercoral::generate::{random_type, Names, Random, Sample, Shape};
-use tillercoral::{reference, tuned, type_text, Encoding, Refusal};
+use tillercoral::generate::{random_type, Names, Random, Shape};
+use tillercoral::{reference, tuned, type_text, EncodingBuf};
+use timing::{print_growth, print_times, timed, Case, Kind, Maker};
 
-type TextCall = fn(&Encoding<'_>, u32, &mut [u8]) -> Result<usize, Refusal>;
-
-const CALLS: [TextCall; 3] = [type_text, tuned::type_text, reference::type_text];
-const ROUNDS: usize = 40;
-/// Long against the clock's own steps, short against being interrupted.
-const ROUND_TIME: Duration = Duration::from_millis(3);
+const TYPES: Kind = Kind {
+    what: "types",
+    calls: [type_text, tuned::type_text, reference::type_text],
+    text_of,
+};
 
 fn main() {
-    // `cargo test --benches` runs this too, without the argument; then only the agreement counts.
-    let timed = std::env::args().any(|argument| argument == "--bench");
     let cases = cases();
     for case in &cases {
         case.check();
     }
     println!("{} groups of types: all three versions agree", cases.len());
-    if !timed {
-        return;
-    }
-
-    println!("time of one call, best of {ROUNDS} interleaved rounds; buffers are not cleared between calls");
-    println!();
-    println!(
-        "{:<18} {:>6} {:>8} {:>10} {:>10} {:>10}   {:>10} {:>14}",
-        "types", "words", "bytes", "ours", "tuned", "reference", "ours/tuned", "ours/reference"
-    );
-    for case in &cases {
-        let [ours, tuned, reference] = case.time();
-        let count = case.samples.len() as f64;
-        println!(
-            "{:<18} {:>6} {:>8} {:>7.0} ns {:>7.0} ns {:>7.0} ns   {:>10.2} {:>14.2}",
-            case.name,
-            case.words() / case.samples.len(),
-            case.bytes() / case.samples.len(),
-            ours / count,
-            tuned / count,
-            reference / count,
-            ours / tuned,
-            ours / reference
-        );
-    }
-
-    println!();
-    println!("growth: time per word at parts of the limit of 8,192 words");
-    println!(
-        "{:<18} {:>12} {:>12} {:>12} {:>12}",
-        "types", "1/8", "1/4", "1/2", "whole"
-    );
-    for (name, make) in GROWING {
-        for (version, which) in [("ours", 0), ("tuned", 1)] {
-            print!("{:<18}", format!("{name}, {version}"));
-            for part in [8, 4, 2, 1] {
-                let case = Case::new(name, vec![make(8_192 / part)]);
-                case.check();
-                let per_word = case.time()[which] / case.words() as f64;
-                print!(" {per_word:>9.2} ns");
-            }
-            println!();
-        }
+    if timed() {
+        print_times(&cases);
+        print_growth(&TYPES, &GROWING);
     }
 }
 
-/// Types that are printed one after the other.
-struct Case {
-    name: &'static str,
-    samples: Vec<Sample>,
-    buffer: usize,
-}
-
-impl Case {
-    fn new(name: &'static str, samples: Vec<Sample>) -> Case {
-        let longest = samples.iter().map(|sample| text_of(sample).len()).max();
-        Case {
-            name,
-            samples,
-            buffer: longest.unwrap_or(0) + 64,
-        }
-    }
-
-    fn words(&self) -> usize {
-        self.samples.iter().map(|sample| sample.words.len()).sum()
-    }
-
-    fn bytes(&self) -> usize {
-        self.samples
-            .iter()
-            .map(|sample| text_of(sample).len())
-            .sum()
-    }
-
-    fn check(&self) {
-        for sample in &self.samples {
-            let wanted = text_of(sample);
-            for call in CALLS {
-                let mut buffer = vec![b'.'; self.buffer];
-                let answer = call(&sample.encoding(), 0, &mut buffer);
-                assert_eq!(answer, Ok(wanted.len()), "{}", self.name);
-                assert!(buffer.starts_with(&wanted), "{}", self.name);
-                assert!(buffer[wanted.len()..].iter().all(|&byte| byte == b'.'));
-            }
-        }
-    }
-
-    /// Nanoseconds for all types of the case, one number for each version.
-    fn time(&self) -> [f64; 3] {
-        let mut buffer = vec![0; self.buffer];
-        let mut run = |call: TextCall, repeats: u32| {
-            let start = Instant::now();
-            for _ in 0..repeats {
-                for sample in &self.samples {
-                    let encoding = black_box(sample.encoding());
-                    let _ = black_box(call(&encoding, black_box(0), black_box(&mut buffer)));
-                }
-            }
-            start.elapsed()
-        };
-        let repeats = CALLS.map(|call| {
-            let once = run(call, 3).max(Duration::from_nanos(30)) / 3;
-            (ROUND_TIME.as_nanos() / once.as_nanos()).clamp(1, 1_000_000) as u32
-        });
-        let mut best = [f64::MAX; 3];
-        for _ in 0..ROUNDS {
-            for (which, call) in CALLS.into_iter().enumerate() {
-                let time = run(call, repeats[which]).as_nanos() as f64 / f64::from(repeats[which]);
-                best[which] = best[which].min(time);
-            }
-        }
-        best
-    }
-}
-
-fn text_of(sample: &Sample) -> Vec<u8> {
-    reference::read_type(&sample.encoding())
+fn text_of(sample: &EncodingBuf, _level: u32) -> Vec<u8> {
+    reference::read_type(&sample.as_encoding())
         .expect("the benchmark's own types are accepted")
         .text()
 }
 
-fn cases() -> Vec<Case> {
+fn cases() -> Vec<Case<'static>> {
     let gauge = Names::of(&[b"Gauge", b"Offset", b"mm", b"id"]);
     let small = [
         &[0][..],
@@ -155,28 +43,23 @@ fn cases() -> Vec<Case> {
         &[22, 0, 1],
         &[19, 2, 0, 11],
     ];
-    let small = small
-        .iter()
-        .map(|words| Sample::new(words, &gauge))
-        .collect();
+    let small = small.iter().map(|words| gauge.with_words(words)).collect();
+    let case = |name, samples| Case::new(&TYPES, name, 0, samples);
     vec![
-        Case::new("small", small),
-        Case::new("forty gauge types", gauge_types()),
-        Case::new("many children", vec![many_children(4_000)]),
-        Case::new("nested", vec![nested()]),
-        Case::new("nested paths", vec![nested_paths(1_000)]),
-        Case::new("long names", vec![long_names()]),
-        Case::new("names only", vec![names_only(4_000)]),
-        Case::new("hidden bases", vec![hidden_bases(4_000)]),
-        Case::new("random mix", random_mix()),
-        Case::new("most words", vec![many_children(8_192)]),
-        Case::new("most pairs", vec![most_pairs()]),
-        Case::new("most text", vec![most_text()]),
+        case("small", small),
+        case("forty gauge types", gauge_types()),
+        case("many children", vec![many_children(4_000)]),
+        case("nested", vec![nested()]),
+        case("nested paths", vec![nested_paths(1_000)]),
+        case("long names", vec![long_names()]),
+        case("names only", vec![names_only(4_000)]),
+        case("hidden bases", vec![hidden_bases(4_000)]),
+        case("random mix", random_mix()),
+        case("most words", vec![many_children(8_192)]),
+        case("most pairs", vec![most_pairs()]),
+        case("most text", vec![most_text()]),
     ]
 }
-
-/// Makes a type of about so many words.
-type Maker = fn(usize) -> Sample;
 
 const GROWING: [(&str, Maker); 4] = [
     ("many children", many_children),
@@ -186,7 +69,7 @@ const GROWING: [(&str, Maker); 4] = [
 ];
 
 /// The types in the drivers of a maker of marine instruments.
-fn gauge_types() -> Vec<Sample> {
+fn gauge_types() -> Vec<EncodingBuf> {
     let names = Names::of(&[
         b"Gauge",
         b"Depth",
@@ -249,13 +132,10 @@ fn gauge_types() -> Vec<Sample> {
         &[15, 13, 0, 3, 1, 29, 30],
         &[14, 2, 12, 20, 14, 1, 13, 0, 3, 1, 22, 23, 12, 28, 12, 21],
     ];
-    types
-        .iter()
-        .map(|words| Sample::new(words, &names))
-        .collect()
+    types.iter().map(|words| names.with_words(words)).collect()
 }
 
-fn many_children(words: usize) -> Sample {
+fn many_children(words: usize) -> EncodingBuf {
     let names = Names::of(&[b"Gauge", b"Offset", b"mm", b"id"]);
     let mut children = Vec::new();
     let mut count = 0;
@@ -271,11 +151,11 @@ fn many_children(words: usize) -> Sample {
         children.push(10);
         count += 1;
     }
-    Sample::new(&[&[19, count], &children[..]].concat(), &names)
+    names.with_words(&[&[19, count], &children[..]].concat())
 }
 
 /// As deep as it goes, with something on every step.
-fn nested() -> Sample {
+fn nested() -> EncodingBuf {
     let names = Names::of(&[b"Gauge", b"Offset", b"mm", b"id"]);
     let mut words = Vec::new();
     for depth in 0..63 {
@@ -287,10 +167,10 @@ fn nested() -> Sample {
         }
     }
     words.push(0);
-    Sample::new(&words, &names)
+    names.with_words(&words)
 }
 
-fn nested_paths(words: usize) -> Sample {
+fn nested_paths(words: usize) -> EncodingBuf {
     let names = Names::of(&[b"instruments", b"sounder", b"channel", b"Reading"]);
     let mut children = Vec::new();
     let mut count = 0;
@@ -298,41 +178,41 @@ fn nested_paths(words: usize) -> Sample {
         children.extend([14, 1, 13, 1, 4, 16, 17, 18, 19, 13, 0, 3, 1, 2, 3]);
         count += 1;
     }
-    Sample::new(&[&[19, count], &children[..]].concat(), &names)
+    names.with_words(&[&[19, count], &children[..]].concat())
 }
 
-fn long_names() -> Sample {
+fn long_names() -> EncodingBuf {
     let name = [b'a'; 1_000];
     let names = Names::of(&[&name, &name[..900]]);
     let mut words = vec![19, 200];
     for _ in 0..100 {
         words.extend([12, 16, 12, 17]);
     }
-    Sample::new(&words, &names)
+    names.with_words(&words)
 }
 
-fn names_only(words: usize) -> Sample {
+fn names_only(words: usize) -> EncodingBuf {
     let names = Names::of(&[b"Gauge", b"Depth", b"mm", b"identifier"]);
     let count = (words - 2) / 2;
     let mut all = vec![19, count as u32];
     for i in 0..count {
         all.extend([12, [16, 17, 18, 19, 3, 11][i % 6]]);
     }
-    Sample::new(&all, &names)
+    names.with_words(&all)
 }
 
 /// Synonyms: half of the words print nothing.
-fn hidden_bases(words: usize) -> Sample {
+fn hidden_bases(words: usize) -> EncodingBuf {
     let names = Names::of(&[b"Gauge"]);
     let count = (words - 2) / 10;
     let mut all = vec![19, count as u32];
     for _ in 0..count {
         all.extend([23, 14, 1, 12, 16, 24, 2, 7, 15, 10]);
     }
-    Sample::new(&all, &names)
+    names.with_words(&all)
 }
 
-fn random_mix() -> Vec<Sample> {
+fn random_mix() -> Vec<EncodingBuf> {
     let random = &mut Random::new(7);
     (0..60)
         .map(|_| {
@@ -349,7 +229,7 @@ fn random_mix() -> Vec<Sample> {
         .collect()
 }
 
-fn most_pairs() -> Sample {
+fn most_pairs() -> EncodingBuf {
     let stock: Vec<Vec<u8>> = (0..1_024)
         .map(|i| format!("Channel{i}").into_bytes())
         .collect();
@@ -358,15 +238,15 @@ fn most_pairs() -> Sample {
     for i in 0..1_024 {
         words.extend([12, 16 + i * 389 % 1_024]);
     }
-    Sample::new(&words, &names)
+    names.with_words(&words)
 }
 
-fn most_text() -> Sample {
+fn most_text() -> EncodingBuf {
     let name = [b'n'; 16_384];
     let names = Names::of(&[&name]);
     let mut words = vec![19, 64];
     for _ in 0..64 {
         words.extend([12, 16]);
     }
-    Sample::new(&words, &names)
+    names.with_words(&words)
 }

@@ -30,6 +30,18 @@ extern "C" {
         out_len: usize,
     ) -> u64;
 
+    fn tillercoral_declaration_text(
+        words: *const u32,
+        words_len: usize,
+        pairs: *const u32,
+        pairs_len: usize,
+        text: *const u8,
+        text_len: usize,
+        level: u32,
+        out: *mut u8,
+        out_len: usize,
+    ) -> u64;
+
     fn tillercoral_type_is_sound(
         words: *const u32,
         words_len: usize,
@@ -62,6 +74,22 @@ pub(crate) fn type_text(e: &Encoding<'_>, level: u32, out: &mut [u8]) -> u64 {
 pub(crate) fn path_text(e: &Encoding<'_>, level: u32, out: &mut [u8]) -> u64 {
     unsafe {
         tillercoral_path_text(
+            e.words.as_ptr(),
+            e.words.len(),
+            e.pairs.as_ptr(),
+            e.pairs.len(),
+            e.text.as_ptr(),
+            e.text.len(),
+            level,
+            out.as_mut_ptr(),
+            out.len(),
+        )
+    }
+}
+
+pub(crate) fn declaration_text(e: &Encoding<'_>, level: u32, out: &mut [u8]) -> u64 {
+    unsafe {
+        tillercoral_declaration_text(
             e.words.as_ptr(),
             e.words.len(),
             e.pairs.as_ptr(),

@@ -2,7 +2,11 @@
 //! the seed, so that a failure can be repeated.
 
 use crate::reference::{is_sound_name, is_sound_size, FIXED_NAMES};
-use crate::Encoding;
+use crate::EncodingBuf;
+
+pub use declaration::{random_declaration, random_doc};
+
+mod declaration;
 
 /// A xorshift generator: small, and good enough to choose test data with.
 pub struct Random(u64);
@@ -43,32 +47,6 @@ impl Random {
     }
 }
 
-/// An encoding that owns its parts.
-#[derive(Clone, Debug, Default, PartialEq, Eq)]
-pub struct Sample {
-    pub words: Vec<u32>,
-    pub pairs: Vec<u32>,
-    pub text: Vec<u8>,
-}
-
-impl Sample {
-    pub fn new(words: &[u32], names: &Names) -> Sample {
-        Sample {
-            words: words.to_vec(),
-            pairs: names.pairs.clone(),
-            text: names.text.clone(),
-        }
-    }
-
-    pub fn encoding(&self) -> Encoding<'_> {
-        Encoding {
-            words: &self.words,
-            pairs: &self.pairs,
-            text: &self.text,
-        }
-    }
-}
-
 /// A table of names, and which of the name numbers are of use where soundness matters.
 #[derive(Clone, Debug)]
 pub struct Names {
@@ -76,6 +54,7 @@ pub struct Names {
     pub text: Vec<u8>,
     sound: Vec<u32>,
     sound_sizes: Vec<u32>,
+    docs: Vec<u32>,
 }
 
 /// Names of all sorts: sound ones, reserved words, near misses, empty, not even UTF-8.
@@ -160,6 +139,7 @@ impl Names {
             text: Vec::new(),
             sound: Vec::new(),
             sound_sizes: Vec::new(),
+            docs: Vec::new(),
         };
         for (number, name) in (0..).zip(FIXED_NAMES) {
             table.classify(number, name.as_bytes());
@@ -181,6 +161,15 @@ impl Names {
         }
         if is_sound_size(name) {
             self.sound_sizes.push(number);
+        }
+    }
+
+    /// An encoding of these words with this table.
+    pub fn with_words(&self, words: &[u32]) -> EncodingBuf {
+        EncodingBuf {
+            words: words.to_vec(),
+            pairs: self.pairs.clone(),
+            text: self.text.clone(),
         }
     }
 
@@ -214,7 +203,7 @@ enum Place {
 }
 
 /// Writes a random type.
-pub fn random_type(random: &mut Random, names: &Names, shape: Shape) -> Sample {
+pub fn random_type(random: &mut Random, names: &Names, shape: Shape) -> EncodingBuf {
     let mut writer = Writer {
         random,
         names,
@@ -222,11 +211,11 @@ pub fn random_type(random: &mut Random, names: &Names, shape: Shape) -> Sample {
         words: Vec::new(),
     };
     writer.put_type(shape.depth, Place::Free);
-    Sample::new(&writer.words, names)
+    names.with_words(&writer.words)
 }
 
 /// Writes a random path of at most `most` names.
-pub fn random_path(random: &mut Random, names: &Names, most: usize) -> Sample {
+pub fn random_path(random: &mut Random, names: &Names, most: usize) -> EncodingBuf {
     let mut writer = Writer {
         random,
         names,
@@ -240,7 +229,7 @@ pub fn random_path(random: &mut Random, names: &Names, most: usize) -> Sample {
         words: Vec::new(),
     };
     writer.put_path();
-    Sample::new(&writer.words, names)
+    names.with_words(&writer.words)
 }
 
 struct Writer<'a> {
@@ -404,7 +393,7 @@ impl Writer<'_> {
 }
 
 /// Does one kind of harm to an encoding. It may happen to stay acceptable.
-pub fn damage(random: &mut Random, sample: &mut Sample) {
+pub fn damage(random: &mut Random, sample: &mut EncodingBuf) {
     match random.below(10) {
         // a word of the size of heads, names and counts
         0..=3 => {
@@ -445,7 +434,7 @@ pub fn damage(random: &mut Random, sample: &mut Sample) {
 }
 
 /// Does one kind of harm to the pairs or to the text they point into.
-pub fn damage_names(random: &mut Random, sample: &mut Sample) {
+pub fn damage_names(random: &mut Random, sample: &mut EncodingBuf) {
     if sample.pairs.is_empty() {
         sample.pairs.push(random.below(3) as u32);
         return;

@@ -1,8 +1,11 @@
-//! Safe calls of Tillercoral, a proved printer of Rust types.
+//! Safe calls of Tillercoral, a proved printer of Rust types and declarations.
 //!
-//! A type or a path is given as an [`Encoding`]: a tree written head first in `u32` words, and the
-//! names it uses. Each call hands the encoding to the proved static library and turns its answer
-//! into a `Result`; nothing is copied or checked on the way.
+//! A type, a path or a declaration is given as an [`Encoding`]: a tree written head first in `u32`
+//! words, and the names it uses. Each call hands the encoding to the proved static library and
+//! turns its answer into a `Result`; nothing is copied or checked on the way.
+//!
+//! Encodings can be written by hand, as below, made from a [`tree`] with [`EncodingBuf`], or from
+//! the text form of [`source`].
 //!
 //! ```
 //! use tillercoral::{type_text, Encoding};
@@ -22,9 +25,12 @@
 #![deny(unsafe_code)]
 #![warn(missing_docs)]
 
+mod encode;
 #[allow(unsafe_code)]
 mod ffi;
 mod refusal;
+pub mod source;
+pub mod tree;
 
 #[doc(hidden)]
 pub mod generate;
@@ -33,6 +39,7 @@ pub mod reference;
 #[doc(hidden)]
 pub mod tuned;
 
+pub use encode::EncodingBuf;
 pub use refusal::Refusal;
 
 /// A tree and the names it uses.
@@ -87,6 +94,43 @@ pub fn type_text(encoding: &Encoding<'_>, level: u32, out: &mut [u8]) -> Result<
 /// ```
 pub fn path_text(encoding: &Encoding<'_>, level: u32, out: &mut [u8]) -> Result<usize, Refusal> {
     answer(ffi::path_text(encoding, level, out)).map(|length| length as usize)
+}
+
+/// Writes the text of a declaration to the front of `out` and gives its length.
+///
+/// The level, 0 to 16, is the indent in steps of four spaces. The text does not begin with the
+/// indent, as it goes where the caller has already indented; its other lines do. The buffer is
+/// treated as in [`type_text`].
+///
+/// ```
+/// use tillercoral::{declaration_text, Encoding};
+///
+/// // 25: a struct; its doc, no attributes, its name, no parameters; two named fields:
+/// // `pub mm` of type 7, `i32`, and `id` of type 15 0, `&u8`
+/// let encoding = Encoding {
+///     words: &[25, 17, 0, 16, 0, 0, 2, 0, 18, 7, 1, 19, 15, 0],
+///     pairs: &[0, 5, 5, 13, 18, 2, 20, 2],
+///     text: b"GaugeOffset in mm.mmid",
+/// };
+/// let mut buffer = [0; 128];
+/// let length = declaration_text(&encoding, 0, &mut buffer)?;
+/// assert_eq!(
+///     std::str::from_utf8(&buffer[..length]),
+///     Ok("\
+/// /// Offset in mm.
+/// pub struct Gauge {
+///     pub mm: i32,
+///     id: &u8
+/// }")
+/// );
+/// # Ok::<(), tillercoral::Refusal>(())
+/// ```
+pub fn declaration_text(
+    encoding: &Encoding<'_>,
+    level: u32,
+    out: &mut [u8],
+) -> Result<usize, Refusal> {
+    answer(ffi::declaration_text(encoding, level, out)).map(|length| length as usize)
 }
 
 /// Says whether a type is sound: its text is then the text of no other sound type, wrappers

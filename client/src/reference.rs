@@ -36,71 +36,16 @@ pub const RESERVED: [&str; 17] = [
     "impl", "dyn", "crate", "Self",
 ];
 
-pub type Name = Vec<u8>;
+pub use crate::tree::{Name, Path, Root, Type};
+pub use declaration::{declaration_text, read_declaration};
+pub use doc::convert_docstring;
+pub use file::printdecl;
 
-#[derive(Clone, Copy, Debug, PartialEq, Eq, Hash)]
-pub enum Root {
-    Global,
-    Crate,
-    SelfType,
-}
+mod declaration;
+mod doc;
+mod file;
 
-/// The names hang on the root from left to right; Dafny's `PMemberSelect` nests them the same way.
-#[derive(Clone, Debug, PartialEq, Eq, Hash)]
-pub struct Path {
-    pub root: Root,
-    pub names: Vec<Name>,
-}
-
-#[derive(Clone, Debug, PartialEq, Eq, Hash)]
-pub enum Type {
-    U8,
-    U16,
-    U32,
-    U64,
-    U128,
-    I8,
-    I16,
-    I32,
-    I64,
-    I128,
-    Usize,
-    Bool,
-    Identifier(Name),
-    FromPath(Path),
-    App {
-        base: Box<Type>,
-        arguments: Vec<Type>,
-    },
-    Borrowed(Box<Type>),
-    BorrowedMut(Box<Type>),
-    Impl(Box<Type>),
-    Dyn(Box<Type>),
-    Tuple(Vec<Type>),
-    Fn {
-        arguments: Vec<Type>,
-        result: Box<Type>,
-    },
-    Intersection {
-        left: Box<Type>,
-        right: Box<Type>,
-    },
-    Array {
-        element: Box<Type>,
-        size: Option<Name>,
-    },
-    Synonym {
-        display: Box<Type>,
-        base: Box<Type>,
-    },
-    MetaData {
-        display: Box<Type>,
-        copy_semantics: bool,
-        overflow: bool,
-    },
-}
-
-// The three calls over buffers.
+// The calls for types and paths over buffers.
 
 pub fn type_text(encoding: &Encoding<'_>, level: u32, out: &mut [u8]) -> Result<usize, Refusal> {
     check_level(level)?;
@@ -328,6 +273,7 @@ impl Reader<'_> {
 
 // From a tree to its text. The indent that the Dafny bodies hand down shows nowhere in a type.
 
+#[doc(hidden)]
 impl Path {
     pub fn text(&self) -> Vec<u8> {
         let mut text = Vec::new();
@@ -348,6 +294,7 @@ impl Path {
     }
 }
 
+#[doc(hidden)]
 impl Type {
     pub fn text(&self) -> Vec<u8> {
         let mut text = Vec::new();
@@ -442,6 +389,7 @@ fn append_joined(types: &[Type], text: &mut Vec<u8>) {
 
 // Soundness.
 
+#[doc(hidden)]
 impl Type {
     /// The tree with every wrapper replaced by its display, at all depths.
     pub fn bare(&self) -> Type {
@@ -526,6 +474,7 @@ impl Type {
     }
 }
 
+#[doc(hidden)]
 impl Path {
     pub fn is_sound(&self) -> bool {
         let something_shows = self.root != Root::Global || !self.names.is_empty();

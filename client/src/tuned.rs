@@ -1,11 +1,16 @@
-//! The text of a type as one would write it by hand for speed, in safe Rust: the baseline that the
-//! proved library is compared with.
+//! The text of a type and of a declaration as one would write it by hand for speed, in safe Rust:
+//! the baseline that the proved library is compared with.
 //!
 //! The first pass checks the words and adds up the length of the text, the second writes. Neither
 //! allocates. The second relies on the first for what the words are; where a bounds check remains,
 //! it is Rust's own.
 
 use crate::{Encoding, Refusal};
+
+pub use declaration::declaration_text;
+
+mod declaration;
+mod doc;
 
 const FIXED_COUNT: u32 = 16;
 const DEPTH_LIMIT: usize = 64;
@@ -81,14 +86,10 @@ const FN_CLOSE: &[u8; 5] = b") -> ";
 
 pub fn type_text(encoding: &Encoding<'_>, level: u32, out: &mut [u8]) -> Result<usize, Refusal> {
     let Encoding { words, pairs, text } = *encoding;
-    if level > 16 {
-        return Err(Refusal::BadLevel);
-    }
-    if words.len() > 8_192 || pairs.len() / 2 > 1_024 || text.len() > 16_384 {
-        return Err(Refusal::Overlong);
-    }
-    check_pairs(pairs, text.len())?;
-    let length = measure(words, pairs)?;
+    check_tables(encoding, level)?;
+    let mut rest = words.iter();
+    let length = measure(&mut rest, pairs, &mut { NO_TYPES })?;
+    check_no_rest(&rest)?;
     let out = out.get_mut(..length).ok_or(Refusal::BufferTooShort)?;
     let mut writer = Writer {
         words,
@@ -98,6 +99,25 @@ pub fn type_text(encoding: &Encoding<'_>, level: u32, out: &mut [u8]) -> Result<
     };
     writer.put_type(0, 0);
     Ok(length)
+}
+
+fn check_tables(encoding: &Encoding<'_>, level: u32) -> Result<(), Refusal> {
+    let Encoding { words, pairs, text } = *encoding;
+    if level > 16 {
+        return Err(Refusal::BadLevel);
+    }
+    if words.len() > 8_192 || pairs.len() / 2 > 1_024 || text.len() > 16_384 {
+        return Err(Refusal::Overlong);
+    }
+    check_pairs(pairs, text.len())
+}
+
+fn check_no_rest(rest: &Words<'_>) -> Result<(), Refusal> {
+    if rest.as_slice().is_empty() {
+        Ok(())
+    } else {
+        Err(Refusal::LeftOver)
+    }
 }
 
 fn check_pairs(pairs: &[u32], text_length: usize) -> Result<(), Refusal> {
@@ -117,6 +137,36 @@ fn check_pairs(pairs: &[u32], text_length: usize) -> Result<(), Refusal> {
     }
 }
 
+/// The words that are still to be read.
+type Words<'a> = std::slice::Iter<'a, u32>;
+
+fn next(rest: &mut Words<'_>) -> Result<u32, Refusal> {
+    rest.next().copied().ok_or(Refusal::EndsEarly)
+}
+
+fn name_length(pairs: &[u32], number: u32) -> Result<u32, Refusal> {
+    if number < FIXED_COUNT {
+        return Ok(u32::from(FIXED[number as usize].length));
+    }
+    // The index is below 2^33, and half a pair was refused before.
+    let length = 2 * (number - FIXED_COUNT) as usize + 1;
+    pairs.get(length).copied().ok_or(Refusal::UnknownWord)
+}
+
+/// The length of the text of the path that the words begin with; its words are taken.
+fn measure_path(rest: &mut Words<'_>, pairs: &[u32]) -> Result<u32, Refusal> {
+    let mut length = match next(rest)? {
+        0 => 0,
+        1 => 5,
+        2 => 4,
+        _ => return Err(Refusal::UnknownWord),
+    };
+    for _ in 0..next(rest)? {
+        length += 2 + name_length(pairs, next(rest)?)?;
+    }
+    Ok(length)
+}
+
 /// A type whose children are being read.
 #[derive(Clone, Copy)]
 struct Open {
@@ -128,27 +178,18 @@ struct Open {
 
 const NO_SYNONYM: u32 = u32::MAX;
 
-/// The length of the text, if the words are one whole type.
-fn measure(words: &[u32], pairs: &[u32]) -> Result<usize, Refusal> {
-    let pair_count = (pairs.len() / 2) as u32;
-    let name_length = |number: u32| {
-        if number < FIXED_COUNT {
-            Ok(u32::from(FIXED[number as usize].length))
-        } else if number - FIXED_COUNT < pair_count {
-            Ok(pairs[2 * (number - FIXED_COUNT) as usize + 1])
-        } else {
-            Err(Refusal::UnknownWord)
-        }
-    };
-    let mut rest = words.iter();
-    let mut next = || rest.next().copied().ok_or(Refusal::EndsEarly);
+/// The types around the innermost open one. The outermost entry stands for the call itself, which
+/// waits for one child.
+type Outer = [Open; DEPTH_LIMIT];
 
-    // The types around the innermost open one. The outermost entry stands for the call itself,
-    // which waits for one child.
-    let mut outer = [Open {
-        children_left: 0,
-        length_without_base: 0,
-    }; DEPTH_LIMIT];
+/// A new array for each type would have to be filled each time, so it is lent.
+const NO_TYPES: Outer = [Open {
+    children_left: 0,
+    length_without_base: 0,
+}; DEPTH_LIMIT];
+
+/// The length of the text of the type that the words begin with; its words are taken.
+fn measure(rest: &mut Words<'_>, pairs: &[u32], outer: &mut Outer) -> Result<usize, Refusal> {
     let mut depth = 0;
     let mut open = Open {
         children_left: 1,
@@ -157,30 +198,22 @@ fn measure(words: &[u32], pairs: &[u32]) -> Result<usize, Refusal> {
     let mut length = 0_u32;
 
     loop {
-        let head = next()?;
+        let head = next(rest)?;
         let children = match head {
             0..=11 => {
                 length += u32::from(PLAIN[head as usize].length);
                 0
             }
             12 => {
-                length += name_length(next()?)?;
+                length += name_length(pairs, next(rest)?)?;
                 0
             }
             13 => {
-                length += match next()? {
-                    0 => 0,
-                    1 => 5,
-                    2 => 4,
-                    _ => return Err(Refusal::UnknownWord),
-                };
-                for _ in 0..next()? {
-                    length += 2 + name_length(next()?)?;
-                }
+                length += measure_path(rest, pairs)?;
                 0
             }
             14 => {
-                let count = next()?.min(MORE_THAN_WORDS);
+                let count = next(rest)?.min(MORE_THAN_WORDS);
                 length += 2 * count; // `<`, `>` and a separator between each two
                 count + 1
             }
@@ -189,12 +222,12 @@ fn measure(words: &[u32], pairs: &[u32]) -> Result<usize, Refusal> {
                 1
             }
             19 => {
-                let count = next()?.min(MORE_THAN_WORDS);
+                let count = next(rest)?.min(MORE_THAN_WORDS);
                 length += 2 * count.max(1);
                 count
             }
             20 => {
-                let count = next()?.min(MORE_THAN_WORDS);
+                let count = next(rest)?.min(MORE_THAN_WORDS);
                 length += (FN_OPEN.len() + FN_CLOSE.len()) as u32 + 2 * count.saturating_sub(1);
                 count + 1
             }
@@ -203,15 +236,15 @@ fn measure(words: &[u32], pairs: &[u32]) -> Result<usize, Refusal> {
                 2
             }
             22 => {
-                length += match next()? {
+                length += match next(rest)? {
                     0 => 2,
-                    size => 4 + name_length(size - 1)?,
+                    size => 4 + name_length(pairs, size - 1)?,
                 };
                 1
             }
             23 => 2,
             24 => {
-                if next()? > 3 {
+                if next(rest)? > 3 {
                     return Err(Refusal::UnknownWord);
                 }
                 1
@@ -240,11 +273,7 @@ fn measure(words: &[u32], pairs: &[u32]) -> Result<usize, Refusal> {
                 length = open.length_without_base;
             }
             if depth == 0 {
-                return if rest.as_slice().is_empty() {
-                    Ok(length as usize)
-                } else {
-                    Err(Refusal::LeftOver)
-                };
+                return Ok(length as usize);
             }
             open = outer[depth];
             depth -= 1;
@@ -287,7 +316,14 @@ impl Writer<'_> {
         }
         let pair = 2 * (number - FIXED_COUNT) as usize;
         let (offset, length) = (self.pairs[pair] as usize, self.pairs[pair + 1] as usize);
-        let from = &self.text[offset..];
+        let text = self.text;
+        self.put_front(end, &text[offset..], length)
+    }
+
+    /// Copies the first `length` bytes of `from`, and as with `put_short` some more where it costs
+    /// nothing.
+    #[inline(always)]
+    fn put_front(&mut self, end: usize, from: &[u8], length: usize) -> usize {
         let room = &mut self.out[end..];
         match (room.first_chunk_mut::<16>(), from.first_chunk::<16>()) {
             (Some(chunk), Some(bytes)) if length <= 16 => *chunk = *bytes,
@@ -301,19 +337,38 @@ impl Writer<'_> {
             if i > 0 {
                 end = self.put(end, b", ");
             }
-            // Most children are leaves, and need no call.
-            let head = self.words[at];
-            if head < 12 {
-                end = self.put_short(end, &PLAIN[head as usize]);
-                at += 1;
-            } else if head == 12 {
-                end = self.put_name(end, self.words[at + 1]);
-                at += 2;
-            } else {
-                (at, end) = self.put_type(at, end);
-            }
+            (at, end) = self.put_item(at, end);
         }
         (at, end)
+    }
+
+    /// As `put_type`; most items of a list are leaves, and need no call.
+    #[inline(always)]
+    fn put_item(&mut self, at: usize, end: usize) -> (usize, usize) {
+        let head = self.words[at];
+        if head < 12 {
+            (at + 1, self.put_short(end, &PLAIN[head as usize]))
+        } else if head == 12 {
+            (at + 2, self.put_name(end, self.words[at + 1]))
+        } else {
+            self.put_type(at, end)
+        }
+    }
+
+    fn put_path(&mut self, at: usize, mut end: usize) -> (usize, usize) {
+        match self.words[at] {
+            0 => {}
+            1 => end = self.put(end, b"crate"),
+            _ => end = self.put(end, b"Self"),
+        }
+        let names = at + 2..at + 2 + self.words[at + 1] as usize;
+        let after = names.end;
+        let words = self.words;
+        for &name in &words[names] {
+            end = self.put(end, b"::");
+            end = self.put_name(end, name);
+        }
+        (after, end)
     }
 
     /// Writes the type at word `at` from byte `end` on, and gives where each ends.
@@ -325,21 +380,7 @@ impl Writer<'_> {
             match head {
                 0..=11 => return (at, self.put_short(end, &PLAIN[head as usize])),
                 12 => return (at + 1, self.put_name(end, self.words[at])),
-                13 => {
-                    match self.words[at] {
-                        0 => {}
-                        1 => end = self.put(end, b"crate"),
-                        _ => end = self.put(end, b"Self"),
-                    }
-                    let names = at + 2..at + 2 + self.words[at + 1] as usize;
-                    at = names.end;
-                    let words = self.words;
-                    for &name in &words[names] {
-                        end = self.put(end, b"::");
-                        end = self.put_name(end, name);
-                    }
-                    return (at, end);
-                }
+                13 => return self.put_path(at, end),
                 14 => {
                     let count = self.words[at];
                     (at, end) = self.put_type(at + 1, end);
@@ -379,47 +420,47 @@ impl Writer<'_> {
                 }
                 23 => {
                     (at, end) = self.put_type(at, end);
-                    return (self.skip_type(at), end);
+                    return (skip_type(self.words, at), end);
                 }
                 _ => at += 1, // 24: the flags do not show
             }
         }
     }
+}
 
-    /// Where the type at word `at` ends. Its words were checked, so counting suffices.
-    fn skip_type(&self, mut at: usize) -> usize {
-        let mut types_left = 1_u32;
-        while types_left > 0 {
-            match self.words[at] {
-                0..=11 => {
-                    at += 1;
-                    types_left -= 1;
-                }
-                12 => {
-                    at += 2;
-                    types_left -= 1;
-                }
-                13 => {
-                    at += 3 + self.words[at + 2] as usize;
-                    types_left -= 1;
-                }
-                14 | 20 => {
-                    types_left += self.words[at + 1];
-                    at += 2;
-                }
-                15..=18 => at += 1,
-                19 => {
-                    types_left += self.words[at + 1];
-                    types_left -= 1;
-                    at += 2;
-                }
-                21 | 23 => {
-                    types_left += 1;
-                    at += 1;
-                }
-                _ => at += 2, // 22, 24
+/// Where the type at word `at` ends. Its words were checked, so counting suffices.
+fn skip_type(words: &[u32], mut at: usize) -> usize {
+    let mut types_left = 1_u32;
+    while types_left > 0 {
+        match words[at] {
+            0..=11 => {
+                at += 1;
+                types_left -= 1;
             }
+            12 => {
+                at += 2;
+                types_left -= 1;
+            }
+            13 => {
+                at += 3 + words[at + 2] as usize;
+                types_left -= 1;
+            }
+            14 | 20 => {
+                types_left += words[at + 1];
+                at += 2;
+            }
+            15..=18 => at += 1,
+            19 => {
+                types_left += words[at + 1];
+                types_left -= 1;
+                at += 2;
+            }
+            21 | 23 => {
+                types_left += 1;
+                at += 1;
+            }
+            _ => at += 2, // 22, 24
         }
-        at
     }
+    at
 }

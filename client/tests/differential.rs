@@ -1,76 +1,16 @@
 //! Compares the library, the reference and the hand-tuned version on made-up encodings, whole ones
 //! and damaged ones: same answer, same buffer to the last byte.
 
+mod common;
+
 use std::collections::hash_map::Entry;
 use std::collections::HashMap;
 
-use tillercoral::generate::{
-    damage, damage_names, random_path, random_type, Names, Random, Sample, Shape,
+use common::{bare, buffer_lengths, check_text, gauge, pattern, shape, Tally};
+use tillercoral::generate::{damage, damage_names, random_path, random_type, Names, Random, Shape};
+use tillercoral::{
+    path_text, reference, tuned, type_is_sound, type_text, Encoding, EncodingBuf, Refusal,
 };
-use tillercoral::{path_text, reference, tuned, type_is_sound, type_text, Encoding, Refusal};
-
-type TextCall = fn(&Encoding<'_>, u32, &mut [u8]) -> Result<usize, Refusal>;
-
-/// A pattern in which a misplaced byte shows.
-fn pattern(length: usize) -> Vec<u8> {
-    (0..length).map(|i| (i * 37 + i / 256 + 5) as u8).collect()
-}
-
-/// One call on one buffer; the answer and the buffer must be those wanted.
-fn check_text(
-    what: &str,
-    call: TextCall,
-    encoding: &Encoding<'_>,
-    level: u32,
-    length: usize,
-    wanted: &Result<Vec<u8>, Refusal>,
-) {
-    let mut wanted_buffer = pattern(length);
-    let wanted_answer = match wanted {
-        Ok(text) if text.len() <= length => {
-            wanted_buffer[..text.len()].copy_from_slice(text);
-            Ok(text.len())
-        }
-        Ok(_) => Err(Refusal::BufferTooShort),
-        Err(refusal) => Err(*refusal),
-    };
-    let mut buffer = pattern(length);
-    let answer = call(encoding, level, &mut buffer);
-    assert_eq!(
-        answer, wanted_answer,
-        "{what}, level {level}, buffer of {length}: {encoding:?}"
-    );
-    assert!(
-        buffer == wanted_buffer,
-        "{what}, level {level}, buffer of {length}: wrong bytes for {encoding:?}"
-    );
-}
-
-/// How often each answer was met, so that a test can show that it met them all.
-#[derive(Default, Debug)]
-struct Tally {
-    texts: usize,
-    refusals: [usize; 12],
-    sound: usize,
-    unsound: usize,
-}
-
-impl Tally {
-    fn count_text(&mut self, wanted: &Result<Vec<u8>, Refusal>) {
-        match wanted {
-            Ok(_) => self.texts += 1,
-            Err(refusal) => self.refusals[refusal.number() as usize] += 1,
-        }
-    }
-
-    fn refused(&self, refusal: Refusal) -> usize {
-        self.refusals[refusal.number() as usize]
-    }
-
-    fn all_refused(&self) -> usize {
-        self.refusals.iter().sum()
-    }
-}
 
 /// All calls for a type on one encoding, with buffers of many lengths.
 fn check_type(encoding: &Encoding<'_>, level: u32, tally: &mut Tally) {
@@ -125,83 +65,6 @@ fn check_path(encoding: &Encoding<'_>, level: u32, tally: &mut Tally) {
     );
 }
 
-/// Exact, one less, none, much longer.
-fn buffer_lengths(wanted: &Result<Vec<u8>, Refusal>) -> Vec<usize> {
-    match wanted {
-        Ok(text) if text.is_empty() => vec![0, 1, 100],
-        Ok(text) => vec![
-            text.len(),
-            text.len() - 1,
-            0,
-            text.len() + 1,
-            2 * text.len() + 100,
-        ],
-        Err(_) => vec![0, 64],
-    }
-}
-
-/// The pairs and the text of the papers' marked cases: `Gauge`, a sentence, `mm`, `id`.
-const GAUGE_PAIRS: [u32; 8] = [0, 5, 5, 13, 18, 2, 20, 2];
-const GAUGE_TEXT: &[u8] = b"GaugeOffset in mm.mmid";
-
-fn gauge(words: &[u32]) -> Encoding<'_> {
-    Encoding {
-        words,
-        pairs: &GAUGE_PAIRS,
-        text: GAUGE_TEXT,
-    }
-}
-
-fn bare(words: &[u32]) -> Encoding<'_> {
-    Encoding {
-        words,
-        pairs: &[],
-        text: &[],
-    }
-}
-
-/// A shape for each round: small, wide, deep, chains; careful and careless of soundness.
-fn shape(round: usize, random: &mut Random) -> Shape {
-    let careless = [0, 3, 10, 100][round % 4];
-    match round / 4 % 5 {
-        0 => Shape {
-            depth: 1 + random.below(4),
-            chain: false,
-            children: 3,
-            words: 40,
-            careless,
-        },
-        1 => Shape {
-            depth: 3 + random.below(8),
-            chain: false,
-            children: 5,
-            words: 150,
-            careless,
-        },
-        2 => Shape {
-            depth: 2,
-            chain: false,
-            children: 60,
-            words: 400,
-            careless,
-        },
-        3 => Shape {
-            depth: 60 + random.below(8), // 65 and more are refused
-            chain: true,
-            children: 2,
-            words: 1_000,
-            careless,
-        },
-        _ => Shape {
-            depth: 10 + random.below(40),
-            chain: true,
-            children: 5,
-            words: 300,
-            careless,
-        },
-    }
-}
-
 #[test]
 fn random_types() {
     let random = &mut Random::new(11);
@@ -210,7 +73,7 @@ fn random_types() {
         let names = Names::random(random, 12);
         let shape = shape(round, random);
         let sample = random_type(random, &names, shape);
-        check_type(&sample.encoding(), random.below(17) as u32, &mut tally);
+        check_type(&sample.as_encoding(), random.below(17) as u32, &mut tally);
     }
     println!("{tally:?}");
     assert!(tally.texts > 40_000);
@@ -229,7 +92,7 @@ fn damaged_types() {
         for _ in 0..1 + random.below(2) {
             damage(random, &mut sample);
         }
-        check_type(&sample.encoding(), 0, &mut tally);
+        check_type(&sample.as_encoding(), 0, &mut tally);
     }
     println!("{tally:?}");
     assert!(tally.texts > 5_000);
@@ -248,7 +111,7 @@ fn damaged_pairs() {
         let shape = shape(round % 8, random);
         let mut sample = random_type(random, &names, shape);
         damage_names(random, &mut sample);
-        check_type(&sample.encoding(), 0, &mut tally);
+        check_type(&sample.as_encoding(), 0, &mut tally);
     }
     println!("{tally:?}");
     assert!(tally.texts > 2_000);
@@ -268,14 +131,14 @@ fn truncated_types() {
         for length in 0..sample.words.len() {
             let part = Encoding {
                 words: &sample.words[..length],
-                ..sample.encoding()
+                ..sample.as_encoding()
             };
             check_type(&part, 0, &mut tally);
         }
         for word in [0, 12, 25, u32::MAX] {
             let mut longer = sample.clone();
             longer.words.push(word);
-            check_type(&longer.encoding(), 0, &mut tally);
+            check_type(&longer.as_encoding(), 0, &mut tally);
         }
     }
     println!("{tally:?}");
@@ -322,7 +185,7 @@ fn paths() {
                 for length in 0..sample.words.len() {
                     let part = Encoding {
                         words: &sample.words[..length],
-                        ..sample.encoding()
+                        ..sample.as_encoding()
                     };
                     check_path(&part, 0, &mut tally);
                 }
@@ -330,7 +193,7 @@ fn paths() {
             _ => {}
         }
         let level = random.below(19) as u32;
-        check_path(&sample.encoding(), level, &mut tally);
+        check_path(&sample.as_encoding(), level, &mut tally);
     }
     println!("{tally:?}");
     assert!(tally.texts > 10_000);
@@ -360,15 +223,15 @@ fn soundness() {
         if round % 8 == 7 {
             damage(random, &mut sample);
         }
-        let wanted = reference::type_is_sound(&sample.encoding());
-        assert_eq!(type_is_sound(&sample.encoding()), wanted, "{sample:?}");
+        let wanted = reference::type_is_sound(&sample.as_encoding());
+        assert_eq!(type_is_sound(&sample.as_encoding()), wanted, "{sample:?}");
         match wanted {
             Ok(true) => answers[0] += 1,
             Ok(false) => answers[1] += 1,
             Err(_) => answers[2] += 1,
         }
         if round % 64 == 0 {
-            check_type(&sample.encoding(), 0, &mut tally);
+            check_type(&sample.as_encoding(), 0, &mut tally);
         }
     }
     println!("yes, no, refused: {answers:?}");
@@ -432,7 +295,7 @@ fn texts_of_sound_types_are_unique() {
     let random = &mut Random::new(17);
     // Few names, some of them with the bytes of fixed ones, so that the same tree comes up often.
     let names = Names::of(&[b"T", b"std", b"T", b"_", b"Rc", b"8"]);
-    let mut tree_of: HashMap<Vec<u8>, (reference::Type, Sample)> = HashMap::new();
+    let mut tree_of: HashMap<Vec<u8>, (reference::Type, EncodingBuf)> = HashMap::new();
     let mut text_of: HashMap<reference::Type, Vec<u8>> = HashMap::new();
     let (mut sound, mut met_again, mut other_words) = (0, 0, 0);
     for round in 0..200_000 {
@@ -444,14 +307,14 @@ fn texts_of_sound_types_are_unique() {
             careless: [0, 30][round % 2],
         };
         let sample = random_type(random, &names, shape);
-        if type_is_sound(&sample.encoding()) != Ok(true) {
+        if type_is_sound(&sample.as_encoding()) != Ok(true) {
             continue;
         }
         sound += 1;
         let mut buffer = [0; 4_096];
-        let length = type_text(&sample.encoding(), 0, &mut buffer).expect("a short text");
+        let length = type_text(&sample.as_encoding(), 0, &mut buffer).expect("a short text");
         let text = buffer[..length].to_vec();
-        let tree = reference::read_type(&sample.encoding())
+        let tree = reference::read_type(&sample.as_encoding())
             .expect("accepted")
             .bare();
         match text_of.entry(tree.clone()) {
@@ -530,9 +393,9 @@ fn large_random_types() {
             careless: [0, 100, 1][round % 3],
         };
         let mut sample = random_type(random, &names, shape);
-        check_type(&sample.encoding(), 0, &mut tally);
+        check_type(&sample.as_encoding(), 0, &mut tally);
         damage(random, &mut sample);
-        check_type(&sample.encoding(), 0, &mut tally);
+        check_type(&sample.as_encoding(), 0, &mut tally);
     }
     println!("{tally:?}");
     assert!(tally.texts > 100 && tally.all_refused() > 50);
@@ -687,7 +550,7 @@ fn huge_words() {
             for word in [8_192, 65_536, 1 << 31, u32::MAX - 16, u32::MAX] {
                 let mut huge = sample.clone();
                 huge.words[at] = word;
-                check_type(&huge.encoding(), 0, &mut tally);
+                check_type(&huge.as_encoding(), 0, &mut tally);
             }
         }
     }

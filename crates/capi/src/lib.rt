@@ -1,9 +1,9 @@
 // The exported calls, for C and Rust. Each calls one proved function and turns its answer into a number.
 ghost use mathlib.Core.Path.{_≡_};
 ghost use Rattle.text.specs.Calls.{filled, typeText, pathText};
+ghost use Rattle.declaration.specs.Calls.{declarationText};
 ghost use Rattle.soundness.specs.Calls.{typeIsSound};
-ghost use Rattle.encoding.specs.Refusals.{number};
-ghost use Prim.Native.Nat.{_+_, _^_};
+ghost use Prim.Native.Nat.{_+_};
 ghost use Rattle.capi.specs.Numbers.{textNumber, textCall, soundNumber, soundCall, refusedNumber};
 use encoding::Refusal;
 use soundness::SoundAnswer;
@@ -59,6 +59,19 @@ pub extern "C" fn tillercoral_path_text(
     ensures { λ n. ⌜ (n, now (out .exit)) ≡ textCall (filled (now (out .entry)) (pathText (now (words .entry)) (now (pairs .entry)) (now (text .entry)) level)) ⌝ }
 {
     text_number(text::path_text(words, pairs, text, level, out))
+}
+
+#[no_mangle]
+pub extern "C" fn tillercoral_declaration_text(
+    words: &[u32],
+    pairs: &[u32],
+    text: &[u8],
+    level: u32,
+    out: &mut [u8],
+) -> u64
+    ensures { λ n. ⌜ (n, now (out .exit)) ≡ textCall (filled (now (out .entry)) (declarationText (now (words .entry)) (now (pairs .entry)) (now (text .entry)) level)) ⌝ }
+{
+    text_number(declaration::declaration_text(words, pairs, text, level, out))
 }
 
 #[no_mangle]

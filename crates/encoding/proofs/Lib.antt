@@ -1,6 +1,8 @@
 -- Laws of the tables, of reading, and of heads.
 pub mod Tables
+pub mod Names
 pub mod Reading
 pub mod Heads
 pub mod Inside
 pub mod Types
+pub mod TypeKinds

@@ -6,6 +6,7 @@ use native.Mathlib.Omega.{arith}
 use lib.ListN.{length}
 use Rattle.rast.specs.Bytes.{Bytes}
 use Rattle.rast.specs.Tree.{Ty, Tys, TypeApp, FnType, IntersectionType, TSynonym, TupleType, nil, cons}
+use Rattle.encoding.specs.declared.Refusal.the-variants.{EndsEarly}
 use Rattle.encoding.specs.declared.Head.{Head}
 use Rattle.encoding.specs.declared.Head.the-variants.{Plain, Name, FromPath, Apply, Ref, RefMut, Impl, Dyn, Tuple, Function, Both, ArrayOf, Synonym, Meta}
 use Rattle.encoding.specs.Tables.{nameBytes, nameCount}
@@ -13,6 +14,7 @@ use Rattle.encoding.specs.Reading.{Reading, got, stop, _>>=_}
 use Rattle.encoding.specs.Heads.{readHead}
 use Rattle.encoding.specs.Types.{readTypes, readNode, readType, typeAt}
 use Rattle.encoding.proofs.Tables.{impossible}
+use Rattle.encoding.proofs.Reading.{word-end}
 use Rattle.encoding.proofs.Inside.{head-lies}
 
 -- ---- the parts of a reading
@@ -193,3 +195,8 @@ pub type-lies : (ws pairs : List ℕ) (text : Bytes) (at : ℕ) {t : Ty Bytes} {
 type-lies ws pairs text at {t} {n} l e =
     let a = type-advances (nameCount pairs) ws (nameBytes pairs text) 64 at t n l e in
     record { starts = omega arith; ends = a .1 }
+
+-- behind the words there is no type
+pub type-end : (ws pairs text : List ℕ) (at : ℕ) → length ws ≤ at → typeAt ws pairs text at ≡ stop EndsEarly
+unfolding readType readHead
+type-end ws pairs text at h = rw (word-end ws at h)

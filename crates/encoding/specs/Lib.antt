@@ -4,3 +4,4 @@ pub mod Tables
 pub mod Heads
 pub mod Scans
 pub mod Types
+pub mod Declarations

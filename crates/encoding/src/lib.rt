@@ -2,8 +2,9 @@
 ghost use mathlib.Core.Path.{_≡_};
 ghost use mathlib.Core.Bool.{true};
 ghost use mathlib.Core.List.{[]};
-ghost use Prim.Native.Nat.{_+_, _*_, _^_, _≤_, _<_};
-ghost use lib.ListN.{length, getD};
+ghost use Prim.Native.Nat.{_+_, _*_, _-_, _^_, _≤_, _<_};
+ghost use lib.ListN.{length, getD, take, drop};
+ghost use Rattle.rast.specs.Bytes.{same};
 ghost use Rattle.output.specs.Wrote.{Wrote};
 ghost use Rattle.encoding.specs.Refusals.{number};
 ghost use Rattle.encoding.specs.Tables.{checkLevel, checkTables, goodPairs, fixedNames, nameBytes, nameLength, nameCount, Good};
@@ -150,6 +151,52 @@ pub fn put_name(pairs: &[u32], text: &[u8], name: u32, out: &mut [u8], pos: usiz
     let start = pairs[2 * i] as usize;
     let count = pairs[2 * i + 1] as usize;
     output::put_part(text, start, count, out, pos)
+}
+
+pub fn same_bytes(a: &[u8], b: &[u8]) -> bool
+    ensures { λ r. ⌜ r ≡ same (now (a .entry)) (now (b .entry)) ⌝ }
+{
+    if a.len() != b.len() {
+        return false;
+    }
+    let mut i = 0;
+    while i < a.len() {
+        if a[i] != b[i] {
+            return false;
+        }
+        i += 1;
+    }
+    true
+}
+
+// A byte string's part is taken here, since one is not taken where the string is made.
+pub fn part(bytes: &[u8], start: usize, end: usize) -> &[u8]
+    requires { ⌜ (start ≤ end) × (end ≤ length (now bytes)) ⌝ }
+    ensures { λ r. ⌜ now r ≡ take (end - start) (drop start (now (bytes .entry))) ⌝ }
+{
+    &bytes[start..end]
+}
+
+// The bytes of a name that stands in the text.
+pub fn pair_bytes<'a>(pairs: &[u32], text: &'a [u8], name: u32) -> &'a [u8]
+    requires { ⌜ (16 ≤ name) × (name < nameCount (now pairs)) × Good (now pairs) (now text) ⌝ }
+    ensures { λ r. ⌜ now r ≡ nameBytes (now (pairs .entry)) (now (text .entry)) name ⌝ }
+{
+    let i = (name - 16) as usize;
+    let start = pairs[2 * i] as usize;
+    let end = start + pairs[2 * i + 1] as usize;
+    part(text, start, end)
+}
+
+// Whether a name is the fixed name `k`, whose bytes are `bytes`.
+pub fn is_name(pairs: &[u32], text: &[u8], name: u32, k: u32, bytes: &[u8]) -> bool
+    requires { ⌜ (name < nameCount (now pairs)) × Good (now pairs) (now text) × (k < 16) × (now bytes ≡ getD fixedNames k []) ⌝ }
+    ensures { λ r. ⌜ r ≡ same (nameBytes (now (pairs .entry)) (now (text .entry)) name) (getD fixedNames k []) ⌝ }
+{
+    if name < 16 {
+        return name == k;
+    }
+    same_bytes(pair_bytes(pairs, text, name), bytes)
 }
 
 // A word that was read, and the position behind it.

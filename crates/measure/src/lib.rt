@@ -379,9 +379,12 @@ fn advance(
 
 // Where the type at `at` ends and how long its text is, or the refusal that is met first.
 pub fn measure_type(words: &[u32], pairs: &[u32], text: &[u8], at: usize) -> Measure
-    requires { ⌜ Good (now pairs) (now text) × (length (now words) ≤ 8192) × (at ≤ length (now words)) ⌝ }
+    requires { ⌜ Good (now pairs) (now text) × (length (now words) ≤ 8192) ⌝ }
     ensures { λ r. ⌜ r ≡ measureOf (typeAt (now (words .entry)) (now (pairs .entry)) (now (text .entry)) at) ⌝ }
 {
+    if words.len() < at {
+        return Measure::Stopped(Refusal::EndsEarly);
+    }
     let bound = encoding::name_count(pairs);
     let mut levels = [0u64; 64];
     let mut pass = Pass {

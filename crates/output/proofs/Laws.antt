@@ -51,3 +51,24 @@ copied-more l o start count p i h k =
 -- a part that lies in its list has its count of bytes
 pub part-length : (l : List ℕ) (start count : ℕ) → start + count ≤ length l → length (take count (drop start l)) ≡ count
 part-length l start count h = simp (length-take, length-drop) (omega arith)
+
+-- ---- the front of a buffer
+
+sets-cons : (b o : List ℕ) (x p : ℕ) → sets (x ∷ o) (suc p) b ≡ x ∷ sets o p b
+sets-cons [] o x p = refl
+sets-cons (y ∷ b) o x p = sets-cons b (set o p y) x (suc p)
+
+pub sets-front : (b o : List ℕ) → length b ≤ length o → sets o 0 b ≡ b ++ drop (length b) o
+sets-front [] o h = refl
+sets-front (x ∷ b) [] h = absurd (let z : ⊥ = omega arith in z)
+sets-front (x ∷ b) (y ∷ o) h = sets-cons b o x 0 ∙ ap (_∷_ x) (sets-front b o (omega arith))
+
+take-front : (b o : List ℕ) → take (length b) (b ++ o) ≡ b
+take-front [] o = refl
+take-front (x ∷ b) o = ap (_∷_ x) (take-front b o)
+
+-- what is written from the front on stands in the front
+pub wrote-front : {o o′ b : List ℕ} {p : ℕ} → length b ≤ length o → Wrote o 0 b o′ p → take p o′ ≡ b
+wrote-front {o} {o′} {b} {p} h w =
+    let e : p ≡ length b = omega (arith, w .next) in
+    rw (e, w .bytes, sets-front b o h) (take-front b (drop (length b) o))

@@ -1,1 +1,2 @@
 pub mod Wrote
+pub mod Laid

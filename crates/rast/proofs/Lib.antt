@@ -6,3 +6,7 @@ pub mod Unique
 pub mod BareLaws
 pub mod SourceEquations
 pub mod Examples
+pub mod DocEquation
+pub mod DocBranches
+pub mod DocExamples
+pub mod DeclarationExamples

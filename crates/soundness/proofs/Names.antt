@@ -1,6 +1,6 @@
 -- Laws of words, of the words that are no names, and of names and sizes.
-use Prim.Native.Nat.{ℕ, suc, _+_, _-_, _≤_, _<_}
-use mathlib.Core.Path.{_≡_, refl, ap}
+use Prim.Native.Nat.{ℕ, _+_, _-_, _≤_, _<_}
+use mathlib.Core.Path.{_≡_, refl}
 use mathlib.Core.Bool.{Bool, true, false, not, Bool·beq}
 use mathlib.Core.List.{List, [], _∷_}
 use mathlib.Core.Option.{some}
@@ -14,26 +14,13 @@ use Rattle.rast.specs.Bytes.{Bytes, ascii, same, each, among, _and_, _or_}
 use Rattle.rast.specs.Sound.{within, isLetter, isWordStart, isWordByte, isWord, excluded, soundName, soundSize}
 use Rattle.encoding.specs.Tables.{fixedNames, nameBytes}
 use Rattle.encoding.specs.Types.{sizeOf}
-use Rattle.encoding.proofs.Tables.{impossible, everyBelow, every-at, same-eq, name-fixed}
-
-pub and-false : (a : Bool) → (a and false) ≡ false
-unfolding _and_
-and-false true = refl
-and-false false = refl
+use Rattle.encoding.proofs.Tables.{everyBelow, every-at, same-eq, name-fixed}
+use Rattle.encoding.proofs.Names.{beq-eq}
 
 pub and-true : (a : Bool) → (a and true) ≡ a
 unfolding _and_
 and-true true = refl
 and-true false = refl
-
--- a conjunction, by what its first part is
-pub and-no : {a : Bool} (b : Bool) → a ≡ false → (a and b) ≡ false
-unfolding _and_
-and-no b e = rw e
-
-pub and-yes : {a : Bool} (b : Bool) → a ≡ true → (a and b) ≡ b
-unfolding _and_
-and-yes b e = rw e
 
 pub or-false : (a : Bool) → (a or false) ≡ a
 or-false true = refl
@@ -43,12 +30,6 @@ pub and-assoc : (a b c : Bool) → (a and b and c) ≡ (a and (b and c))
 unfolding _and_
 and-assoc true b c = refl
 and-assoc false b c = refl
-
--- the part from s to s + n
-pub part-to : (l : Bytes) (s n : ℕ) → take (s + n - s) (drop s l) ≡ take n (drop s l)
-part-to l s n =
-    let e : s + n - s ≡ n = omega arith in
-    rw e
 
 -- ---- words
 
@@ -69,24 +50,6 @@ pub word-some : (l : Bytes) → 0 < length l → isWord l ≡ (isWordStart (getD
 unfolding isWord
 word-some [] h = absurd (let z : ⊥ = omega arith in z)
 word-some (x ∷ l) h = refl
-
--- ---- equal bytes
-
-pub same-apart : (a b : Bytes) → (length a ≡ length b → ⊥) → same a b ≡ false
-unfolding same
-same-apart [] [] h = absurd (h refl)
-same-apart [] (y ∷ b) h = refl
-same-apart (x ∷ a) [] h = refl
-same-apart (x ∷ a) (y ∷ b) h = rw (same-apart a b (λ e. h (ap suc e))) (and-false (eqb x y))
-
-pub same-more : (a b : Bytes) (i : ℕ) → i < length a → i < length b
-    → same (drop i a) (drop i b) ≡ (eqb (getD a i 0) (getD b i 0) and same (drop (i + 1) a) (drop (i + 1) b))
-unfolding same
-same-more a b i h k = rw (add-one i, drop-cons a i 0 h, drop-cons b i 0 k)
-
-pub same-end : (a b : Bytes) (i : ℕ) → length a ≤ i → length b ≤ i → same (drop i a) (drop i b) ≡ true
-unfolding same
-same-end a b i h k = rw (drop-of-length-le a h, drop-of-length-le b k)
 
 -- ---- the words that are no names
 
@@ -121,12 +84,6 @@ excluded-inside k h =
     (every-at (λ i. leb (getD starts i 0 + getD lengths i 0) 58) 17 refl k h)
 
 -- ---- fixed names
-
-beq-eq : (a b : Bool) → Bool·beq a b ≡ true → a ≡ b
-beq-eq true true e = refl
-beq-eq true false e = impossible (cc)
-beq-eq false true e = impossible (cc)
-beq-eq false false e = refl
 
 -- of the fixed names only the first, the empty one, is unsound
 pub fixed-sound : (pairs text : List ℕ) (x : ℕ) → x < 16 → soundName (nameBytes pairs text x) ≡ not (eqb x 0)

@@ -16,7 +16,8 @@ use Rattle.encoding.specs.Refusals.{pick}
 use Rattle.encoding.specs.Types.{rootOf, pathOf}
 use Rattle.output.proofs.Laws.{part-length}
 use Rattle.soundness.specs.Judging.{allNamesSound}
-use Rattle.soundness.proofs.Names.{and-true, and-assoc, part-to}
+use Rattle.encoding.proofs.Names.{part-to}
+use Rattle.soundness.proofs.Names.{and-true, and-assoc}
 
 -- ---- the names one by one
 

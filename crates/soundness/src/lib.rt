@@ -2,7 +2,7 @@
 ghost use mathlib.Core.Path.{_≡_};
 ghost use mathlib.Core.Bool.{not};
 ghost use mathlib.Core.List.{[]};
-ghost use Prim.Native.Nat.{_+_, _-_, _≤_, _<_};
+ghost use Prim.Native.Nat.{_+_, _-_, _<_};
 ghost use lib.Dec.{ltb};
 ghost use lib.ListN.{length, take, drop, getD};
 ghost use Rattle.rast.specs.Bytes.{_and_, same, each, among};
@@ -118,30 +118,6 @@ fn is_word(bytes: &[u8]) -> bool
     false
 }
 
-fn same_bytes(a: &[u8], b: &[u8]) -> bool
-    ensures { λ r. ⌜ r ≡ same (now (a .entry)) (now (b .entry)) ⌝ }
-{
-    if a.len() != b.len() {
-        return false;
-    }
-    let mut i = 0;
-    while i < a.len() {
-        if a[i] != b[i] {
-            return false;
-        }
-        i += 1;
-    }
-    true
-}
-
-// A byte string's part is taken here, since one is not taken where the string is made.
-fn part(bytes: &[u8], start: usize, end: usize) -> &[u8]
-    requires { ⌜ (start ≤ end) × (end ≤ length (now bytes)) ⌝ }
-    ensures { λ r. ⌜ now r ≡ take (end - start) (drop start (now (bytes .entry))) ⌝ }
-{
-    &bytes[start..end]
-}
-
 // The words that are no names stand one behind the other in `is_excluded_word`: where each starts, and how long it is.
 const STARTS: [u8; 17] = [
     0,
@@ -173,7 +149,7 @@ fn is_excluded_word(bytes: &[u8], k: usize) -> bool
     let all = b"u8u16u32u64u128i8i16i32i64i128usizeboolmutimpldyncrateSelf";
     let start = STARTS[k] as usize;
     let end = start + LENGTHS[k] as usize;
-    same_bytes(bytes, part(all, start, end))
+    encoding::same_bytes(bytes, encoding::part(all, start, end))
 }
 
 // `bytes` is one of the words that are no names.
@@ -190,17 +166,6 @@ fn is_excluded(bytes: &[u8]) -> bool
     false
 }
 
-// The bytes of a name that stands in the text.
-fn pair_bytes<'a>(pairs: &[u32], text: &'a [u8], name: u32) -> &'a [u8]
-    requires { ⌜ (16 ≤ name) × (name < nameCount (now pairs)) × Good (now pairs) (now text) ⌝ }
-    ensures { λ r. ⌜ now r ≡ nameBytes (now (pairs .entry)) (now (text .entry)) name ⌝ }
-{
-    let i = (name - 16) as usize;
-    let start = pairs[2 * i] as usize;
-    let end = start + pairs[2 * i + 1] as usize;
-    part(text, start, end)
-}
-
 // Of the fixed names only the empty one is unsound.
 fn sound_name(pairs: &[u32], text: &[u8], name: u32) -> bool
     requires { ⌜ (name < nameCount (now pairs)) × Good (now pairs) (now text) ⌝ }
@@ -209,7 +174,7 @@ fn sound_name(pairs: &[u32], text: &[u8], name: u32) -> bool
     if name < 16 {
         return name != 0;
     }
-    let bytes = pair_bytes(pairs, text, name);
+    let bytes = encoding::pair_bytes(pairs, text, name);
     if is_word(bytes) {
         return !is_excluded(bytes);
     }
@@ -224,7 +189,7 @@ fn sound_size(pairs: &[u32], text: &[u8], size: u32) -> bool
     if size < 17 {
         return size != 1;
     }
-    let bytes = pair_bytes(pairs, text, size - 1);
+    let bytes = encoding::pair_bytes(pairs, text, size - 1);
     if bytes.len() == 0 {
         return false;
     }

@@ -1,14 +1,15 @@
 -- Laws of the text calls: from what was read, measured and written to the answer and the buffer.
-use Prim.Native.Nat.{ℕ, zero, suc, _≤_, _<_}
-use mathlib.Core.Path.{_≡_, refl, ap, sym, _∙_}
+use Prim.Native.Nat.{ℕ, _≤_, _<_}
+use mathlib.Core.Path.{_≡_, refl, ap}
 use mathlib.Core.Bool.{Bool, true, false}
-use mathlib.Core.List.{List, [], _∷_, _++_}
+use mathlib.Core.List.{List, _++_}
 use native.Mathlib.Omega.{arith}
 use borrow.Author.Tests.{le-leb, lt-leb, eq-eqb, ne-eqb}
 use lib.Dec.{leb}
-use lib.ListN.{length, drop, set, length-append}
+use lib.ListN.{length, drop, length-append}
 use lib.Seq.{sets}
 use Rattle.rast.specs.Bytes.{Bytes}
+use Rattle.output.proofs.Laws.{sets-front}
 use Rattle.rast.specs.Tree.{Ty}
 use Rattle.rast.specs.ToString.{Type·ToString}
 use Rattle.encoding.specs.declared.Refusal.{Refusal}
@@ -37,17 +38,6 @@ measured-got (stop k) e d = impossible (cc)
 pub measured-stop : (x : Reading (Ty Bytes)) {r : Measure} {k : Refusal} → r ≡ measureOf x → r ≡ Stopped k → x ≡ stop k
 measured-stop (got t m) e d = impossible (cc)
 measured-stop (stop k) e d = cc
-
--- ---- the front of a buffer
-
-sets-cons : (b o : List ℕ) (x p : ℕ) → sets (x ∷ o) (suc p) b ≡ x ∷ sets o p b
-sets-cons [] o x p = refl
-sets-cons (y ∷ b) o x p = sets-cons b (set o p y) x (suc p)
-
-sets-front : (b o : List ℕ) → length b ≤ length o → sets o 0 b ≡ b ++ drop (length b) o
-sets-front [] o h = refl
-sets-front (x ∷ b) [] h = absurd (let z : ⊥ = omega arith in z)
-sets-front (x ∷ b) (y ∷ o) h = sets-cons b o x 0 ∙ ap (_∷_ x) (sets-front b o (omega arith))
 
 -- ---- answers
 

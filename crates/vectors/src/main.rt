@@ -2,12 +2,12 @@
 //
 // A record is a header of six numbers (the call, the level, how many words, numbers in the pair table, text bytes and buffer bytes), then the
 // words, the pair table and the text. Each number is a u32, little-endian. The answer is a line `done N` or `refused N` and the whole buffer,
-// which held `.` bytes before the call; of a soundness call it is `yes`, `no` or `refused N`. What is no such record ends the run with the
-// line `bad record`.
+// which held `.` bytes before the call; of a soundness call it is `yes`, `no` or `refused N`. A call that prints a file has the file for its
+// text, and the answer is what is printed. What is no such record ends the run with the line `bad record`.
 ghost use mathlib.Core.Path.{_≡_};
-ghost use Prim.Native.Nat.{ℕ, _+_, _*_, _≤_, _<_};
-ghost use lib.ListN.{length, getD};
-ghost use Rattle.vectors.specs.Numbers.{fromBytes, numberAt, headerOf};
+ghost use Prim.Native.Nat.{_≤_};
+ghost use lib.ListN.{length};
+ghost use Rattle.vectors.specs.Header.{headerOf};
 use encoding::Refusal;
 use libc::STDIN_FILENO;
 use libc::STDOUT_FILENO;
@@ -20,13 +20,17 @@ const PATH_TEXT: u32 = 2;
 
 const TYPE_IS_SOUND: u32 = 3;
 
-// The most that a record may hold: a little more than the limits of an encoding, so that these can be passed.
+const DECLARATION_TEXT: u32 = 4;
+
+const PRINTED_FILE: u32 = 5;
+
+// The most that a record may hold: a little more than the limits of an encoding and of a file, so that these can be passed.
 const MOST_WORDS: usize = 8256;
 
 // Counted in numbers, two to a pair.
 const MOST_PAIRS: usize = 2112;
 
-const MOST_TEXT: usize = 16448;
+const MOST_TEXT: usize = 57600;
 
 const MOST_BUFFER: usize = 4096;
 
@@ -44,43 +48,16 @@ struct Header {
     buffer: usize,
 }
 
-// The number that four bytes hold, the lowest first.
-fn from_bytes(a: u8, b: u8, c: u8, d: u8) -> u32
-    ensures { λ r. ⌜ r ≡ fromBytes a b c d ⌝ }
-{
-    a as u32 + 256 * (b as u32) + 65536 * (c as u32) + 16777216 * (d as u32)
-}
-
-// The number whose four bytes begin at `at`.
-fn number_at(bytes: &[u8], at: usize) -> u32
-    requires { ⌜ at + 4 ≤ length (now bytes) ⌝ }
-    ensures { λ r. ⌜ r ≡ numberAt (now (bytes .entry)) at ⌝ }
-{
-    from_bytes(bytes[at], bytes[at + 1], bytes[at + 2], bytes[at + 3])
-}
-
 fn header_of(bytes: &[u8; HEADER_BYTES]) -> Header
     ensures { λ r. ⌜ r ≡ headerOf (now (bytes .entry)) ⌝ }
 {
     Header {
-        call: number_at(bytes, 0),
-        level: number_at(bytes, 4),
-        words: number_at(bytes, 8) as usize,
-        pairs: number_at(bytes, 12) as usize,
-        text: number_at(bytes, 16) as usize,
-        buffer: number_at(bytes, 20) as usize,
-    }
-}
-
-// Fills `out` with the numbers in the front of `bytes`.
-fn decode(bytes: &[u8; WORD_BYTES], out: &mut [u32])
-    requires { do ⌜ length (now out) ≤ (← ⟦MOST_WORDS⟧) ⌝ }
-    ensures { λ _. ⌜ ((k : ℕ) → k < length (now (out .entry)) → getD (now (out .exit)) k 0 ≡ numberAt (now (bytes .entry)) (4 * k)) ⌝ }
-{
-    let mut i = 0;
-    while i < out.len() {
-        out[i] = number_at(bytes, 4 * i);
-        i += 1;
+        call: numbers::number_at(bytes, 0),
+        level: numbers::number_at(bytes, 4),
+        words: numbers::number_at(bytes, 8) as usize,
+        pairs: numbers::number_at(bytes, 12) as usize,
+        text: numbers::number_at(bytes, 16) as usize,
+        buffer: numbers::number_at(bytes, 20) as usize,
     }
 }
 
@@ -93,7 +70,7 @@ fn read_numbers(out: &mut [u32]) -> bool
     if io::read_full(STDIN_FILENO, &mut bytes[..size]) < size {
         return false;
     }
-    decode(&bytes, out);
+    numbers::read_numbers(&bytes, 0, out);
     true
 }
 
@@ -144,7 +121,10 @@ fn call_text(
     if call == TYPE_TEXT {
         return text::type_text(words, pairs, text, level, out);
     }
-    text::path_text(words, pairs, text, level, out)
+    if call == PATH_TEXT {
+        return text::path_text(words, pairs, text, level, out);
+    }
+    declaration::declaration_text(words, pairs, text, level, out)
 }
 
 // Makes a text call with a buffer of `.` bytes, and prints its answer.
@@ -157,14 +137,22 @@ fn run_text_call(h: Header, words: &[u32], pairs: &[u32], text: &[u8])
     print_text_answer(answer, &buffer[..size]);
 }
 
+// Prints what `printdecl` would print for a file.
+fn print_file(file: &[u8]) {
+    let mut out = [0u8; 65537];
+    let n = file::print_file(file, &mut out);
+    print(&out[..n]);
+}
+
 // Makes the call that a header names, and prints its answer. False if there is no such call.
 fn run_call(h: Header, words: &[u32], pairs: &[u32], text: &[u8]) -> bool
     requires { do ⌜ h .buffer ≤ (← ⟦MOST_BUFFER⟧) ⌝ }
 {
     let call = h.call;
     match call {
-        TYPE_TEXT | PATH_TEXT => run_text_call(h, words, pairs, text),
+        TYPE_TEXT | PATH_TEXT | DECLARATION_TEXT => run_text_call(h, words, pairs, text),
         TYPE_IS_SOUND => print_sound_answer(soundness::type_is_sound(words, pairs, text)),
+        PRINTED_FILE => print_file(text),
         _ => return false,
     }
     true

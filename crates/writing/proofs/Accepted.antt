@@ -32,7 +32,7 @@ word-there ws p {v} {q} e = go (decLt p (length ws))
     go (yes h) = let w = word-in ws p h in (h, cc, cc)
     go (no h) = let w = word-end ws p (omega arith) in impossible (cc)
 
-below-there : (b : ℕ) (ws : List ℕ) (p : ℕ) {v q : ℕ} → readBelow b ws p ≡ got v q → (p < length ws) × (v < b) × (v ≡ getD ws p 0) × (q ≡ p + 1)
+pub below-there : (b : ℕ) (ws : List ℕ) (p : ℕ) {v q : ℕ} → readBelow b ws p ≡ got v q → (p < length ws) × (v < b) × (v ≡ getD ws p 0) × (q ≡ p + 1)
 below-there b ws p {v} {q} e = go (decLt p (length ws)) (decLt (getD ws p 0) b)
   where
     go : Dec (p < length ws) → Dec (getD ws p 0 < b) → (p < length ws) × (v < b) × (v ≡ getD ws p 0) × (q ≡ p + 1)

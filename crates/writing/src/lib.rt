@@ -106,7 +106,7 @@ fn put_size(pairs: &[u32], text: &[u8], size: u32, out: &mut [u8], pos: usize) -
 }
 
 // Where the type at `at`, which was accepted, ends: each type read leaves as many due as follow its head.
-fn skip_type(words: &[u32], pairs: &[u32], text: &[u8], at: usize) -> usize
+pub fn skip_type(words: &[u32], pairs: &[u32], text: &[u8], at: usize) -> usize
     requires { ⌜ Readable (typeAt (now words) (now pairs) (now text) at) ⌝ }
     ensures { λ r. ⌜ EndsAt (typeAt (now (words .entry)) (now (pairs .entry)) (now (text .entry)) at) r ⌝ }
 {

@@ -1,6 +1,5 @@
 use mathlib.Core.Path.{ap, sym, _∙_}
 use Rattle.capi.specs.Numbers.{textNumber}
-use native.Mathlib.Omega.{arith}
 use borrow.Author.Needs.{needs}
 use Rattle.capi.proofs.text_number.Statement.{statement}
 use Rattle.capi.proofs.text_number.Tie as tie

@@ -1,8 +1,10 @@
-use Prim.Native.Nat.{_+_, _*_, _-_}
-use mathlib.Core.Path.{_≡_, refl, sym, _∙_}
+use Prim.Native.Nat.{_*_, _+_, _-_}
+use Rattle.encoding.proofs.Types.{type-end}
+use Rattle.measure.proofs.Steps.{came-to-end, start, was-halted, went-on}
+use Rattle.measure.specs.Lengths.{measureOf}
+use Rattle.measure.specs.Levels.{Kept, restOf}
 use lib.ListN.{length}
-use Rattle.measure.specs.Levels.{restOf, Kept}
-use Rattle.measure.proofs.Steps.{start, went-on, came-to-end, was-halted}
+use mathlib.Core.Path.{_∙_, _≡_, ap, refl, sym}
 use native.Mathlib.Omega.{arith}
 use borrow.Author.Needs.{needs}
 use Rattle.measure.proofs.measure_type.Statement.{statement}
@@ -14,16 +16,19 @@ Inv-loop words pairs text at bound levels₀ pass₀ levels pass = Kept words le
 abbrev μ-loop : tie.MeasureT-loop
 μ-loop words pairs text at bound levels₀ pass₀ levels pass = 2 * (length words - pass .place) + pass .depth
 
+returns : tie.Need-returns Inv-loop μ-loop
+returns c =
+    let a = c .before .before .before .before .args in
+    ap measureOf (sym (type-end (a .words .now) (a .pairs .now) (a .text .now) (a .at) (omega (arith, c .if1 .taken))))
+
 name-count-requires : tie.Need-name-count-requires Inv-loop μ-loop
 name-count-requires c κs = search needs
 
 loop-holds : tie.Need-loop-holds Inv-loop μ-loop
-loop-holds c = (record { room = refl; place = c .before .before .before .before .pre .2; bytes = omega arith; depth = omega arith; due = omega arith; mode = omega arith }, refl)
+loop-holds c = (record { room = refl; place = omega (arith, c .before .if1 .left); bytes = omega arith; depth = omega arith; due = omega arith; mode = omega arith }, refl)
 
 advance-requires : tie.Need-advance-requires Inv-loop μ-loop
-advance-requires c κs =
-    let s = c .before .before .before .before .before .before in
-    (c .before .before .name-count .ensures, s .pre .0, s .pre .1, c .before .loop .inv .0)
+advance-requires c κs = (c .before .before .name-count .ensures, c .before .before .before .before .before .before .before .pre .0, c .before .before .before .before .before .before .before .pre .1, c .before .loop .inv .0)
 
 enum-known-p : tie.Need-enum-known-p Inv-loop μ-loop
 enum-known-p c = search needs
@@ -39,17 +44,17 @@ loop-again c =
 enum-told : tie.Need-enum-told Inv-loop μ-loop
 enum-told c = search needs
 
-returns : tie.Need-returns Inv-loop μ-loop
-returns c =
-    let a = c .before .before .before .before .before .before .before .before .before .args in
+returns-2 : tie.Need-returns-2 Inv-loop μ-loop
+returns-2 c =
+    let a = c .before .before .before .before .before .before .before .before .before .before .args in
     start (a .words .now) (a .pairs .now) (a .text .now) _ (a .at) (sym (c .before .before .before .before .loop .inv .1) ∙ came-to-end (c .before .before .advance .ensures) (c .enum-told .given .1))
 
 enum-known-r : tie.Need-enum-known-r Inv-loop μ-loop
 enum-known-r c = search needs
 
-returns-2 : tie.Need-returns-2 Inv-loop μ-loop
-returns-2 c =
-    let a = c .before .before .before .before .before .before .before .before .before .before .args in
+returns-3 : tie.Need-returns-3 Inv-loop μ-loop
+returns-3 c =
+    let a = c .before .before .before .before .before .before .before .before .before .before .before .args in
     start (a .words .now) (a .pairs .now) (a .text .now) _ (a .at) (sym (c .before .before .before .before .before .loop .inv .1) ∙ was-halted (c .before .before .before .advance .ensures) (c .before .r .given .1))
 
 pub measure-type-spec : {M : Type 1} → statement M
@@ -58,6 +63,7 @@ measure-type-spec =
     (tie.spec
     Inv-loop
     μ-loop
+    returns
     name-count-requires
     loop-holds
     advance-requires
@@ -65,6 +71,6 @@ measure-type-spec =
     loop-less
     loop-again
     enum-told
-    returns
+    returns-2
     enum-known-r
-    returns-2)
+    returns-3)

@@ -1,5 +1,4 @@
 use lib.Seq.{take-length}
-use native.Mathlib.Omega.{arith}
 use borrow.Author.Needs.{needs}
 use Rattle.output.proofs.put.Statement.{statement}
 use Rattle.output.proofs.put.Tie as tie

@@ -1,7 +1,8 @@
 use mathlib.Core.Path.{ap, _∙_}
 use lib.ListN.{getD}
 use Rattle.rast.specs.Bytes.{ascii, same}
-use Rattle.soundness.proofs.Names.{part-to, starts, lengths, letters, excluded-inside, excluded-part}
+use Rattle.encoding.proofs.Names.{part-to}
+use Rattle.soundness.proofs.Names.{starts, lengths, letters, excluded-inside, excluded-part}
 use native.Mathlib.Omega.{arith}
 use borrow.Author.Needs.{needs}
 use Rattle.soundness.proofs.is_excluded_word.Statement.{statement}

@@ -1,5 +1,6 @@
 use mathlib.Core.Path.{sym, _∙_}
-use Rattle.soundness.proofs.Names.{and-no, and-yes, word-none, word-some}
+use Rattle.encoding.proofs.Names.{and-no, and-yes}
+use Rattle.soundness.proofs.Names.{word-none, word-some}
 use borrow.Author.Needs.{needs}
 use Rattle.soundness.proofs.is_word.Statement.{statement}
 use Rattle.soundness.proofs.is_word.Tie as tie

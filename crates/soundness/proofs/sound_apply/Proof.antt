@@ -2,7 +2,7 @@ use mathlib.Core.Path.{sym, _∙_}
 use borrow.Author.Tests.{lt-ltb}
 use Rattle.rast.specs.Bytes.{_and_}
 use Rattle.soundness.specs.Judging.{namedShape}
-use Rattle.soundness.proofs.Names.{and-false}
+use Rattle.encoding.proofs.Names.{and-false}
 use borrow.Author.Needs.{needs}
 use Rattle.soundness.proofs.sound_apply.Statement.{statement}
 use Rattle.soundness.proofs.sound_apply.Tie as tie

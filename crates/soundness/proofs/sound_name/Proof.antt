@@ -1,6 +1,7 @@
 use mathlib.Core.Path.{sym, _∙_}
 use Rattle.rast.specs.Sound.{soundName}
-use Rattle.soundness.proofs.Names.{and-no, and-yes, fixed-sound}
+use Rattle.encoding.proofs.Names.{and-no, and-yes}
+use Rattle.soundness.proofs.Names.{fixed-sound}
 use borrow.Author.Needs.{needs}
 use Rattle.soundness.proofs.sound_name.Statement.{statement}
 use Rattle.soundness.proofs.sound_name.Tie as tie

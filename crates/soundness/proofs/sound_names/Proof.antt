@@ -4,7 +4,7 @@ use borrow.Author.Tests.{not-true, not-false}
 use lib.ListN.{take, drop}
 use Rattle.encoding.specs.Tables.{nameBytes}
 use Rattle.soundness.specs.Judging.{allNamesSound}
-use Rattle.soundness.proofs.Names.{and-no, and-yes}
+use Rattle.encoding.proofs.Names.{and-no, and-yes}
 use Rattle.soundness.proofs.Paths.{names-more, names-end}
 use native.Mathlib.Omega.{arith}
 use borrow.Author.Needs.{needs}

@@ -13,8 +13,7 @@ use Rattle.text.proofs.fill_type.Tie as tie
 
 measure-type-requires : tie.Need-measure-type-requires
 measure-type-requires c κs =
-    let a = c .before .before .before .before .args in
-    (c .before .before .before .before .pre .0, c .before .before .before .before .pre .1, omega arith)
+    c .before .before .before .before .pre
 
 enum-known-next : tie.Need-enum-known-next
 enum-known-next c = search needs

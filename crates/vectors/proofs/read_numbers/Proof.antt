@@ -1,5 +1,6 @@
+use native.Mathlib.Omega.{arith}
 use borrow.Author.Needs.{needs}
-use Rattle.vectors.proofs.Fronts.{front-lent}
+use Rattle.numbers.proofs.Fronts.{front-lent, back-fits, back-length}
 use Rattle.vectors.proofs.read_numbers.Statement.{statement}
 use Rattle.vectors.proofs.read_numbers.Tie as tie
 
@@ -18,8 +19,15 @@ read-full-requires c κs = search needs
 returns : tie.Need-returns
 returns c = search needs
 
-decode-requires : tie.Need-decode-requires
-decode-requires c κs = search needs
+slice-aggregate-read-numbers : tie.Need-slice-aggregate-read-numbers
+slice-aggregate-read-numbers c =
+    let b = c .before .before .before in
+    back-length _ (b .read-full .last .1 .0) _ (array-borrow-prefix-bytes (b .before .before)) (b .read-full .kept .1 .0)
+
+read-numbers-requires : tie.Need-read-numbers-requires
+read-numbers-requires c κs =
+    let b = c .before .before .before .before in
+    omega (arith, back-fits _ (b .read-full .last .1 .0) _ (array-borrow-prefix-bytes (b .before .before)) (b .read-full .kept .1 .0))
 
 same-length : tie.Need-same-length
 same-length c = search needs
@@ -36,6 +44,7 @@ read-numbers-spec =
     slice-aggregate-read-full
     read-full-requires
     returns
-    decode-requires
+    slice-aggregate-read-numbers
+    read-numbers-requires
     same-length
     returns-2)

@@ -1,6 +1,6 @@
 use native.Mathlib.Omega.{arith}
 use borrow.Author.Needs.{needs}
-use Rattle.vectors.proofs.Fronts.{front-lent, back-fits}
+use Rattle.numbers.proofs.Fronts.{front-lent, back-fits}
 use Rattle.vectors.proofs.run_record.Statement.{statement}
 use Rattle.vectors.proofs.run_record.Tie as tie
 

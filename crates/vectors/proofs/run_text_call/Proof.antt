@@ -1,5 +1,5 @@
 use borrow.Author.Needs.{needs}
-use Rattle.vectors.proofs.Fronts.{front-lent, back-fits}
+use Rattle.numbers.proofs.Fronts.{front-lent, back-fits}
 use Rattle.vectors.proofs.run_text_call.Statement.{statement}
 use Rattle.vectors.proofs.run_text_call.Tie as tie
 

@@ -1,0 +1,447 @@
+//! From trees to encodings and files.
+
+use std::collections::HashMap;
+
+use crate::reference::{DEPTH_LIMIT, FIXED_NAMES, PAIR_LIMIT, TEXT_LIMIT, WORD_LIMIT};
+use crate::tree::{
+    Attribute, Declaration, EnumCase, Fields, Path, Root, Type, TypeParameter, Visibility,
+};
+use crate::{Encoding, Refusal};
+
+impl Encoding<'_> {
+    /// The file that the program `printdecl` reads: pair count, word count and text length, the
+    /// pairs, the words (all u32, little-endian), the text.
+    ///
+    /// Half a pair at the end of the table, which no file can hold, is left out.
+    pub fn to_file(&self) -> Vec<u8> {
+        let (pairs, _half) = self.pairs.as_chunks::<2>();
+        let header = [pairs.len(), self.words.len(), self.text.len()];
+        let mut file = Vec::with_capacity(12 + 8 * header[0] + 4 * header[1] + header[2]);
+        let numbers = header.into_iter().map(|count| count as u32);
+        for number in numbers.chain(pairs.as_flattened().iter().chain(self.words).copied()) {
+            file.extend(number.to_le_bytes());
+        }
+        file.extend(self.text);
+        file
+    }
+}
+
+/// An encoding that owns its parts.
+///
+/// ```
+/// use tillercoral::tree::{Declaration, Field, Fields, Struct, Type, Visibility};
+/// use tillercoral::{declaration_text, EncodingBuf};
+///
+/// let declaration = Declaration::Struct(Struct {
+///     doc: b"Depth under the keel.".to_vec(),
+///     attributes: vec![],
+///     name: b"Sounding".to_vec(),
+///     parameters: vec![],
+///     fields: Fields::Named(vec![Field {
+///         visibility: Visibility::Pub,
+///         name: b"millimetres".to_vec(),
+///         field_type: Type::U32,
+///     }]),
+/// });
+/// let encoding = EncodingBuf::from_declaration(&declaration)?;
+/// assert_eq!(encoding.words, [25, 17, 0, 16, 0, 0, 1, 0, 18, 2]);
+///
+/// let mut buffer = [0; 128];
+/// let length = declaration_text(&encoding.as_encoding(), 0, &mut buffer)?;
+/// assert_eq!(
+///     &buffer[..length],
+///     b"/// Depth under the keel.\npub struct Sounding {\n    pub millimetres: u32\n}"
+/// );
+/// # Ok::<(), tillercoral::Refusal>(())
+/// ```
+#[derive(Clone, Debug, Default, PartialEq, Eq)]
+pub struct EncodingBuf {
+    /// The tree, head first.
+    pub words: Vec<u32>,
+    /// Offset, length, offset, length, .. of names in the text.
+    pub pairs: Vec<u32>,
+    /// The bytes that the pairs point into.
+    pub text: Vec<u8>,
+}
+
+impl EncodingBuf {
+    /// The encoding of a type, or [`Refusal::Overlong`] or [`Refusal::TooDeep`] if no encoding has
+    /// room for it.
+    pub fn from_type(tree: &Type) -> Result<EncodingBuf, Refusal> {
+        let mut maker = Maker::default();
+        maker.put_type(tree, 1)?;
+        maker.finish()
+    }
+
+    /// The encoding of a path, or [`Refusal::Overlong`] if no encoding has room for it.
+    pub fn from_path(tree: &Path) -> Result<EncodingBuf, Refusal> {
+        let mut maker = Maker::default();
+        maker.put_path(tree);
+        maker.finish()
+    }
+
+    /// The encoding of a declaration, or [`Refusal::Overlong`] or [`Refusal::TooDeep`] if no
+    /// encoding has room for it.
+    ///
+    /// Equal names share one pair, and a name that is among the fixed ones takes none. The
+    /// declaration's own name comes first in the text; the others follow as the words need them.
+    pub fn from_declaration(tree: &Declaration) -> Result<EncodingBuf, Refusal> {
+        let mut maker = Maker::default();
+        maker.put_declaration(tree)?;
+        maker.finish()
+    }
+
+    /// The encoding, borrowed for a call.
+    pub fn as_encoding(&self) -> Encoding<'_> {
+        Encoding {
+            words: &self.words,
+            pairs: &self.pairs,
+            text: &self.text,
+        }
+    }
+
+    /// The file that the program `printdecl` reads; see [`Encoding::to_file`].
+    pub fn to_file(&self) -> Vec<u8> {
+        self.as_encoding().to_file()
+    }
+}
+
+/// An encoding in the making.
+#[derive(Default)]
+struct Maker {
+    made: EncodingBuf,
+    /// The numbers of the names that have a pair already.
+    numbers: HashMap<Vec<u8>, u32>,
+}
+
+impl Maker {
+    /// The limits are tested once, at the end: a tree in memory is never so large that the words
+    /// before the test would matter.
+    fn finish(self) -> Result<EncodingBuf, Refusal> {
+        let made = self.made;
+        if made.words.len() > WORD_LIMIT
+            || made.pairs.len() / 2 > PAIR_LIMIT
+            || made.text.len() > TEXT_LIMIT
+        {
+            return Err(Refusal::Overlong);
+        }
+        Ok(made)
+    }
+
+    fn number(&mut self, name: &[u8]) -> u32 {
+        if let Some(fixed) = FIXED_NAMES.iter().position(|it| it.as_bytes() == name) {
+            return fixed as u32;
+        }
+        if let Some(&number) = self.numbers.get(name) {
+            return number;
+        }
+        let number = (FIXED_NAMES.len() + self.made.pairs.len() / 2) as u32;
+        let offset = self.made.text.len() as u32;
+        self.made.pairs.extend([offset, name.len() as u32]);
+        self.made.text.extend(name);
+        self.numbers.insert(name.to_vec(), number);
+        number
+    }
+
+    fn put(&mut self, word: u32) {
+        self.made.words.push(word);
+    }
+
+    fn put_count<T>(&mut self, items: &[T]) {
+        self.put(items.len() as u32);
+    }
+
+    fn put_name(&mut self, name: &[u8]) {
+        let number = self.number(name);
+        self.put(number);
+    }
+
+    fn put_path(&mut self, path: &Path) {
+        self.put(match path.root {
+            Root::Global => 0,
+            Root::Crate => 1,
+            Root::SelfType => 2,
+        });
+        self.put_count(&path.names);
+        for name in &path.names {
+            self.put_name(name);
+        }
+    }
+
+    fn put_types(&mut self, types: &[Type], depth: usize) -> Result<(), Refusal> {
+        types.iter().try_for_each(|of| self.put_type(of, depth))
+    }
+
+    fn put_type(&mut self, tree: &Type, depth: usize) -> Result<(), Refusal> {
+        if depth > DEPTH_LIMIT {
+            return Err(Refusal::TooDeep);
+        }
+        let below = depth + 1;
+        match tree {
+            Type::U8 => self.put(0),
+            Type::U16 => self.put(1),
+            Type::U32 => self.put(2),
+            Type::U64 => self.put(3),
+            Type::U128 => self.put(4),
+            Type::I8 => self.put(5),
+            Type::I16 => self.put(6),
+            Type::I32 => self.put(7),
+            Type::I64 => self.put(8),
+            Type::I128 => self.put(9),
+            Type::Usize => self.put(10),
+            Type::Bool => self.put(11),
+            Type::Identifier(name) => {
+                self.put(12);
+                self.put_name(name);
+            }
+            Type::FromPath(path) => {
+                self.put(13);
+                self.put_path(path);
+            }
+            Type::App { base, arguments } => {
+                self.put(14);
+                self.put_count(arguments);
+                self.put_type(base, below)?;
+                self.put_types(arguments, below)?;
+            }
+            Type::Borrowed(underlying) => self.put_one(15, underlying, below)?,
+            Type::BorrowedMut(underlying) => self.put_one(16, underlying, below)?,
+            Type::Impl(underlying) => self.put_one(17, underlying, below)?,
+            Type::Dyn(underlying) => self.put_one(18, underlying, below)?,
+            Type::Tuple(arguments) => {
+                self.put(19);
+                self.put_count(arguments);
+                self.put_types(arguments, below)?;
+            }
+            Type::Fn { arguments, result } => {
+                self.put(20);
+                self.put_count(arguments);
+                self.put_types(arguments, below)?;
+                self.put_type(result, below)?;
+            }
+            Type::Intersection { left, right } => {
+                self.put_one(21, left, below)?;
+                self.put_type(right, below)?;
+            }
+            Type::Array { element, size } => {
+                self.put(22);
+                let size = match size {
+                    None => 0,
+                    Some(size) => self.number(size) + 1,
+                };
+                self.put_one(size, element, below)?;
+            }
+            Type::Synonym { display, base } => {
+                self.put_one(23, display, below)?;
+                self.put_type(base, below)?;
+            }
+            Type::MetaData {
+                display,
+                copy_semantics,
+                overflow,
+            } => {
+                self.put(24);
+                let flags = u32::from(*copy_semantics) + 2 * u32::from(*overflow);
+                self.put_one(flags, display, below)?;
+            }
+        }
+        Ok(())
+    }
+
+    fn put_one(&mut self, word: u32, child: &Type, depth: usize) -> Result<(), Refusal> {
+        self.put(word);
+        self.put_type(child, depth)
+    }
+
+    fn put_declaration(&mut self, tree: &Declaration) -> Result<(), Refusal> {
+        match tree {
+            Declaration::Struct(it) => {
+                self.put_front(25, &it.doc, &it.attributes, &it.name, &it.parameters)?;
+                self.put_fields(&it.fields)
+            }
+            Declaration::Enum(it) => {
+                self.put_front(26, &it.doc, &it.attributes, &it.name, &it.parameters)?;
+                self.put_count(&it.cases);
+                it.cases.iter().try_for_each(|case| self.put_case(case))
+            }
+            Declaration::TypeSynonym(it) => {
+                self.put_front(27, &it.doc, &it.attributes, &it.name, &it.parameters)?;
+                self.put_type(&it.target, 1)
+            }
+            Declaration::Use(it) => {
+                self.put(28);
+                self.put_visibility(it.visibility);
+                self.put_path(&it.path);
+                Ok(())
+            }
+        }
+    }
+
+    /// What structs, enums and synonyms have in common.
+    fn put_front(
+        &mut self,
+        head: u32,
+        doc: &[u8],
+        attributes: &[Attribute],
+        name: &[u8],
+        parameters: &[TypeParameter],
+    ) -> Result<(), Refusal> {
+        let name = self.number(name); // first in the table, though not first in the words
+        self.put(head);
+        self.put_name(doc);
+        self.put_count(attributes);
+        for attribute in attributes {
+            self.put_name(&attribute.name);
+            self.put_count(&attribute.arguments);
+            for argument in &attribute.arguments {
+                self.put_name(argument);
+            }
+        }
+        self.put(name);
+        self.put_count(parameters);
+        for parameter in parameters {
+            self.put_name(&parameter.name);
+            self.put_count(&parameter.constraints);
+            self.put_types(&parameter.constraints, 1)?;
+        }
+        Ok(())
+    }
+
+    fn put_case(&mut self, case: &EnumCase) -> Result<(), Refusal> {
+        self.put_name(&case.doc);
+        self.put_name(&case.name);
+        self.put_fields(&case.fields)
+    }
+
+    fn put_fields(&mut self, fields: &Fields) -> Result<(), Refusal> {
+        match fields {
+            Fields::Named(fields) => {
+                self.put(0);
+                self.put_count(fields);
+                for field in fields {
+                    self.put_visibility(field.visibility);
+                    self.put_name(&field.name);
+                    self.put_type(&field.field_type, 1)?;
+                }
+            }
+            Fields::Nameless(fields) => {
+                self.put(1);
+                self.put_count(fields);
+                for field in fields {
+                    self.put_visibility(field.visibility);
+                    self.put_type(&field.field_type, 1)?;
+                }
+            }
+        }
+        Ok(())
+    }
+
+    fn put_visibility(&mut self, visibility: Visibility) {
+        self.put(match visibility {
+            Visibility::Pub => 0,
+            Visibility::Priv => 1,
+        });
+    }
+}
+
+#[cfg(test)]
+mod tests {
+    use super::*;
+    use crate::generate::{random_declaration, random_type, Names, Random, Shape};
+    use crate::reference::{read_declaration, read_path, read_type};
+    use crate::tree::{Struct, Use};
+
+    /// The tree of an encoding is the tree it was made from.
+    #[test]
+    fn reading_undoes_encoding() {
+        let random = &mut Random::new(31);
+        let shape = Shape {
+            depth: 6,
+            chain: false,
+            children: 3,
+            words: 60,
+            careless: 50,
+        };
+        for _ in 0..2_000 {
+            let names = Names::random(random, 12);
+            let sample = random_type(random, &names, shape);
+            let tree = read_type(&sample.as_encoding()).unwrap();
+            let made = EncodingBuf::from_type(&tree).unwrap();
+            assert_eq!(read_type(&made.as_encoding()), Ok(tree));
+
+            let sample = random_declaration(random, &names, shape);
+            let tree = read_declaration(&sample.as_encoding()).unwrap();
+            let made = EncodingBuf::from_declaration(&tree).unwrap();
+            assert_eq!(read_declaration(&made.as_encoding()).as_ref(), Ok(&tree));
+            if let Declaration::Use(Use { path, .. }) = tree {
+                let made = EncodingBuf::from_path(&path).unwrap();
+                assert_eq!(read_path(&made.as_encoding()), Ok(path));
+            }
+        }
+    }
+
+    #[test]
+    fn equal_names_share_a_pair() {
+        let path = Path::in_crate(&["nmea", "std", "nmea", "", "Sentence"]);
+        let made = EncodingBuf::from_path(&path).unwrap();
+        assert_eq!(made.words, [1, 5, 16, 1, 16, 0, 17]);
+        assert_eq!(made.pairs, [0, 4, 4, 8]);
+        assert_eq!(made.text, b"nmeaSentence");
+    }
+
+    #[test]
+    fn files() {
+        let made = EncodingBuf {
+            words: vec![28, 1],
+            pairs: vec![0, 2, 2],
+            text: b"mm".to_vec(),
+        };
+        let file: [&[u8]; 8] = [
+            &[1, 0, 0, 0],
+            &[2, 0, 0, 0],
+            &[2, 0, 0, 0],
+            &[0, 0, 0, 0],
+            &[2, 0, 0, 0],
+            &[28, 0, 0, 0],
+            &[1, 0, 0, 0],
+            b"mm",
+        ];
+        assert_eq!(made.to_file(), file.concat());
+    }
+
+    #[test]
+    fn limits() {
+        let wrapped = |count| (0..count).fold(Type::U8, |tree, _| Type::borrowed(tree));
+        assert!(EncodingBuf::from_type(&wrapped(63)).is_ok());
+        assert_eq!(EncodingBuf::from_type(&wrapped(64)), Err(Refusal::TooDeep));
+        let tuple = |count| Type::Tuple(vec![Type::U8; count]);
+        assert!(EncodingBuf::from_type(&tuple(8_190)).is_ok());
+        assert_eq!(
+            EncodingBuf::from_type(&tuple(8_191)),
+            Err(Refusal::Overlong)
+        );
+        let names = |count: usize| Path {
+            root: Root::Global,
+            names: (0..count).map(|i| format!("n{i}").into_bytes()).collect(),
+        };
+        assert!(EncodingBuf::from_path(&names(1_024)).is_ok());
+        assert_eq!(
+            EncodingBuf::from_path(&names(1_025)),
+            Err(Refusal::Overlong)
+        );
+        let named = |length| {
+            Declaration::Struct(Struct {
+                doc: vec![],
+                attributes: vec![],
+                name: vec![b'n'; length],
+                parameters: vec![],
+                fields: Fields::Named(vec![]),
+            })
+        };
+        assert!(EncodingBuf::from_declaration(&named(16_384)).is_ok());
+        assert_eq!(
+            EncodingBuf::from_declaration(&named(16_385)),
+            Err(Refusal::Overlong)
+        );
+    }
+}

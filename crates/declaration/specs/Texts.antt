@@ -1,0 +1,95 @@
+-- The texts of structs, enums, type synonyms and use lines at a place of an encoding.
+use Prim.Native.Nat.{ℕ}
+use mathlib.Core.Bool.{true, false}
+use mathlib.Core.List.{List, _++_}
+use lib.Dec.{eqb}
+use Rattle.rast.specs.Bytes.{Bytes, ascii}
+use Rattle.rast.specs.Tree.{Ty}
+use Rattle.rast.specs.Indent.{IND, indent, SeqToString}
+use Rattle.rast.specs.Declaration.{EnumCase}
+use Rattle.rast.specs.DeclarationToString.{Fields·ToString, structFieldsText, EnumCase·ToString, Struct·ToString, Enum·ToString, TypeSynonym·ToString, Use·ToString, Declaration·ToString}
+use Rattle.encoding.specs.Refusals.{pick}
+use Rattle.encoding.specs.Reading.{Reading, got, mapReading}
+use Rattle.encoding.specs.Tables.{nameBytes, nameCount}
+use Rattle.encoding.specs.Types.{typeAt}
+use Rattle.encoding.specs.Declarations.{structHead, enumHead, readCounted, readFields, readCase, readStruct, readEnum, readTypeSynonym, readUse, declarationAfter, declarationAt}
+use Rattle.laying.specs.Passes.{last, _then_, run, listed}
+use Rattle.laying.specs.Texts.{nameAt, typeTextAt, docAt}
+use Rattle.fields.specs.Texts.{lineText, attributesAt, parametersAt, namelessFieldsAt}
+
+-- what stands before the name, by the head
+unfoldable pub keywordText : ℕ → Bytes
+keywordText head = pick (eqb head structHead) (ascii "pub struct ") (pick (eqb head enumHead) (ascii "pub enum ") (ascii "pub type "))
+
+-- a case of an enum on its line; `ind` is the enum's
+abbrev pub caseLineText : Bytes → EnumCase Bytes → Bytes
+caseLineText ind c = ascii "\n" ++ ind ++ IND ++ EnumCase·ToString (ind ++ IND) true c
+
+module _ (ws pairs : List ℕ) (text : Bytes) where
+  abbrev bound : ℕ
+  bound = nameCount pairs
+
+  abbrev name : ℕ → Bytes
+  name = nameBytes pairs text
+
+  abbrev type : ℕ → Reading (Ty Bytes)
+  type = typeAt ws pairs text
+
+  -- the fields of a struct without names, and its semicolon
+  abbrev pub tupleFieldsAt : ℕ → ℕ → Reading Bytes
+  tupleFieldsAt level at = run (namelessFieldsAt ws pairs text false level at then λ p. last (got (ascii ";") p))
+
+  abbrev pub structFieldsAt : ℕ → ℕ → Reading Bytes
+  structFieldsAt level at = mapReading (structFieldsText (indent level)) (readFields bound ws name type at)
+
+  abbrev pub caseFieldsAt : ℕ → ℕ → Reading Bytes
+  caseFieldsAt level at = mapReading (Fields·ToString (indent level) true) (readFields bound ws name type at)
+
+  abbrev pub caseAt : ℕ → ℕ → Reading Bytes
+  caseAt level at = mapReading (EnumCase·ToString (indent level) true) (readCase bound ws name type at)
+
+  -- a case on its line, at the level of the enum; n of them; and how many with them
+  abbrev pub caseLineAt : ℕ → ℕ → Reading Bytes
+  caseLineAt level at = mapReading (caseLineText (indent level)) (readCase bound ws name type at)
+
+  abbrev pub casesAt : ℕ → ℕ → ℕ → Reading Bytes
+  casesAt level n at = listed (caseLineAt level) (ascii ",") n at
+
+  abbrev pub variantsAt : ℕ → ℕ → Reading Bytes
+  variantsAt level at = mapReading (SeqToString (caseLineText (indent level)) (ascii ",")) (readCounted ws (readCase bound ws name type) at)
+
+  -- the keyword, the name and the parameters
+  abbrev pub titleAt : ℕ → ℕ → Reading Bytes
+  titleAt head at = run (got (keywordText head) at then λ p. nameAt ws pairs text p then λ q. last (parametersAt ws pairs text q))
+
+  -- what a struct, an enum and a type synonym begin with
+  abbrev pub frontAt : ℕ → ℕ → ℕ → Reading Bytes
+  frontAt head level at = run (docAt ws pairs text level at then λ p. attributesAt ws pairs text level p then λ q. last (titleAt head q))
+
+  -- what follows the front of an enum, and of a type synonym
+  abbrev pub enumBody : ℕ → ℕ → Reading Bytes
+  enumBody level at = run (got (ascii " {") at then λ p. variantsAt level p then λ q. got (lineText level) q then λ r. last (got (ascii "}") r))
+
+  abbrev pub synonymBody : ℕ → Reading Bytes
+  synonymBody at = run (got (ascii " = ") at then λ p. typeTextAt ws pairs text p then λ q. last (got (ascii ";") q))
+
+  -- ---- declarations
+
+  abbrev pub structAt : ℕ → ℕ → Reading Bytes
+  structAt level at = mapReading (Struct·ToString (indent level)) (readStruct bound ws name type at)
+
+  abbrev pub enumAt : ℕ → ℕ → Reading Bytes
+  enumAt level at = mapReading (Enum·ToString (indent level)) (readEnum bound ws name type at)
+
+  abbrev pub synonymAt : ℕ → ℕ → Reading Bytes
+  synonymAt level at = mapReading (TypeSynonym·ToString (indent level)) (readTypeSynonym bound ws name type at)
+
+  abbrev pub useAt : ℕ → Reading Bytes
+  useAt at = mapReading Use·ToString (readUse bound ws name type at)
+
+  -- what follows a head
+  abbrev pub afterAt : ℕ → ℕ → ℕ → Reading Bytes
+  afterAt head level at = mapReading (Declaration·ToString level) (declarationAfter bound ws name type head at)
+
+  abbrev pub declarationTextAt : ℕ → ℕ → Reading Bytes
+  declarationTextAt level at = mapReading (Declaration·ToString level) (declarationAt ws pairs text at)

@@ -1,0 +1,507 @@
+// The text of a declaration, at a level, into a lent buffer.
+//
+// A pass over the words reads a declaration and lays its text: it writes the bytes, or only counts them. The call counts first, which
+// accepts or refuses the declaration, and then writes.
+ghost use mathlib.Core.Path.{_≡_};
+ghost use mathlib.Core.Bool.{true, false};
+ghost use Prim.Native.Nat.{_+_, _^_, _<_};
+ghost use Rattle.output.specs.Laid.{Laid, Fits};
+ghost use Rattle.text.specs.Calls.{filled};
+ghost use Rattle.laying.specs.Passes.{Checked, Ready, Went};
+ghost use Rattle.declaration.specs.Texts.{keywordText, tupleFieldsAt, structFieldsAt, titleAt, frontAt, structAt, caseFieldsAt, caseAt, caseLineAt, casesAt, variantsAt, enumBody, enumAt, synonymBody, synonymAt, useAt, afterAt, declarationTextAt};
+ghost use Rattle.declaration.specs.Calls.{declarationText, tableDeclarationText, wholeDeclarationText};
+use encoding::Check;
+use encoding::Refusal;
+use encoding::WordScan;
+use laying::Place;
+use text::TextAnswer;
+
+// The heads of declarations.
+const STRUCT: u32 = 25;
+
+const ENUM: u32 = 26;
+
+const SYNONYM: u32 = 27;
+
+const USE: u32 = 28;
+
+// Fields without names, and the semicolon behind them.
+fn lay_tuple_fields(
+    write: bool,
+    words: &[u32],
+    pairs: &[u32],
+    text: &[u8],
+    level: u32,
+    at: usize,
+    out: &mut [u8],
+    pos: usize,
+) -> Place
+    requires { ⌜ Checked (now words) (now pairs) (now text) × (level < 2 ^ 31) × Ready write (now out) pos (tupleFieldsAt (now words) (now pairs) (now text) level at) ⌝ }
+    ensures { λ r. ⌜ Went write (now (out .entry)) pos (tupleFieldsAt (now (words .entry)) (now (pairs .entry)) (now (text .entry)) level at) (now (out .exit)) r ⌝ }
+{
+    let list = fields::lay_nameless_fields(write, words, pairs, text, false, level, at, out, pos);
+    let Place::At { next, pos: end } = list else {
+        return list;
+    };
+    Place::At {
+        next,
+        pos: output::lay(write, b";", out, end),
+    }
+}
+
+// The fields of a struct: 0 named, 1 nameless.
+fn lay_struct_fields(
+    write: bool,
+    words: &[u32],
+    pairs: &[u32],
+    text: &[u8],
+    level: u32,
+    at: usize,
+    out: &mut [u8],
+    pos: usize,
+) -> Place
+    requires { ⌜ Checked (now words) (now pairs) (now text) × (level < 2 ^ 31) × Ready write (now out) pos (structFieldsAt (now words) (now pairs) (now text) level at) ⌝ }
+    ensures { λ r. ⌜ Went write (now (out .entry)) pos (structFieldsAt (now (words .entry)) (now (pairs .entry)) (now (text .entry)) level at) (now (out .exit)) r ⌝ }
+{
+    match encoding::scan_below(words, 2, at) {
+        WordScan::Word { value, next } => {
+            if value == 0 {
+                return fields::lay_named(write, words, pairs, text, level, next, out, pos);
+            }
+            lay_tuple_fields(write, words, pairs, text, level, next, out, pos)
+        }
+        WordScan::NoWord(r) => Place::Stopped(r),
+    }
+}
+
+// The words before a declaration's name, by its head.
+fn lay_keyword(write: bool, head: u32, out: &mut [u8], pos: usize) -> usize
+    requires { ⌜ Fits write (now out) pos (keywordText head) ⌝ }
+    ensures { λ r. ⌜ Laid write (now (out .entry)) pos (keywordText head) (now (out .exit)) r ⌝ }
+{
+    match head {
+        STRUCT => output::lay(write, b"pub struct ", out, pos),
+        ENUM => output::lay(write, b"pub enum ", out, pos),
+        _ => output::lay(write, b"pub type ", out, pos),
+    }
+}
+
+// The keyword, the name and the parameters.
+fn lay_title(
+    write: bool,
+    words: &[u32],
+    pairs: &[u32],
+    text: &[u8],
+    head: u32,
+    at: usize,
+    out: &mut [u8],
+    pos: usize,
+) -> Place
+    requires { ⌜ Checked (now words) (now pairs) (now text) × Ready write (now out) pos (titleAt (now words) (now pairs) (now text) head at) ⌝ }
+    ensures { λ r. ⌜ Went write (now (out .entry)) pos (titleAt (now (words .entry)) (now (pairs .entry)) (now (text .entry)) head at) (now (out .exit)) r ⌝ }
+{
+    let p = lay_keyword(write, head, out, pos);
+    let name = laying::lay_name(write, words, pairs, text, at, out, p);
+    let Place::At { next, pos: p } = name else {
+        return name;
+    };
+    fields::lay_parameters(write, words, pairs, text, next, out, p)
+}
+
+// What a struct, an enum and a type synonym begin with: doc, attributes, keyword, name, parameters.
+fn lay_front(
+    write: bool,
+    words: &[u32],
+    pairs: &[u32],
+    text: &[u8],
+    head: u32,
+    level: u32,
+    at: usize,
+    out: &mut [u8],
+    pos: usize,
+) -> Place
+    requires { ⌜ Checked (now words) (now pairs) (now text) × (level < 2 ^ 31) × Ready write (now out) pos (frontAt (now words) (now pairs) (now text) head level at) ⌝ }
+    ensures { λ r. ⌜ Went write (now (out .entry)) pos (frontAt (now (words .entry)) (now (pairs .entry)) (now (text .entry)) head level at) (now (out .exit)) r ⌝ }
+{
+    let doc = laying::lay_doc(write, words, pairs, text, level, at, out, pos);
+    let Place::At { next: q, pos: p } = doc else {
+        return doc;
+    };
+    let attributes = fields::lay_attributes(write, words, pairs, text, level, q, out, p);
+    let Place::At { next, pos: p } = attributes else {
+        return attributes;
+    };
+    lay_title(write, words, pairs, text, head, next, out, p)
+}
+
+// A struct behind its head.
+fn lay_struct(
+    write: bool,
+    words: &[u32],
+    pairs: &[u32],
+    text: &[u8],
+    level: u32,
+    at: usize,
+    out: &mut [u8],
+    pos: usize,
+) -> Place
+    requires { ⌜ Checked (now words) (now pairs) (now text) × (level < 2 ^ 31) × Ready write (now out) pos (structAt (now words) (now pairs) (now text) level at) ⌝ }
+    ensures { λ r. ⌜ Went write (now (out .entry)) pos (structAt (now (words .entry)) (now (pairs .entry)) (now (text .entry)) level at) (now (out .exit)) r ⌝ }
+{
+    let front = lay_front(write, words, pairs, text, STRUCT, level, at, out, pos);
+    let Place::At { next, pos: p } = front else {
+        return front;
+    };
+    lay_struct_fields(write, words, pairs, text, level, next, out, p)
+}
+
+// The fields of a case: 0 named, 1 nameless.
+fn lay_case_fields(
+    write: bool,
+    words: &[u32],
+    pairs: &[u32],
+    text: &[u8],
+    level: u32,
+    at: usize,
+    out: &mut [u8],
+    pos: usize,
+) -> Place
+    requires { ⌜ Checked (now words) (now pairs) (now text) × (level < 2 ^ 31) × Ready write (now out) pos (caseFieldsAt (now words) (now pairs) (now text) level at) ⌝ }
+    ensures { λ r. ⌜ Went write (now (out .entry)) pos (caseFieldsAt (now (words .entry)) (now (pairs .entry)) (now (text .entry)) level at) (now (out .exit)) r ⌝ }
+{
+    match encoding::scan_below(words, 2, at) {
+        WordScan::Word { value, next } => {
+            if value == 0 {
+                return fields::lay_named(write, words, pairs, text, level, next, out, pos);
+            }
+            fields::lay_nameless_fields(write, words, pairs, text, true, level, next, out, pos)
+        }
+        WordScan::NoWord(r) => Place::Stopped(r),
+    }
+}
+
+// A case: doc, name, fields.
+fn lay_case(
+    write: bool,
+    words: &[u32],
+    pairs: &[u32],
+    text: &[u8],
+    level: u32,
+    at: usize,
+    out: &mut [u8],
+    pos: usize,
+) -> Place
+    requires { ⌜ Checked (now words) (now pairs) (now text) × (level < 2 ^ 31) × Ready write (now out) pos (caseAt (now words) (now pairs) (now text) level at) ⌝ }
+    ensures { λ r. ⌜ Went write (now (out .entry)) pos (caseAt (now (words .entry)) (now (pairs .entry)) (now (text .entry)) level at) (now (out .exit)) r ⌝ }
+{
+    let doc = laying::lay_doc(write, words, pairs, text, level, at, out, pos);
+    let Place::At { next: q, pos: p } = doc else {
+        return doc;
+    };
+    let name = laying::lay_name(write, words, pairs, text, q, out, p);
+    let Place::At { next, pos: p } = name else {
+        return name;
+    };
+    lay_case_fields(write, words, pairs, text, level, next, out, p)
+}
+
+// A case on its line; `level` is the enum's.
+fn lay_case_line(
+    write: bool,
+    words: &[u32],
+    pairs: &[u32],
+    text: &[u8],
+    level: u32,
+    at: usize,
+    out: &mut [u8],
+    pos: usize,
+) -> Place
+    requires { ⌜ Checked (now words) (now pairs) (now text) × (level < 2 ^ 30) × Ready write (now out) pos (caseLineAt (now words) (now pairs) (now text) level at) ⌝ }
+    ensures { λ r. ⌜ Went write (now (out .entry)) pos (caseLineAt (now (words .entry)) (now (pairs .entry)) (now (text .entry)) level at) (now (out .exit)) r ⌝ }
+{
+    let p = doc::lay_line(write, level + 1, out, pos);
+    lay_case(write, words, pairs, text, level + 1, at, out, p)
+}
+
+// `n` cases, one at least.
+fn lay_cases(
+    write: bool,
+    words: &[u32],
+    pairs: &[u32],
+    text: &[u8],
+    level: u32,
+    n: u32,
+    at: usize,
+    out: &mut [u8],
+    pos: usize,
+) -> Place
+    requires { ⌜ Checked (now words) (now pairs) (now text) × (0 < n) × (level < 2 ^ 30) × Ready write (now out) pos (casesAt (now words) (now pairs) (now text) level n at) ⌝ }
+    ensures { λ r. ⌜ Went write (now (out .entry)) pos (casesAt (now (words .entry)) (now (pairs .entry)) (now (text .entry)) level n at) (now (out .exit)) r ⌝ }
+{
+    let mut place = at;
+    let mut p = pos;
+    let mut left = n;
+    loop {
+        let one = lay_case_line(write, words, pairs, text, level, place, out, p);
+        let Place::At { next, pos: end } = one else {
+            return one;
+        };
+        left -= 1;
+        if left == 0 {
+            return one;
+        }
+        place = next;
+        p = output::lay(write, b",", out, end);
+    }
+}
+
+// The cases of an enum.
+fn lay_variants(
+    write: bool,
+    words: &[u32],
+    pairs: &[u32],
+    text: &[u8],
+    level: u32,
+    at: usize,
+    out: &mut [u8],
+    pos: usize,
+) -> Place
+    requires { ⌜ Checked (now words) (now pairs) (now text) × (level < 2 ^ 30) × Ready write (now out) pos (variantsAt (now words) (now pairs) (now text) level at) ⌝ }
+    ensures { λ r. ⌜ Went write (now (out .entry)) pos (variantsAt (now (words .entry)) (now (pairs .entry)) (now (text .entry)) level at) (now (out .exit)) r ⌝ }
+{
+    match encoding::scan_word(words, at) {
+        WordScan::Word { value, next } => {
+            if value == 0 {
+                return Place::At { next, pos };
+            }
+            lay_cases(write, words, pairs, text, level, value, next, out, pos)
+        }
+        WordScan::NoWord(r) => Place::Stopped(r),
+    }
+}
+
+// An enum behind its front.
+fn lay_enum_body(
+    write: bool,
+    words: &[u32],
+    pairs: &[u32],
+    text: &[u8],
+    level: u32,
+    at: usize,
+    out: &mut [u8],
+    pos: usize,
+) -> Place
+    requires { ⌜ Checked (now words) (now pairs) (now text) × (level < 2 ^ 30) × Ready write (now out) pos (enumBody (now words) (now pairs) (now text) level at) ⌝ }
+    ensures { λ r. ⌜ Went write (now (out .entry)) pos (enumBody (now (words .entry)) (now (pairs .entry)) (now (text .entry)) level at) (now (out .exit)) r ⌝ }
+{
+    let p = output::lay(write, b" {", out, pos);
+    let list = lay_variants(write, words, pairs, text, level, at, out, p);
+    let Place::At { next, pos: end } = list else {
+        return list;
+    };
+    let p = doc::lay_line(write, level, out, end);
+    Place::At {
+        next,
+        pos: output::lay(write, b"}", out, p),
+    }
+}
+
+// An enum behind its head.
+fn lay_enum(
+    write: bool,
+    words: &[u32],
+    pairs: &[u32],
+    text: &[u8],
+    level: u32,
+    at: usize,
+    out: &mut [u8],
+    pos: usize,
+) -> Place
+    requires { ⌜ Checked (now words) (now pairs) (now text) × (level < 2 ^ 30) × Ready write (now out) pos (enumAt (now words) (now pairs) (now text) level at) ⌝ }
+    ensures { λ r. ⌜ Went write (now (out .entry)) pos (enumAt (now (words .entry)) (now (pairs .entry)) (now (text .entry)) level at) (now (out .exit)) r ⌝ }
+{
+    let front = lay_front(write, words, pairs, text, ENUM, level, at, out, pos);
+    let Place::At { next, pos: p } = front else {
+        return front;
+    };
+    lay_enum_body(write, words, pairs, text, level, next, out, p)
+}
+
+// A type synonym behind its front.
+fn lay_synonym_body(
+    write: bool,
+    words: &[u32],
+    pairs: &[u32],
+    text: &[u8],
+    at: usize,
+    out: &mut [u8],
+    pos: usize,
+) -> Place
+    requires { ⌜ Checked (now words) (now pairs) (now text) × Ready write (now out) pos (synonymBody (now words) (now pairs) (now text) at) ⌝ }
+    ensures { λ r. ⌜ Went write (now (out .entry)) pos (synonymBody (now (words .entry)) (now (pairs .entry)) (now (text .entry)) at) (now (out .exit)) r ⌝ }
+{
+    let p = output::lay(write, b" = ", out, pos);
+    let tpe = laying::lay_type(write, words, pairs, text, at, out, p);
+    let Place::At { next, pos: end } = tpe else {
+        return tpe;
+    };
+    Place::At {
+        next,
+        pos: output::lay(write, b";", out, end),
+    }
+}
+
+// A type synonym behind its head.
+fn lay_synonym(
+    write: bool,
+    words: &[u32],
+    pairs: &[u32],
+    text: &[u8],
+    level: u32,
+    at: usize,
+    out: &mut [u8],
+    pos: usize,
+) -> Place
+    requires { ⌜ Checked (now words) (now pairs) (now text) × (level < 2 ^ 31) × Ready write (now out) pos (synonymAt (now words) (now pairs) (now text) level at) ⌝ }
+    ensures { λ r. ⌜ Went write (now (out .entry)) pos (synonymAt (now (words .entry)) (now (pairs .entry)) (now (text .entry)) level at) (now (out .exit)) r ⌝ }
+{
+    let front = lay_front(write, words, pairs, text, SYNONYM, level, at, out, pos);
+    let Place::At { next, pos: p } = front else {
+        return front;
+    };
+    lay_synonym_body(write, words, pairs, text, next, out, p)
+}
+
+// A use line behind its head.
+fn lay_use(
+    write: bool,
+    words: &[u32],
+    pairs: &[u32],
+    text: &[u8],
+    at: usize,
+    out: &mut [u8],
+    pos: usize,
+) -> Place
+    requires { ⌜ Checked (now words) (now pairs) (now text) × Ready write (now out) pos (useAt (now words) (now pairs) (now text) at) ⌝ }
+    ensures { λ r. ⌜ Went write (now (out .entry)) pos (useAt (now (words .entry)) (now (pairs .entry)) (now (text .entry)) at) (now (out .exit)) r ⌝ }
+{
+    let visibility = laying::lay_visibility(write, words, at, out, pos);
+    let Place::At { next: q, pos: p } = visibility else {
+        return visibility;
+    };
+    let p = output::lay(write, b"use ", out, p);
+    let path = laying::lay_path(write, words, pairs, text, q, out, p);
+    let Place::At { next, pos: p } = path else {
+        return path;
+    };
+    Place::At {
+        next,
+        pos: output::lay(write, b";", out, p),
+    }
+}
+
+// What follows the head.
+fn lay_after(
+    write: bool,
+    words: &[u32],
+    pairs: &[u32],
+    text: &[u8],
+    head: u32,
+    level: u32,
+    at: usize,
+    out: &mut [u8],
+    pos: usize,
+) -> Place
+    requires { ⌜ Checked (now words) (now pairs) (now text) × (level < 2 ^ 30) × Ready write (now out) pos (afterAt (now words) (now pairs) (now text) head level at) ⌝ }
+    ensures { λ r. ⌜ Went write (now (out .entry)) pos (afterAt (now (words .entry)) (now (pairs .entry)) (now (text .entry)) head level at) (now (out .exit)) r ⌝ }
+{
+    match head {
+        STRUCT => lay_struct(write, words, pairs, text, level, at, out, pos),
+        ENUM => lay_enum(write, words, pairs, text, level, at, out, pos),
+        SYNONYM => lay_synonym(write, words, pairs, text, level, at, out, pos),
+        USE => lay_use(write, words, pairs, text, at, out, pos),
+        _ => Place::Stopped(Refusal::UnknownWord),
+    }
+}
+
+// The declaration at `at`.
+fn lay_declaration(
+    write: bool,
+    words: &[u32],
+    pairs: &[u32],
+    text: &[u8],
+    level: u32,
+    at: usize,
+    out: &mut [u8],
+    pos: usize,
+) -> Place
+    requires { ⌜ Checked (now words) (now pairs) (now text) × (level < 2 ^ 30) × Ready write (now out) pos (declarationTextAt (now words) (now pairs) (now text) level at) ⌝ }
+    ensures { λ r. ⌜ Went write (now (out .entry)) pos (declarationTextAt (now (words .entry)) (now (pairs .entry)) (now (text .entry)) level at) (now (out .exit)) r ⌝ }
+{
+    match encoding::scan_word(words, at) {
+        WordScan::Word { value, next } => lay_after(
+            write,
+            words,
+            pairs,
+            text,
+            value,
+            level,
+            next,
+            out,
+            pos,
+        ),
+        WordScan::NoWord(r) => Place::Stopped(r),
+    }
+}
+
+// A declaration is accepted and its text counted before a byte is written, since a refusal leaves the buffer unchanged.
+fn fill(words: &[u32], pairs: &[u32], text: &[u8], level: u32, out: &mut [u8]) -> TextAnswer
+    requires { ⌜ Checked (now words) (now pairs) (now text) × (level < 2 ^ 30) ⌝ }
+    ensures { λ r. ⌜ (r, now (out .exit)) ≡ filled (now (out .entry)) (wholeDeclarationText (now (words .entry)) (now (pairs .entry)) (now (text .entry)) level) ⌝ }
+{
+    match lay_declaration(false, words, pairs, text, level, 0, out, 0) {
+        Place::At { next, pos: bytes } => {
+            if next != words.len() {
+                return TextAnswer::Refused(Refusal::LeftOver);
+            }
+            if out.len() < bytes {
+                return TextAnswer::Refused(Refusal::BufferTooShort);
+            }
+            lay_declaration(true, words, pairs, text, level, 0, out, 0);
+            TextAnswer::Length(bytes)
+        }
+        Place::Stopped(r) => TextAnswer::Refused(r),
+    }
+}
+
+fn check_and_fill(
+    words: &[u32],
+    pairs: &[u32],
+    text: &[u8],
+    level: u32,
+    out: &mut [u8],
+) -> TextAnswer
+    requires { ⌜ level < 2 ^ 30 ⌝ }
+    ensures { λ r. ⌜ (r, now (out .exit)) ≡ filled (now (out .entry)) (tableDeclarationText (now (words .entry)) (now (pairs .entry)) (now (text .entry)) level) ⌝ }
+{
+    match encoding::check_tables(words, pairs, text) {
+        Check::Passed => fill(words, pairs, text, level, out),
+        Check::Failed(r) => TextAnswer::Refused(r),
+    }
+}
+
+// The text of the declaration that an encoding holds, in the front of `out`.
+pub fn declaration_text(
+    words: &[u32],
+    pairs: &[u32],
+    text: &[u8],
+    level: u32,
+    out: &mut [u8],
+) -> TextAnswer
+    ensures { λ r. ⌜ (r, now (out .exit)) ≡ filled (now (out .entry)) (declarationText (now (words .entry)) (now (pairs .entry)) (now (text .entry)) level) ⌝ }
+{
+    match encoding::check_level(level) {
+        Check::Passed => check_and_fill(words, pairs, text, level, out),
+        Check::Failed(r) => TextAnswer::Refused(r),
+    }
+}

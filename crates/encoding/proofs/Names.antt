@@ -1,0 +1,68 @@
+-- Laws of the bytes of names: the part of the text that a pair names, and equal bytes.
+use Prim.Native.Nat.{ℕ, suc, _+_, _-_, _≤_, _<_}
+use mathlib.Core.Path.{_≡_, refl, ap}
+use mathlib.Core.Bool.{Bool, true, false, Bool·beq}
+use mathlib.Core.List.{[], _∷_}
+use native.Mathlib.Omega.{arith}
+use native.Mathlib.Numerals.{add-one}
+use lib.Dec.{eqb}
+use lib.ListN.{length, getD, take, drop, drop-of-length-le}
+use lib.Seq.{drop-cons}
+use Rattle.rast.specs.Bytes.{Bytes, ascii, same, _and_}
+use Rattle.encoding.specs.Tables.{fixedNames, nameBytes}
+use Rattle.encoding.proofs.Tables.{impossible, everyBelow, every-at, name-fixed}
+
+pub and-false : (a : Bool) → (a and false) ≡ false
+unfolding _and_
+and-false true = refl
+and-false false = refl
+
+-- a conjunction, by what its first part is
+pub and-no : {a : Bool} (b : Bool) → a ≡ false → (a and b) ≡ false
+unfolding _and_
+and-no b e = rw e
+
+pub and-yes : {a : Bool} (b : Bool) → a ≡ true → (a and b) ≡ b
+unfolding _and_
+and-yes b e = rw e
+
+-- the part from s to s + n
+pub part-to : (l : Bytes) (s n : ℕ) → take (s + n - s) (drop s l) ≡ take n (drop s l)
+part-to l s n =
+    let e : s + n - s ≡ n = omega arith in
+    rw e
+
+-- ---- equal bytes
+
+pub same-apart : (a b : Bytes) → (length a ≡ length b → ⊥) → same a b ≡ false
+unfolding same
+same-apart [] [] h = absurd (h refl)
+same-apart [] (y ∷ b) h = refl
+same-apart (x ∷ a) [] h = refl
+same-apart (x ∷ a) (y ∷ b) h = rw (same-apart a b (λ e. h (ap suc e))) (and-false (eqb x y))
+
+pub same-more : (a b : Bytes) (i : ℕ) → i < length a → i < length b
+    → same (drop i a) (drop i b) ≡ (eqb (getD a i 0) (getD b i 0) and same (drop (i + 1) a) (drop (i + 1) b))
+unfolding same
+same-more a b i h k = rw (add-one i, drop-cons a i 0 h, drop-cons b i 0 k)
+
+pub same-end : (a b : Bytes) (i : ℕ) → length a ≤ i → length b ≤ i → same (drop i a) (drop i b) ≡ true
+unfolding same
+same-end a b i h k = rw (drop-of-length-le a h, drop-of-length-le b k)
+
+-- ---- fixed names
+
+pub beq-eq : (a b : Bool) → Bool·beq a b ≡ true → a ≡ b
+beq-eq true true e = refl
+beq-eq true false e = impossible (cc)
+beq-eq false true e = impossible (cc)
+beq-eq false false e = refl
+
+-- no two of the fixed names are the same
+pub fixed-same : (pairs text : Bytes) (x k : ℕ) → x < 16 → k < 16 → same (nameBytes pairs text x) (getD fixedNames k []) ≡ eqb x k
+unfolding everyBelow _and_ same fixedNames ascii
+fixed-same pairs text x k h l =
+    rw (name-fixed pairs text x h)
+    (beq-eq (same (getD fixedNames x []) (getD fixedNames k [])) (eqb x k)
+    (every-at (λ j. Bool·beq (same (getD fixedNames x []) (getD fixedNames j [])) (eqb x j)) 16
+    (every-at (λ i. everyBelow (λ j. Bool·beq (same (getD fixedNames i []) (getD fixedNames j [])) (eqb i j)) 16) 16 refl x h) k l))

@@ -1,0 +1,117 @@
+-- Laws of files: what is lent to the call, the refusals in their order, and files that are longer than a header can describe.
+use Prim.Native.Nat.{ℕ, _+_, _*_, _≤_, _<_}
+use mathlib.Core.Path.{_≡_, refl, ap, sym, _∙_}
+use mathlib.Core.Bool.{Bool, true, false}
+use mathlib.Core.List.{List, [], _++_, append-nil}
+use native.Mathlib.Omega.{arith}
+use borrow.Author.Tests.{lt-ltb, le-ltb, eq-eqb, ne-eqb, ltb-false, leb-true, leb-false}
+use lib.Dec.{leb, ltb, eqb}
+use lib.ListN.{length, take, drop, length-drop, drop-of-length-le}
+use lib.Seq.{sets, sets-eq, length-take-le, getD-take, take-all}
+use Rattle.rast.specs.Bytes.{Bytes, _or_}
+use Rattle.output.specs.Wrote.{Wrote}
+use Rattle.encoding.specs.declared.Refusal.the-variants.{Overlong, BadFileLength}
+use Rattle.encoding.specs.Refusals.{pick, refused}
+use Rattle.numbers.specs.Numbers.{numberAt, numbersAt}
+use Rattle.numbers.proofs.Fronts.{front-back}
+use Rattle.text.specs.declared.TextAnswer.the-variants.{Refused}
+use Rattle.text.specs.Calls.{filled}
+use Rattle.declaration.specs.Calls.{declarationText}
+use Rattle.file.specs.File.{encodedText, describedText, fileText, printed, printedFile}
+
+-- ---- what is lent to the call
+
+pub numbers-lent : (file d e : List ℕ) (at n : ℕ) → n ≤ length d → length e ≡ length (take n d) → e ≡ numbersAt (length (take n d)) file at
+    → take n (e ++ drop n d) ≡ numbersAt n file at
+numbers-lent file d e at n h l k = front-back d e n h l ∙ k ∙ rw (length-take-le n d h)
+
+sets-whole : (v o : List ℕ) → length v ≡ length o → sets o 0 v ≡ v
+sets-whole v o e = sets-eq v o 0 (omega arith) ∙ rw (drop-of-length-le o {i = 0 + length v} (omega arith)) (append-nil v)
+
+pub text-lent : (file d e : List ℕ) (at n r : ℕ) → n ≤ length d → length e ≡ length (take n d) → length file ≡ at + n
+    → Wrote (take n d) 0 (take n (drop at file)) e r → take n (e ++ drop n d) ≡ drop at file
+text-lent file d e at n r h l size w =
+    let s : length (drop at file) ≡ n = simp length-drop (omega arith) in
+    let k : length (take n d) ≡ n = length-take-le n d h in
+    let t : take n (drop at file) ≡ drop at file = take-all n (drop at file) (omega arith) in
+    front-back d e n h l ∙ w .bytes ∙ rw t (sets-whole (drop at file) (take n d) (s ∙ sym k))
+
+pub call-of : {words words′ pairs pairs′ text text′ : List ℕ} → words ≡ words′ → pairs ≡ pairs′ → text ≡ text′
+    → declarationText words pairs text 0 ≡ declarationText words′ pairs′ text′ 0
+call-of p q r = cc
+
+-- ---- the refusals in their order
+
+module _ (file o : List ℕ) where
+  pub header-short : length file < 12 → (Refused BadFileLength, o) ≡ filled o (fileText file)
+  unfolding filled fileText
+  header-short h = rw (lt-ltb (length file) 12 h)
+
+module _ (file o : List ℕ) {pairs words size : ℕ} (h : 12 ≤ length file) (p : pairs ≡ numberAt file 0) (w : words ≡ numberAt file 4) (t : size ≡ numberAt file 8) where
+  pub described : fileText file ≡ describedText pairs words size file
+  unfolding fileText
+  described = rw (le-ltb (length file) 12 h, p, w, t)
+
+  pub pairs-over : 1024 < pairs → (Refused Overlong, o) ≡ filled o (fileText file)
+  unfolding filled describedText
+  pairs-over a = rw (described, lt-ltb 1024 pairs a)
+
+  pub words-over : pairs ≤ 1024 → 8192 < words → (Refused Overlong, o) ≡ filled o (fileText file)
+  unfolding filled describedText
+  words-over a b = rw (described, le-ltb 1024 pairs a, lt-ltb 8192 words b)
+
+  pub text-over : pairs ≤ 1024 → words ≤ 8192 → 16384 < size → (Refused Overlong, o) ≡ filled o (fileText file)
+  unfolding filled describedText
+  text-over a b c = rw (described, le-ltb 1024 pairs a, le-ltb 8192 words b, lt-ltb 16384 size c)
+
+  module _ (a : pairs ≤ 1024) (b : words ≤ 8192) (c : size ≤ 16384) where
+    pub length-wrong : (length file ≡ 12 + 8 * pairs + 4 * words + size → ⊥) → (Refused BadFileLength, o) ≡ filled o (fileText file)
+    unfolding filled describedText
+    length-wrong d = rw (described, le-ltb 1024 pairs a, le-ltb 8192 words b, le-ltb 16384 size c, ne-eqb (length file) (12 + 8 * pairs + 4 * words + size) d)
+
+    pub length-right : length file ≡ 12 + 8 * pairs + 4 * words + size → encodedText pairs words file ≡ fileText file
+    unfolding describedText
+    length-right d = rw (described, le-ltb 1024 pairs a, le-ltb 8192 words b, le-ltb 16384 size c, eq-eqb (length file) (12 + 8 * pairs + 4 * words + size) d)
+
+-- ---- no header describes more than 57,356 bytes: of a longer file, the first 57,357 say what is printed
+
+-- a refusal that the counts alone decide, once the file is too long for any
+too-long : (pairs words size : ℕ) (file : List ℕ) → 57356 < length file
+    → describedText pairs words size file ≡ pick (ltb 1024 pairs or ltb 8192 words or ltb 16384 size) (refused Overlong) (refused BadFileLength)
+unfolding describedText
+too-long pairs words size file h = go (ltb 1024 pairs) (ltb 8192 words) (ltb 16384 size) refl refl refl
+  where
+    go : (a b c : Bool) → ltb 1024 pairs ≡ a → ltb 8192 words ≡ b → ltb 16384 size ≡ c
+        → pick (a or b or c) (refused Overlong) (pick (eqb (length file) (12 + 8 * pairs + 4 * words + size)) (encodedText pairs words file) (refused BadFileLength))
+        ≡ pick (a or b or c) (refused Overlong) (refused BadFileLength)
+    go true b c p q r = refl
+    go false true c p q r = refl
+    go false false true p q r = refl
+    go false false false p q r =
+        let i = ltb-false 1024 pairs p in
+        let j = ltb-false 8192 words q in
+        let k = ltb-false 16384 size r in
+        rw (ne-eqb (length file) (12 + 8 * pairs + 4 * words + size) (λ e. omega arith))
+
+number-kept : (n : ℕ) (file : List ℕ) (at : ℕ) → at + 4 ≤ n → numberAt (take n file) at ≡ numberAt file at
+number-kept n file at h =
+    rw (getD-take n file at 0 (omega arith), getD-take n file (at + 1) 0 (omega arith), getD-take n file (at + 2) 0 (omega arith), getD-take n file (at + 3) 0 (omega arith))
+
+pub long-file : (file : Bytes) → printedFile (take 57357 file) ≡ printedFile file
+unfolding printedFile fileText
+long-file file = go (leb (length file) 57357) refl
+  where
+    go : (short : Bool) → leb (length file) 57357 ≡ short → printed (fileText (take 57357 file)) ≡ printed (fileText file)
+    go true e = ap (λ (x : Bytes). printed (fileText x)) (take-all 57357 file (leb-true (length file) 57357 e))
+    go false e =
+        let h = leb-false (length file) 57357 e in
+        let front = take 57357 file in
+        let l : length front ≡ 57357 = length-take-le 57357 file (omega arith) in
+        let p = number-kept 57357 file 0 (omega arith) in
+        let q = number-kept 57357 file 4 (omega arith) in
+        let r = number-kept 57357 file 8 (omega arith) in
+        ap printed
+        (described front [] (omega arith) (sym p) (sym q) (sym r)
+        ∙ too-long (numberAt file 0) (numberAt file 4) (numberAt file 8) front (omega arith)
+        ∙ sym (too-long (numberAt file 0) (numberAt file 4) (numberAt file 8) file (omega arith))
+        ∙ sym (described file [] (omega arith) refl refl refl))

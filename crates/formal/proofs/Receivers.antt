@@ -1,0 +1,253 @@
+-- What the tests on a type say, by the words that stand there.
+use Prim.Native.Nat.{ℕ, zero, suc, _+_, _≤_, _<_}
+use mathlib.Core.Path.{_≡_, refl, ap, sym, _∙_}
+use mathlib.Core.Bool.{Bool, true, false}
+use mathlib.Core.List.{List, [], _∷_, map}
+use native.Mathlib.Omega.{arith}
+use borrow.Author.Tests.{ne-eqb}
+use lib.Dec.{eqb}
+use lib.ListN.{length, getD, take, drop, length-take, length-drop, length-map}
+use Rattle.rast.specs.Bytes.{Bytes, ascii, same}
+use Rattle.rast.specs.Tree.{Path, Self, PMemberSelect, MSels, Ty, Primitive, TIdentifier, TypeFromPath, TypeApp, Borrowed, BorrowedMut, ImplType, DynType, TupleType, FnType, IntersectionType, Array, TSynonym, TMetaData}
+use Rattle.rast.specs.DeclarationToString.{Expand, isSelfPath, isSelfOwned, isSelfBorrowed, isSelfBorrowedMut, isUnderscore}
+use Rattle.encoding.specs.declared.PathAt.{PathAt}
+use Rattle.encoding.specs.declared.Refusal.{Refusal}
+use Rattle.encoding.specs.Refusals.{pick}
+use Rattle.encoding.specs.Tables.{fixedNames, nameBytes, nameCount}
+use Rattle.encoding.specs.Reading.{Reading, got, stop, readBelow}
+use Rattle.encoding.specs.Heads.{headAfter, InsidePath}
+use Rattle.encoding.specs.Types.{rootOf, pathOf, readNode, readType, typeAt}
+use Rattle.encoding.proofs.Tables.{impossible, same-eq}
+use Rattle.encoding.proofs.Heads.{head-at}
+use Rattle.encoding.proofs.Types.{Made, made-got, type-end}
+use Rattle.encoding.proofs.TypeKinds.{kind, type-kind}
+use Rattle.writing.proofs.Accepted.{name-type, path-there, path-type, ref-head, mut-head}
+use Rattle.formal.specs.declared.Receiver.{Receiver}
+use Rattle.formal.specs.declared.Receiver.the-variants.{ByValue, ByRef, ByMut, Typed}
+use Rattle.formal.specs.Receivers.{receiverOf, Judges, ExpandsAt, Tells}
+
+-- ---- a type of another kind
+
+owned-other : (t : Ty Bytes) → (kind t ≡ 13 → ⊥) → isSelfOwned t ≡ false
+unfolding isSelfOwned
+owned-other (Primitive p) h = refl
+owned-other (TIdentifier x) h = refl
+owned-other (TypeFromPath p) h = absurd (h refl)
+owned-other (TypeApp b ts) h = refl
+owned-other (Borrowed t) h = refl
+owned-other (BorrowedMut t) h = refl
+owned-other (ImplType t) h = refl
+owned-other (DynType t) h = refl
+owned-other (TupleType ts) h = refl
+owned-other (FnType ts t) h = refl
+owned-other (IntersectionType l r) h = refl
+owned-other (Array t s) h = refl
+owned-other (TSynonym d b) h = refl
+owned-other (TMetaData d c o) h = refl
+
+borrowed-other : (t : Ty Bytes) → (kind t ≡ 15 → ⊥) → isSelfBorrowed t ≡ false
+unfolding isSelfBorrowed
+borrowed-other (Primitive p) h = refl
+borrowed-other (TIdentifier x) h = refl
+borrowed-other (TypeFromPath p) h = refl
+borrowed-other (TypeApp b ts) h = refl
+borrowed-other (Borrowed t) h = absurd (h refl)
+borrowed-other (BorrowedMut t) h = refl
+borrowed-other (ImplType t) h = refl
+borrowed-other (DynType t) h = refl
+borrowed-other (TupleType ts) h = refl
+borrowed-other (FnType ts t) h = refl
+borrowed-other (IntersectionType l r) h = refl
+borrowed-other (Array t s) h = refl
+borrowed-other (TSynonym d b) h = refl
+borrowed-other (TMetaData d c o) h = refl
+
+mut-other : (t : Ty Bytes) → (kind t ≡ 16 → ⊥) → isSelfBorrowedMut t ≡ false
+unfolding isSelfBorrowedMut
+mut-other (Primitive p) h = refl
+mut-other (TIdentifier x) h = refl
+mut-other (TypeFromPath p) h = refl
+mut-other (TypeApp b ts) h = refl
+mut-other (Borrowed t) h = refl
+mut-other (BorrowedMut t) h = absurd (h refl)
+mut-other (ImplType t) h = refl
+mut-other (DynType t) h = refl
+mut-other (TupleType ts) h = refl
+mut-other (FnType ts t) h = refl
+mut-other (IntersectionType l r) h = refl
+mut-other (Array t s) h = refl
+mut-other (TSynonym d b) h = refl
+mut-other (TMetaData d c o) h = refl
+
+underscore-other : (t : Ty Bytes) → (kind t ≡ 12 → ⊥) → isUnderscore t ≡ false
+unfolding isUnderscore
+underscore-other (Primitive p) h = refl
+underscore-other (TIdentifier x) h = absurd (h refl)
+underscore-other (TypeFromPath p) h = refl
+underscore-other (TypeApp b ts) h = refl
+underscore-other (Borrowed t) h = refl
+underscore-other (BorrowedMut t) h = refl
+underscore-other (ImplType t) h = refl
+underscore-other (DynType t) h = refl
+underscore-other (TupleType ts) h = refl
+underscore-other (FnType ts t) h = refl
+underscore-other (IntersectionType l r) h = refl
+underscore-other (Array t s) h = refl
+underscore-other (TSynonym d b) h = refl
+underscore-other (TMetaData d c o) h = refl
+
+-- ---- a path that is `Self`: no other root, and no names
+
+longer-path : {N : Type 0} (p : Path N) (xs : List N) → isSelfPath p ≡ false → isSelfPath (MSels p xs) ≡ false
+unfolding MSels isSelfPath
+longer-path p [] h = h
+longer-path p (x ∷ xs) h = longer-path (PMemberSelect p x) xs refl
+
+other-root : (N : Type 0) (r : ℕ) → r < 3 → (r ≡ 2 → ⊥) → isSelfPath {N = N} (rootOf r) ≡ false
+unfolding rootOf isSelfPath
+other-root N zero h k = refl
+other-root N (suc zero) h k = refl
+other-root N (suc (suc zero)) h k = absurd (k refl)
+other-root N (suc (suc (suc r))) h k = absurd (let z : ⊥ = omega arith in z)
+
+self-names : {N : Type 0} (xs : List N) → isSelfPath (MSels Self xs) ≡ eqb (length xs) 0
+unfolding MSels isSelfPath
+self-names [] = refl
+self-names (x ∷ xs) = longer-path (PMemberSelect Self x) xs refl ∙ sym (ne-eqb (suc (length xs)) 0 (omega arith))
+
+other-path : {N : Type 0} (bound : ℕ) (ws : List ℕ) (name : ℕ → N) (p : PathAt) → InsidePath bound ws p → (p .root ≡ 2 → ⊥) → isSelfPath (pathOf ws name p) ≡ false
+unfolding pathOf
+other-path {N} bound ws name p i k = longer-path (rootOf (p .root)) (map name (take (p .count) (drop (p .start) ws))) (other-root N (p .root) (i .root) k)
+
+self-path : {N : Type 0} (bound : ℕ) (ws : List ℕ) (name : ℕ → N) (p : PathAt) → InsidePath bound ws p → p .root ≡ 2 → isSelfPath (pathOf ws name p) ≡ eqb (p .count) 0
+unfolding pathOf rootOf
+self-path bound ws name p i k =
+    let l : length (map name (take (p .count) (drop (p .start) ws))) ≡ p .count = simp (length-map, length-take, length-drop) (omega (arith, i .inside)) in
+    rw k (self-names (map name (take (p .count) (drop (p .start) ws))) ∙ ap (λ (n : ℕ). eqb n 0) l)
+
+-- ---- by the words
+
+module _ (ws pairs : List ℕ) (text : Bytes) (at : ℕ) where
+  abbrev x : Reading (Ty Bytes)
+  x = typeAt ws pairs text at
+
+  pub not-path : (getD ws at 0 ≡ 13 → ⊥) → Judges isSelfOwned x false
+  not-path h = record { says = λ t n e. sym (owned-other t (λ k. h (sym (type-kind ws pairs text at e) ∙ k))) }
+
+  pub not-self : getD ws at 0 ≡ 13 → (getD ws (at + 1) 0 ≡ 2 → ⊥) → Judges isSelfOwned x false
+  unfolding isSelfOwned
+  not-self h k = record {
+    says = λ t n e.
+        let d = path-type ws pairs text at e h in
+        sym (ap isSelfOwned (d .type) ∙ other-path (nameCount pairs) ws (nameBytes pairs text) (path-there ws pairs text at e) (d .own) k);
+  }
+
+  pub names-of-self : getD ws at 0 ≡ 13 → getD ws (at + 1) 0 ≡ 2 → Judges isSelfOwned x (eqb (getD ws (at + 2) 0) 0)
+  unfolding isSelfOwned
+  names-of-self h k = record {
+    says = λ t n e.
+        let d = path-type ws pairs text at e h in
+        sym (ap isSelfOwned (d .type) ∙ self-path (nameCount pairs) ws (nameBytes pairs text) (path-there ws pairs text at e) (d .own) k);
+  }
+
+  pub not-ref : (getD ws at 0 ≡ 15 → ⊥) → Judges isSelfBorrowed x false
+  not-ref h = record { says = λ t n e. sym (borrowed-other t (λ k. h (sym (type-kind ws pairs text at e) ∙ k))) }
+
+  pub ref-of : {t : Ty Bytes} {n : ℕ} → x ≡ got t n → getD ws at 0 ≡ 15 → Made (typeAt ws pairs text (at + 1)) Borrowed t n
+  unfolding readNode
+  ref-of e h = made-got (typeAt ws pairs text (at + 1)) Borrowed (ref-head ws pairs text at e h)
+
+  pub self-ref : {r : Bool} → getD ws at 0 ≡ 15 → Judges isSelfOwned (typeAt ws pairs text (at + 1)) r → Judges isSelfBorrowed x r
+  unfolding isSelfBorrowed
+  self-ref h j = record {
+    says = λ t n e.
+        let m = ref-of e h in
+        j .says (m .value) n (m .reads) ∙ ap isSelfBorrowed (sym (m .made));
+  }
+
+  pub not-mut : (getD ws at 0 ≡ 16 → ⊥) → Judges isSelfBorrowedMut x false
+  not-mut h = record { says = λ t n e. sym (mut-other t (λ k. h (sym (type-kind ws pairs text at e) ∙ k))) }
+
+  pub mut-of : {t : Ty Bytes} {n : ℕ} → x ≡ got t n → getD ws at 0 ≡ 16 → Made (typeAt ws pairs text (at + 1)) BorrowedMut t n
+  unfolding readNode
+  mut-of e h = made-got (typeAt ws pairs text (at + 1)) BorrowedMut (mut-head ws pairs text at e h)
+
+  pub self-mut : {r : Bool} → getD ws at 0 ≡ 16 → Judges isSelfOwned (typeAt ws pairs text (at + 1)) r → Judges isSelfBorrowedMut x r
+  unfolding isSelfBorrowedMut
+  self-mut h j = record {
+    says = λ t n e.
+        let m = mut-of e h in
+        j .says (m .value) n (m .reads) ∙ ap isSelfBorrowedMut (sym (m .made));
+  }
+
+  -- ---- the type `_`
+
+  tells-none : {r : Refusal} → x ≡ stop r → Tells x at false
+  tells-none e = record { says = λ t n d. impossible (cc); there = λ d. impossible (cc) }
+
+  pub tells-behind : length ws ≤ at → Tells x at false
+  tells-behind h = tells-none (type-end ws pairs text at h)
+
+  pub tells-other : (getD ws at 0 ≡ 12 → ⊥) → Tells x at false
+  tells-other h = record {
+    says = λ t n e. sym (underscore-other t (λ k. h (sym (type-kind ws pairs text at e) ∙ k)));
+    there = λ d. impossible (cc);
+  }
+
+  pub tells-no-name : at < length ws → getD ws at 0 ≡ 12 → {r : Refusal} → readBelow (nameCount pairs) ws (at + 1) ≡ stop r → Tells x at false
+  unfolding readType headAfter
+  tells-no-name h k {r} e = tells-none {r = r} (rw (head-at (nameCount pairs) ws at h, k, e))
+
+  pub tells-name : at < length ws → getD ws at 0 ≡ 12 → {w n : ℕ} {r : Bool} → readBelow (nameCount pairs) ws (at + 1) ≡ got w n
+      → r ≡ same (nameBytes pairs text w) (getD fixedNames 14 []) → Tells x at r
+  unfolding readType headAfter readNode isUnderscore fixedNames
+  tells-name h k {w} {n} {r} e d =
+      let i : x ≡ got (TIdentifier (nameBytes pairs text w)) n = rw (head-at (nameCount pairs) ws at h, k, e) in
+      let o = name-type ws pairs text at i k .end in
+      record {
+        says = λ t m u. let s : t ≡ TIdentifier (nameBytes pairs text w) = cc in rw s d;
+        there = λ u.
+            let s : nameBytes pairs text w ≡ ascii "_" = same-eq (nameBytes pairs text w) (ascii "_") (sym d ∙ u) in
+            i ∙ cc;
+      }
+
+-- ---- the cases in their order
+
+module _ {A : Type 0} {x : Reading (Ty Bytes)} (f : Ty Bytes → Bool) (g : Ty Bytes → A) where
+  judge-yes : (u : A) {a : Bool} → Judges f x a → a ≡ true → Judges (λ t. pick (f t) u (g t)) x u
+  judge-yes u j k = record { says = λ t n e. let y : f t ≡ true = sym (j .says t n e) ∙ k in rw y }
+
+  judge-no : (u : A) {a : Bool} {r : A} → Judges f x a → a ≡ false → Judges g x r → Judges (λ t. pick (f t) u (g t)) x r
+  judge-no u j k m = record { says = λ t n e. let y : f t ≡ false = sym (j .says t n e) ∙ k in rw y (m .says t n e) }
+
+abbrev pub expandsToSelf : Ty Bytes → Bool
+expandsToSelf t = isSelfOwned (Expand t)
+
+pub judge-expanded : (again : ℕ → Reading (Ty Bytes)) {at r : ℕ} {a : Bool} → ExpandsAt again at r → Judges isSelfOwned (again r) a → Judges expandsToSelf (again at) a
+judge-expanded again d j = record { says = λ t n e. j .says (Expand t) n (d .expands t n e) }
+
+module _ {x : Reading (Ty Bytes)} {a : Bool} (j : Judges expandsToSelf x a) where
+  pub by-value : a ≡ true → Judges receiverOf x ByValue
+  by-value h = judge-yes expandsToSelf _ ByValue j h
+
+  module _ {b : Bool} (h : a ≡ false) (k : Judges isSelfBorrowed x b) where
+    pub by-ref : b ≡ true → Judges receiverOf x ByRef
+    by-ref i = judge-no expandsToSelf _ ByValue j h (judge-yes isSelfBorrowed _ ByRef k i)
+
+    module _ {c : Bool} (i : b ≡ false) (l : Judges isSelfBorrowedMut x c) where
+      pub by-mut : c ≡ true → Judges receiverOf x ByMut
+      by-mut m = judge-no expandsToSelf _ ByValue j h (judge-no isSelfBorrowed _ ByRef k i (judge-yes isSelfBorrowedMut _ ByMut l m))
+
+      -- the last test
+      by-last : {r : Receiver} → c ≡ false → Judges (λ t. pick (isUnderscore t) ByValue Typed) x r → Judges receiverOf x r
+      by-last m o = judge-no expandsToSelf _ ByValue j h (judge-no isSelfBorrowed _ ByRef k i (judge-no isSelfBorrowedMut _ ByMut l m o))
+
+      module _ {at : ℕ} {d : Bool} (m : c ≡ false) (o : Tells x at d) where
+        judge-underscore : Judges isUnderscore x d
+        judge-underscore = record { says = o .says }
+
+        pub by-underscore : d ≡ true → Judges receiverOf x ByValue
+        by-underscore p = by-last m (judge-yes isUnderscore _ ByValue judge-underscore p)
+
+        pub with-type : d ≡ false → Judges receiverOf x Typed
+        with-type p = by-last m (judge-no isUnderscore _ ByValue judge-underscore p (record { says = λ t n e. refl }))

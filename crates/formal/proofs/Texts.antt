@@ -1,0 +1,167 @@
+-- The text of a field's name and type, by the case that the code takes.
+use Prim.Native.Nat.{ℕ, _+_}
+use mathlib.Core.Path.{_≡_, refl, ap, sym, _∙_}
+use mathlib.Core.Bool.{Bool, true, false}
+use mathlib.Core.List.{List, _++_, append-assoc}
+use Rattle.rast.specs.Bytes.{Bytes, ascii, same, _and_}
+use Rattle.rast.specs.Tree.{Ty, TIdentifier}
+use Rattle.rast.specs.ToString.{Type·ToString}
+use Rattle.rast.specs.Declaration.{Formal}
+use Rattle.rast.specs.DeclarationToString.{Expand, isSelfOwned, isSelfBorrowed, isSelfBorrowedMut, isUnderscore, Formal·ToString}
+use Rattle.encoding.specs.declared.Refusal.{Refusal}
+use Rattle.encoding.specs.Refusals.{pick}
+use Rattle.encoding.specs.Reading.{Reading, got, stop, _>>=_, mapReading, readBelow}
+use Rattle.encoding.specs.Tables.{nameBytes, nameCount}
+use Rattle.encoding.specs.Types.{typeAt}
+use Rattle.encoding.specs.Declarations.{readName, readFormal}
+use Rattle.encoding.proofs.Tables.{impossible}
+use Rattle.measure.specs.declared.Measure.{Measure}
+use Rattle.measure.specs.declared.Measure.the-variants.{Measured, Stopped}
+use Rattle.measure.specs.Lengths.{measureOf}
+use Rattle.writing.specs.Written.{EndsAt}
+use Rattle.laying.specs.declared.Place.{Place}
+use Rattle.laying.specs.Passes.{last, _then_, run, Ready, Went}
+use Rattle.laying.specs.Texts.{typeTextAt}
+use Rattle.laying.proofs.Passes.{Runs, ReadyChain, WentChain, ready-runs, went-runs}
+use Rattle.laying.proofs.Splits.{map-got, map-made}
+use Rattle.formal.specs.declared.Receiver.{Receiver}
+use Rattle.formal.specs.declared.Receiver.the-variants.{ByValue, ByRef, ByMut, Typed}
+use Rattle.formal.specs.Receivers.{receiverOf}
+use Rattle.formal.specs.Texts.{formalAt, formalOf, typedAt}
+
+abbrev formal : Bytes → Ty Bytes → Formal Bytes
+formal x t = record { name = x; tpe = t }
+
+-- the cases of `Formal.ToString`, over any answers to its tests: s for the name, a to d for the type
+unfoldable cases : Bytes → Ty Bytes → Bool → Bool → Bool → Bool → Bool → Bytes
+cases x t s a b c d =
+    elim (s and a) [
+      | true ↦ x
+      | false ↦ elim (s and b) [
+        | true ↦ ascii "&" ++ x
+        | false ↦ elim (s and c) [
+          | true ↦ ascii "&mut " ++ x
+          | false ↦ elim d [
+            | true ↦ x
+            | false ↦ x ++ ascii ": " ++ Type·ToString t
+          ]
+        ]
+      ]
+    ]
+
+by-cases : (x : Bytes) (t : Ty Bytes) → Formal·ToString (formal x t) ≡ cases x t (same x (ascii "self")) (isSelfOwned (Expand t)) (isSelfBorrowed t) (isSelfBorrowedMut t) (isUnderscore t)
+unfolding Formal·ToString cases
+by-cases x t = refl
+
+-- ---- a field with another name than `self`
+
+other-cases : (x : Bytes) (t : Ty Bytes) (a b c d : Bool) → cases x t false a b c d ≡ elim d [ true ↦ x | false ↦ x ++ (ascii ": " ++ Type·ToString t) ]
+unfolding cases _and_
+other-cases x t a b c true = refl
+other-cases x t a b c false = append-assoc x (ascii ": ") (Type·ToString t)
+
+other-text : (x : Bytes) (t : Ty Bytes) {d : Bool} → same x (ascii "self") ≡ false → isUnderscore t ≡ d
+    → Formal·ToString (formal x t) ≡ elim d [ true ↦ x | false ↦ x ++ (ascii ": " ++ Type·ToString t) ]
+other-text x t {d} e f =
+    by-cases x t ∙ ap (λ (s : Bool). cases x t s (isSelfOwned (Expand t)) (isSelfBorrowed t) (isSelfBorrowedMut t) (isUnderscore t)) e
+    ∙ ap (λ (b : Bool). cases x t false (isSelfOwned (Expand t)) (isSelfBorrowed t) (isSelfBorrowedMut t) b) f
+    ∙ other-cases x t (isSelfOwned (Expand t)) (isSelfBorrowed t) (isSelfBorrowedMut t) d
+
+not-self-underscore : (x : Bytes) → same x (ascii "self") ≡ false → Formal·ToString (formal x (TIdentifier (ascii "_"))) ≡ x
+unfolding isUnderscore same ascii _and_
+not-self-underscore x e = other-text x (TIdentifier (ascii "_")) {d = true} e refl
+
+not-self-typed : (x : Bytes) (t : Ty Bytes) → same x (ascii "self") ≡ false → isUnderscore t ≡ false → Formal·ToString (formal x t) ≡ x ++ (ascii ": " ++ Type·ToString t)
+not-self-typed x t e d = other-text x t {d = false} e d
+
+-- ---- a field named `self`
+
+unfoldable pub receiverText : Bytes → Ty Bytes → Receiver → Bytes
+receiverText x t ByValue = x
+receiverText x t ByRef = ascii "&" ++ x
+receiverText x t ByMut = ascii "&mut " ++ x
+receiverText x t Typed = x ++ (ascii ": " ++ Type·ToString t)
+
+self-cases : (x : Bytes) (t : Ty Bytes) (a b c d : Bool) → cases x t true a b c d ≡ receiverText x t (pick a ByValue (pick b ByRef (pick c ByMut (pick d ByValue Typed))))
+unfolding cases receiverText _and_
+self-cases x t true b c d = refl
+self-cases x t false true c d = refl
+self-cases x t false false true d = refl
+self-cases x t false false false true = refl
+self-cases x t false false false false = append-assoc x (ascii ": ") (Type·ToString t)
+
+self-text : (x : Bytes) (t : Ty Bytes) → same x (ascii "self") ≡ true → Formal·ToString (formal x t) ≡ receiverText x t (receiverOf t)
+self-text x t e =
+    by-cases x t ∙ ap (λ (s : Bool). cases x t s (isSelfOwned (Expand t)) (isSelfBorrowed t) (isSelfBorrowedMut t) (isUnderscore t)) e
+    ∙ self-cases x t (isSelfOwned (Expand t)) (isSelfBorrowed t) (isSelfBorrowedMut t) (isUnderscore t)
+
+-- ---- the same at a place
+
+typed-read : (x : Bytes) (at : ℕ) (y : Reading (Ty Bytes)) → ((t : Ty Bytes) (n : ℕ) → y ≡ got t n → Formal·ToString (formal x t) ≡ x ++ (ascii ": " ++ Type·ToString t))
+    → mapReading (λ t. Formal·ToString (formal x t)) y ≡ run (got x at then λ p. got (ascii ": ") p then λ q. last (mapReading Type·ToString y))
+unfolding mapReading run
+typed-read x at (got t n) h = ap (λ (b : Bytes). got b n) (h t n refl)
+typed-read x at (stop k) h = refl
+
+module _ (ws pairs : List ℕ) (text : Bytes) where
+  pub formal-got : (at : ℕ) {x p : ℕ} → readBelow (nameCount pairs) ws at ≡ got x p → formalAt ws pairs text at ≡ formalOf ws pairs text x p
+  unfolding readFormal readName
+  formal-got at {x} {p} e =
+      let d : formalAt ws pairs text at ≡ mapReading Formal·ToString (typeAt ws pairs text p >>= λ t q. got (formal (nameBytes pairs text x) t) q) = rw e in
+      d ∙ map-made Formal·ToString (formal (nameBytes pairs text x)) (typeAt ws pairs text p)
+
+  pub formal-stop : (at : ℕ) {k : Refusal} → readBelow (nameCount pairs) ws at ≡ stop k → formalAt ws pairs text at ≡ stop k
+  unfolding readFormal readName mapReading
+  formal-stop at e = rw e
+
+  module _ (x at : ℕ) where
+    abbrev named : Bytes
+    named = nameBytes pairs text x
+
+    module _ (other : same named (ascii "self") ≡ false) where
+      pub only-name : typeAt ws pairs text at ≡ got (TIdentifier (ascii "_")) (at + 2) → formalOf ws pairs text x at ≡ got named (at + 2)
+      only-name e = map-got (λ t. Formal·ToString (formal named t)) e ∙ ap (λ (b : Bytes). got b (at + 2)) (not-self-underscore named other)
+
+      pub name-and-type : ((t : Ty Bytes) (n : ℕ) → typeAt ws pairs text at ≡ got t n → isUnderscore t ≡ false) → formalOf ws pairs text x at ≡ typedAt ws pairs text x at
+      unfolding run
+      name-and-type h = typed-read named at (typeAt ws pairs text at) (λ t n e. not-self-typed named t other (h t n e))
+
+    module _ (self : same named (ascii "self") ≡ true) {t : Ty Bytes} {n : ℕ} (e : typeAt ws pairs text at ≡ got t n) where
+      pub receiver-text : {r : Receiver} → r ≡ receiverOf t → formalOf ws pairs text x at ≡ got (receiverText named t r) n
+      receiver-text d =
+          map-got (λ u. Formal·ToString (formal named u)) e
+          ∙ ap (λ (b : Bytes). got b n) (self-text named t self ∙ ap (receiverText named t) (sym d))
+
+      pub self-and-type : Typed ≡ receiverOf t → formalOf ws pairs text x at ≡ typedAt ws pairs text x at
+      unfolding run receiverText
+      self-and-type d = typed-read named at (typeAt ws pairs text at) go
+        where
+          go : (u : Ty Bytes) (m : ℕ) → typeAt ws pairs text at ≡ got u m → Formal·ToString (formal named u) ≡ named ++ (ascii ": " ++ Type·ToString u)
+          go u m f =
+              let v : u ≡ t = cc (e, f) in
+              self-text named u self ∙ ap (receiverText named u) (ap receiverOf v ∙ sym d)
+
+-- ---- a name and a type, as a chain
+
+module _ (ws pairs : List ℕ) (text : Bytes) (x at : ℕ) where
+  typed-runs : Runs (typedAt ws pairs text x at) (got (nameBytes pairs text x) at then λ p. got (ascii ": ") p then λ q. last (typeTextAt ws pairs text q))
+  typed-runs = record { same = refl }
+
+  pub typed-chain : {write : Bool} {o : List ℕ} {pos : ℕ} → Ready write o pos (typedAt ws pairs text x at)
+      → ReadyChain write o pos (got (nameBytes pairs text x) at then λ p. got (ascii ": ") p then λ q. last (typeTextAt ws pairs text q))
+  typed-chain r = ready-runs typed-runs r
+
+  pub typed-went : {write : Bool} {o o′ : List ℕ} {pos : ℕ} {r : Place}
+      → WentChain write o pos (got (nameBytes pairs text x) at then λ p. got (ascii ": ") p then λ q. last (typeTextAt ws pairs text q)) o′ r
+      → Went write o pos (typedAt ws pairs text x at) o′ r
+  typed-went w = went-runs typed-runs w
+
+-- ---- what a measure says
+
+pub measured-ends : (x : Reading (Ty Bytes)) {r : Measure} {n b : ℕ} → r ≡ measureOf x → r ≡ Measured n b → EndsAt x n
+measured-ends (got t m) {r} {n} {b} e d = let q : m ≡ n = cc in record { value = t; reads = ap (got t) q }
+measured-ends (stop k) e d = impossible (cc)
+
+pub measured-stops : (x : Reading (Ty Bytes)) {r : Measure} {k : Refusal} → r ≡ measureOf x → r ≡ Stopped k → x ≡ stop k
+measured-stops (got t m) e d = impossible (cc)
+measured-stops (stop j) e d = cc

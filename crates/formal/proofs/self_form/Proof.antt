@@ -1,0 +1,75 @@
+use Rattle.rast.specs.DeclarationToString.{Expand}
+use Rattle.encoding.specs.Types.{typeAt}
+use Rattle.formal.proofs.Receivers.{by-mut, by-ref, by-underscore, by-value, judge-expanded, with-type}
+use Rattle.formal.proofs.self_form.Statement.{statement}
+use Rattle.formal.proofs.self_form.Tie as tie
+
+expand-requires : tie.Need-expand-requires
+expand-requires c κs = c .before .before .before .pre .1
+
+is-self-type-requires : tie.Need-is-self-type-requires
+is-self-type-requires c κs =
+    let r = c .before .before .before .before .pre .1 in
+    record { value = Expand (r .value); end = r .end; reads = c .expand .ensures .expands (r .value) (r .end) (r .reads) }
+
+returns : tie.Need-returns
+returns c =
+    let a = c .before .before .before .before .before .before .args in
+    let j = judge-expanded (typeAt (a .words .now) (a .pairs .now) (a .text .now)) (c .before .before .expand .ensures) (c .before .is-self-type .ensures) in
+    by-value j (c .if1 .taken)
+
+is-self-ref-requires : tie.Need-is-self-ref-requires
+is-self-ref-requires c κs = c .before .before .before .before .before .before .pre .1
+
+returns-2 : tie.Need-returns-2
+returns-2 c =
+    let a = c .before .before .before .before .before .before .before .before .args in
+    let j = judge-expanded (typeAt (a .words .now) (a .pairs .now) (a .text .now)) (c .before .before .before .before .expand .ensures) (c .before .before .before .is-self-type .ensures) in
+    by-ref j (c .before .before .if1 .left) (c .before .is-self-ref .ensures) (c .if2 .taken)
+
+is-self-mut-requires : tie.Need-is-self-mut-requires
+is-self-mut-requires c κs = c .before .before .before .before .before .before .before .before .pre .1
+
+returns-3 : tie.Need-returns-3
+returns-3 c =
+    let a = c .before .before .before .before .before .before .before .before .before .before .args in
+    let j = judge-expanded (typeAt (a .words .now) (a .pairs .now) (a .text .now)) (c .before .before .before .before .before .before .expand .ensures) (c .before .before .before .before .before .is-self-type .ensures) in
+    by-mut j (c .before .before .before .before .if1 .left) (c .before .before .before .is-self-ref .ensures)
+    (c .before .before .if2 .left) (c .before .is-self-mut .ensures)
+    (c .if3 .taken)
+
+is-underscore-requires : tie.Need-is-underscore-requires
+is-underscore-requires c κs = c .before .before .before .before .before .before .before .before .before .before .pre .0
+
+returns-4 : tie.Need-returns-4
+returns-4 c =
+    let a = c .before .before .before .before .before .before .before .before .before .before .before .before .args in
+    let j = judge-expanded (typeAt (a .words .now) (a .pairs .now) (a .text .now)) (c .before .before .before .before .before .before .before .before .expand .ensures) (c .before .before .before .before .before .before .before .is-self-type .ensures) in
+    by-underscore j (c .before .before .before .before .before .before .if1 .left) (c .before .before .before .before .before .is-self-ref .ensures)
+    (c .before .before .before .before .if2 .left) (c .before .before .before .is-self-mut .ensures)
+    (c .before .before .if3 .left) (c .before .is-underscore .ensures)
+    (c .if4 .taken)
+
+returns-5 : tie.Need-returns-5
+returns-5 c =
+    let a = c .before .before .before .before .before .before .before .before .before .before .before .before .args in
+    let j = judge-expanded (typeAt (a .words .now) (a .pairs .now) (a .text .now)) (c .before .before .before .before .before .before .before .before .expand .ensures) (c .before .before .before .before .before .before .before .is-self-type .ensures) in
+    with-type j (c .before .before .before .before .before .before .if1 .left) (c .before .before .before .before .before .is-self-ref .ensures)
+    (c .before .before .before .before .if2 .left) (c .before .before .before .is-self-mut .ensures)
+    (c .before .before .if3 .left) (c .before .is-underscore .ensures)
+    (c .if4 .left)
+
+pub self-form-spec : {M : Type 1} → statement M
+self-form-spec =
+    tie.close
+    (tie.spec
+    expand-requires
+    is-self-type-requires
+    returns
+    is-self-ref-requires
+    returns-2
+    is-self-mut-requires
+    returns-3
+    is-underscore-requires
+    returns-4
+    returns-5)

@@ -1,0 +1,2 @@
+pub mod Receivers
+pub mod Texts

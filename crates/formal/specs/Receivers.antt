@@ -1,0 +1,32 @@
+-- How a field named `self` shows, and what is asked of its type.
+use Prim.Native.Nat.{ℕ, _+_}
+use mathlib.Core.Path.{_≡_}
+use mathlib.Core.Bool.{Bool, true}
+use Rattle.rast.specs.Bytes.{Bytes, ascii}
+use Rattle.rast.specs.Tree.{Ty, TIdentifier}
+use Rattle.rast.specs.DeclarationToString.{Expand, isSelfOwned, isSelfBorrowed, isSelfBorrowedMut, isUnderscore}
+use Rattle.encoding.specs.Refusals.{pick}
+use Rattle.encoding.specs.Reading.{Reading, got}
+use Rattle.formal.specs.declared.Receiver.{Receiver}
+use Rattle.formal.specs.declared.Receiver.the-variants.{ByValue, ByRef, ByMut, Typed}
+
+-- the cases of `Formal.ToString` for a field named `self`, in their order
+abbrev pub receiverOf : Ty Bytes → Receiver
+receiverOf t =
+    pick (isSelfOwned (Expand t)) ByValue
+    (pick (isSelfBorrowed t) ByRef
+    (pick (isSelfBorrowedMut t) ByMut
+    (pick (isUnderscore t) ByValue Typed)))
+
+-- the answer r is f of the type that was read
+pub record Judges {A : Type 0} (f : Ty Bytes → A) (x : Reading (Ty Bytes)) (r : A) : Type 0 where
+  pub says : (t : Ty Bytes) (n : ℕ) → x ≡ got t n → r ≡ f t
+
+-- at r stands what `Expand` gives of the type at `at`, and ends where that type ends
+pub record ExpandsAt (again : ℕ → Reading (Ty Bytes)) (at r : ℕ) : Type 0 where
+  pub expands : (t : Ty Bytes) (n : ℕ) → again at ≡ got t n → again r ≡ got (Expand t) n
+
+-- the answer says whether the type that stands at `at` is `_`; it is no where no type stands there
+pub record Tells (x : Reading (Ty Bytes)) (at : ℕ) (r : Bool) : Type 0 where
+  pub says : (t : Ty Bytes) (n : ℕ) → x ≡ got t n → r ≡ isUnderscore t
+  pub there : r ≡ true → x ≡ got (TIdentifier (ascii "_")) (at + 2)

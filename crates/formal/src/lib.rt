@@ -1,0 +1,247 @@
+// A named field's name and type: `Formal.ToString`. A field named `self` may show without its type.
+ghost use Rattle.rast.specs.DeclarationToString.{isSelfOwned, isSelfBorrowed, isSelfBorrowedMut};
+ghost use Rattle.encoding.specs.Tables.{Good, nameBytes, nameCount};
+ghost use Rattle.encoding.specs.Types.{typeAt};
+ghost use Rattle.writing.specs.Written.{Readable, EndsAt};
+ghost use mathlib.Core.Path.{_≡_};
+ghost use mathlib.Core.Bool.{true, false};
+ghost use Prim.Native.Nat.{_<_};
+ghost use Rattle.rast.specs.Bytes.{ascii, same};
+ghost use Rattle.laying.specs.Passes.{Checked, Ready, Went};
+ghost use Rattle.formal.specs.Texts.{formalAt, formalOf, typedAt};
+ghost use Rattle.formal.specs.Receivers.{receiverOf, ExpandsAt, Judges, Tells};
+use encoding::WordScan;
+use laying::Place;
+use measure::Measure;
+
+// How a field named `self` shows: the name alone, behind `&` or `&mut `, or with its type.
+enum Receiver {
+    ByValue,
+    ByRef,
+    ByMut,
+    Typed,
+}
+
+// Where the type that `Expand` gives of an accepted type stands: behind every wrapper, a synonym's base being followed.
+fn expand(words: &[u32], pairs: &[u32], text: &[u8], at: usize) -> usize
+    requires { ⌜ Readable (typeAt (now words) (now pairs) (now text) at) ⌝ }
+    ensures { λ r. ⌜ ExpandsAt (typeAt (now (words .entry)) (now (pairs .entry)) (now (text .entry))) at r ⌝ }
+{
+    let mut place = at;
+    loop {
+        let w = words[place];
+        if w == 23 {
+            place = writing::skip_type(words, pairs, text, place + 1);
+        } else if w == 24 {
+            place += 2;
+        } else {
+            return place;
+        }
+    }
+}
+
+// Whether an accepted type is `Self`.
+fn is_self_type(words: &[u32], pairs: &[u32], text: &[u8], at: usize) -> bool
+    requires { ⌜ Readable (typeAt (now words) (now pairs) (now text) at) ⌝ }
+    ensures { λ r. ⌜ Judges isSelfOwned (typeAt (now (words .entry)) (now (pairs .entry)) (now (text .entry)) at) r ⌝ }
+{
+    if words[at] != 13 {
+        return false;
+    }
+    if words[at + 1] != 2 {
+        return false;
+    }
+    words[at + 2] == 0
+}
+
+// Whether an accepted type is `&Self`, or `&mut Self`.
+fn is_self_ref(words: &[u32], pairs: &[u32], text: &[u8], at: usize) -> bool
+    requires { ⌜ Readable (typeAt (now words) (now pairs) (now text) at) ⌝ }
+    ensures { λ r. ⌜ Judges isSelfBorrowed (typeAt (now (words .entry)) (now (pairs .entry)) (now (text .entry)) at) r ⌝ }
+{
+    if words[at] != 15 {
+        return false;
+    }
+    is_self_type(words, pairs, text, at + 1)
+}
+
+fn is_self_mut(words: &[u32], pairs: &[u32], text: &[u8], at: usize) -> bool
+    requires { ⌜ Readable (typeAt (now words) (now pairs) (now text) at) ⌝ }
+    ensures { λ r. ⌜ Judges isSelfBorrowedMut (typeAt (now (words .entry)) (now (pairs .entry)) (now (text .entry)) at) r ⌝ }
+{
+    if words[at] != 16 {
+        return false;
+    }
+    is_self_type(words, pairs, text, at + 1)
+}
+
+// Whether the type `_` stands at `at`, accepted or not.
+fn is_underscore(words: &[u32], pairs: &[u32], text: &[u8], at: usize) -> bool
+    requires { ⌜ Good (now pairs) (now text) ⌝ }
+    ensures { λ r. ⌜ Tells (typeAt (now (words .entry)) (now (pairs .entry)) (now (text .entry)) at) at r ⌝ }
+{
+    if words.len() <= at {
+        return false;
+    }
+    if words[at] != 12 {
+        return false;
+    }
+    match encoding::scan_below(words, encoding::name_count(pairs), at + 1) {
+        WordScan::Word { value, next: _ } => encoding::is_name(pairs, text, value, 14, b"_"),
+        WordScan::NoWord(_) => false,
+    }
+}
+
+// How a field named `self` shows, by its accepted type.
+fn self_form(words: &[u32], pairs: &[u32], text: &[u8], at: usize) -> Receiver
+    requires { ⌜ Good (now pairs) (now text) × Readable (typeAt (now words) (now pairs) (now text) at) ⌝ }
+    ensures { λ r. ⌜ Judges receiverOf (typeAt (now (words .entry)) (now (pairs .entry)) (now (text .entry)) at) r ⌝ }
+{
+    if is_self_type(words, pairs, text, expand(words, pairs, text, at)) {
+        return Receiver::ByValue;
+    }
+    if is_self_ref(words, pairs, text, at) {
+        return Receiver::ByRef;
+    }
+    if is_self_mut(words, pairs, text, at) {
+        return Receiver::ByMut;
+    }
+    if is_underscore(words, pairs, text, at) {
+        return Receiver::ByValue;
+    }
+    Receiver::Typed
+}
+
+// A name, and the type at `at` behind it.
+fn lay_with_type(
+    write: bool,
+    words: &[u32],
+    pairs: &[u32],
+    text: &[u8],
+    name: u32,
+    at: usize,
+    out: &mut [u8],
+    pos: usize,
+) -> Place
+    requires { ⌜ Checked (now words) (now pairs) (now text) × (name < nameCount (now pairs)) × Ready write (now out) pos (typedAt (now words) (now pairs) (now text) name at) ⌝ }
+    ensures { λ r. ⌜ Went write (now (out .entry)) pos (typedAt (now (words .entry)) (now (pairs .entry)) (now (text .entry)) name at) (now (out .exit)) r ⌝ }
+{
+    let p = laying::lay_known(write, pairs, text, name, out, pos);
+    let p = output::lay(write, b": ", out, p);
+    laying::lay_type(write, words, pairs, text, at, out, p)
+}
+
+// A field with another name than `self`.
+fn lay_typed(
+    write: bool,
+    words: &[u32],
+    pairs: &[u32],
+    text: &[u8],
+    name: u32,
+    at: usize,
+    out: &mut [u8],
+    pos: usize,
+) -> Place
+    requires { ⌜ Checked (now words) (now pairs) (now text) × (name < nameCount (now pairs)) × (same (nameBytes (now pairs) (now text) name) (ascii "self") ≡ false) × Ready write (now out) pos (formalOf (now words) (now pairs) (now text) name at) ⌝ }
+    ensures { λ r. ⌜ Went write (now (out .entry)) pos (formalOf (now (words .entry)) (now (pairs .entry)) (now (text .entry)) name at) (now (out .exit)) r ⌝ }
+{
+    if is_underscore(words, pairs, text, at) {
+        return Place::At {
+            next: at + 2,
+            pos: laying::lay_known(write, pairs, text, name, out, pos),
+        };
+    }
+    lay_with_type(write, words, pairs, text, name, at, out, pos)
+}
+
+// A field named `self`, whose type was accepted and ends at `end`.
+fn lay_receiver(
+    write: bool,
+    words: &[u32],
+    pairs: &[u32],
+    text: &[u8],
+    name: u32,
+    end: usize,
+    at: usize,
+    out: &mut [u8],
+    pos: usize,
+) -> Place
+    requires { ⌜ Checked (now words) (now pairs) (now text) × (name < nameCount (now pairs)) × (same (nameBytes (now pairs) (now text) name) (ascii "self") ≡ true) × EndsAt (typeAt (now words) (now pairs) (now text) at) end × Ready write (now out) pos (formalOf (now words) (now pairs) (now text) name at) ⌝ }
+    ensures { λ r. ⌜ Went write (now (out .entry)) pos (formalOf (now (words .entry)) (now (pairs .entry)) (now (text .entry)) name at) (now (out .exit)) r ⌝ }
+{
+    match self_form(words, pairs, text, at) {
+        Receiver::ByValue => Place::At {
+            next: end,
+            pos: laying::lay_known(write, pairs, text, name, out, pos),
+        },
+        Receiver::ByRef => {
+            let p = output::lay(write, b"&", out, pos);
+            Place::At {
+                next: end,
+                pos: laying::lay_known(write, pairs, text, name, out, p),
+            }
+        }
+        Receiver::ByMut => {
+            let p = output::lay(write, b"&mut ", out, pos);
+            Place::At {
+                next: end,
+                pos: laying::lay_known(write, pairs, text, name, out, p),
+            }
+        }
+        Receiver::Typed => lay_with_type(write, words, pairs, text, name, at, out, pos),
+    }
+}
+
+// A field named `self`. Its type is read before it is looked at.
+fn lay_self(
+    write: bool,
+    words: &[u32],
+    pairs: &[u32],
+    text: &[u8],
+    name: u32,
+    at: usize,
+    out: &mut [u8],
+    pos: usize,
+) -> Place
+    requires { ⌜ Checked (now words) (now pairs) (now text) × (name < nameCount (now pairs)) × (same (nameBytes (now pairs) (now text) name) (ascii "self") ≡ true) × Ready write (now out) pos (formalOf (now words) (now pairs) (now text) name at) ⌝ }
+    ensures { λ r. ⌜ Went write (now (out .entry)) pos (formalOf (now (words .entry)) (now (pairs .entry)) (now (text .entry)) name at) (now (out .exit)) r ⌝ }
+{
+    match measure::measure_type(words, pairs, text, at) {
+        Measure::Measured { next, bytes: _ } => lay_receiver(
+            write,
+            words,
+            pairs,
+            text,
+            name,
+            next,
+            at,
+            out,
+            pos,
+        ),
+        Measure::Stopped(r) => Place::Stopped(r),
+    }
+}
+
+// A field's name and type: `Formal.ToString`.
+pub fn lay_formal(
+    write: bool,
+    words: &[u32],
+    pairs: &[u32],
+    text: &[u8],
+    at: usize,
+    out: &mut [u8],
+    pos: usize,
+) -> Place
+    requires { ⌜ Checked (now words) (now pairs) (now text) × Ready write (now out) pos (formalAt (now words) (now pairs) (now text) at) ⌝ }
+    ensures { λ r. ⌜ Went write (now (out .entry)) pos (formalAt (now (words .entry)) (now (pairs .entry)) (now (text .entry)) at) (now (out .exit)) r ⌝ }
+{
+    match encoding::scan_below(words, encoding::name_count(pairs), at) {
+        WordScan::Word { value, next } => {
+            if encoding::is_name(pairs, text, value, 15, b"self") {
+                return lay_self(write, words, pairs, text, value, next, out, pos);
+            }
+            lay_typed(write, words, pairs, text, value, next, out, pos)
+        }
+        WordScan::NoWord(r) => Place::Stopped(r),
+    }
+}

@@ -1,0 +1,127 @@
+-- Laws of names, docs, types and paths: from what the code's scans say to the texts.
+use Prim.Native.Nat.{ℕ, _+_, _≤_, _<_}
+use mathlib.Core.Path.{_≡_, refl, ap, sym, _∙_, subst}
+use mathlib.Core.Bool.{Bool, true, false}
+use mathlib.Core.List.{List, []}
+use borrow.Author.Tests.{eq-eqb, ne-eqb, leb-true}
+use lib.Dec.{leb}
+use lib.ListN.{length, getD}
+use Rattle.rast.specs.Bytes.{Bytes, ascii, _and_}
+use Rattle.rast.specs.Tree.{Ty}
+use Rattle.rast.specs.ToString.{Type·ToString}
+use Rattle.rast.specs.Indent.{indent}
+use Rattle.rast.specs.Doc.{ToDocstringPrefix}
+use Rattle.rast.specs.DeclarationToString.{Visibility·ToString}
+use Rattle.output.specs.Laid.{clamp}
+use Rattle.output.proofs.Passes.{clamp-twice, laid-wrote, laid-counted}
+use Rattle.encoding.specs.declared.Refusal.{Refusal}
+use Rattle.encoding.specs.declared.WordScan.{WordScan}
+use Rattle.encoding.specs.declared.WordScan.the-variants.{Word, NoWord}
+use Rattle.encoding.specs.declared.PathAt.{PathAt}
+use Rattle.encoding.specs.declared.PathScan.{PathScan}
+use Rattle.encoding.specs.declared.PathScan.the-variants.{OwnPath, NoPath}
+use Rattle.encoding.specs.Reading.{Reading, got, stop, mapReading, readBelow}
+use Rattle.encoding.specs.Scans.{wordScan, pathScan}
+use Rattle.encoding.specs.Tables.{fixedNames, nameBytes, nameCount}
+use Rattle.encoding.specs.Heads.{readPath}
+use Rattle.encoding.specs.Declarations.{visibilityOf, readVisibility, readName}
+use Rattle.encoding.proofs.Tables.{impossible, everyBelow, every-at, name-fixed}
+use Rattle.encoding.proofs.Reading.{word-got, word-stop, path-got, path-stop}
+use Rattle.measure.specs.declared.Measure.{Measure}
+use Rattle.measure.specs.declared.Measure.the-variants.{Measured, Stopped as Refused}
+use Rattle.measure.specs.Lengths.{measureOf}
+use Rattle.writing.specs.declared.Spot.{Spot}
+use Rattle.writing.specs.Written.{Room, Written}
+use Rattle.laying.specs.declared.Place.the-variants.{At, Stopped}
+use Rattle.laying.specs.Passes.{Went, came}
+use Rattle.laying.specs.Texts.{visibilityAt, nameAt, docAt}
+use Rattle.laying.proofs.Passes.{stops-here}
+use Rattle.laying.proofs.Splits.{map-got, map-stop}
+
+-- ---- what a scan says
+
+-- a word below the number of names
+pub scanned-word : (ws : List ℕ) (bound at : ℕ) {b : ℕ} {r : WordScan} {x n : ℕ} → b ≡ bound → r ≡ wordScan (readBelow b ws at) → r ≡ Word x n → readBelow bound ws at ≡ got x n
+scanned-word ws bound at {b} q e d = ap (λ (c : ℕ). readBelow c ws at) (sym q) ∙ word-got (readBelow b ws at) e d
+
+pub scanned-none : (ws : List ℕ) (bound at : ℕ) {b : ℕ} {r : WordScan} {k : Refusal} → b ≡ bound → r ≡ wordScan (readBelow b ws at) → r ≡ NoWord k → readBelow bound ws at ≡ stop k
+scanned-none ws bound at {b} q e d = ap (λ (c : ℕ). readBelow c ws at) (sym q) ∙ word-stop (readBelow b ws at) e d
+
+pub scanned-path : (ws : List ℕ) (bound at : ℕ) {b : ℕ} {r : PathScan} {x : PathAt} {n : ℕ} → b ≡ bound → r ≡ pathScan (readPath b ws at) → r ≡ OwnPath x n → readPath bound ws at ≡ got x n
+scanned-path ws bound at {b} q e d = ap (λ (c : ℕ). readPath c ws at) (sym q) ∙ path-got (readPath b ws at) e d
+
+pub scanned-no-path : (ws : List ℕ) (bound at : ℕ) {b : ℕ} {r : PathScan} {k : Refusal} → b ≡ bound → r ≡ pathScan (readPath b ws at) → r ≡ NoPath k → readPath bound ws at ≡ stop k
+scanned-no-path ws bound at {b} q e d = ap (λ (c : ℕ). readPath c ws at) (sym q) ∙ path-stop (readPath b ws at) e d
+
+-- ---- names and docs
+
+module _ (ws pairs : List ℕ) (text : Bytes) (at : ℕ) where
+  pub name-got : {x n : ℕ} → readBelow (nameCount pairs) ws at ≡ got x n → nameAt ws pairs text at ≡ got (nameBytes pairs text x) n
+  unfolding readName
+  name-got e = rw e
+
+  pub name-stop : {k : Refusal} → readBelow (nameCount pairs) ws at ≡ stop k → nameAt ws pairs text at ≡ stop k
+  unfolding readName
+  name-stop e = rw e
+
+  pub doc-got : (level : ℕ) {x n : ℕ} → readBelow (nameCount pairs) ws at ≡ got x n → docAt ws pairs text level at ≡ got (ToDocstringPrefix (nameBytes pairs text x) (indent level)) n
+  doc-got level e = map-got (λ d. ToDocstringPrefix d (indent level)) (name-got e)
+
+  pub doc-stop : (level : ℕ) {k : Refusal} → readBelow (nameCount pairs) ws at ≡ stop k → docAt ws pairs text level at ≡ stop k
+  doc-stop level e = map-stop (λ d. ToDocstringPrefix d (indent level)) (name-stop e)
+
+-- no fixed name has more than 16 bytes
+pub fixed-short : (pairs text : List ℕ) (x : ℕ) → x < 16 → length (nameBytes pairs text x) ≤ 16
+unfolding everyBelow fixedNames ascii _and_
+fixed-short pairs text x h =
+    rw (name-fixed pairs text x h)
+    (leb-true (length (getD fixedNames x [])) 16 (every-at (λ i. leb (length (getD fixedNames i [])) 16) 16 refl x h))
+
+-- ---- visibility
+
+module _ (ws : List ℕ) (at : ℕ) where
+  pub visibility-pub : {v n : ℕ} → readBelow 2 ws at ≡ got v n → v ≡ 0 → visibilityAt ws at ≡ got (ascii "pub ") n
+  unfolding mapReading readVisibility visibilityOf Visibility·ToString
+  visibility-pub {v} e z = rw (e, eq-eqb v 0 z)
+
+  pub visibility-priv : {v n : ℕ} → readBelow 2 ws at ≡ got v n → (v ≡ 0 → ⊥) → visibilityAt ws at ≡ got [] n
+  unfolding mapReading readVisibility visibilityOf Visibility·ToString ascii
+  visibility-priv {v} e z = rw (e, ne-eqb v 0 z)
+
+  pub visibility-stop : {k : Refusal} → readBelow 2 ws at ≡ stop k → visibilityAt ws at ≡ stop k
+  unfolding mapReading readVisibility
+  visibility-stop e = rw e
+
+-- ---- types
+
+pub room-type : {o : List ℕ} {p : ℕ} (x : Reading (Ty Bytes)) → Room o p (λ b. b) (mapReading Type·ToString x) → Room o p Type·ToString x
+unfolding mapReading
+room-type {o} {p} (got t n) m =
+    let v : m .value ≡ Type·ToString t = cc (m .reads) in
+    record { value = t; end = n; reads = refl; room = subst (λ (z : Bytes). p + length z ≤ length o) v (m .room) }
+room-type (stop k) m = impossible (let e = m .reads in cc)
+
+module _ {write : Bool} {o : List ℕ} {p : ℕ} (x : Reading (Ty Bytes)) where
+  pub went-written : {o′ : List ℕ} (s : Spot) → write ≡ true → Written o p Type·ToString x o′ s → Went write o p (mapReading Type·ToString x) o′ (At (s .next) (s .pos))
+  went-written s e w = came (record { bytes = Type·ToString (w .value); reads = map-got Type·ToString (w .reads); laid = laid-wrote e (w .wrote) })
+
+  pub went-measured : {r : Measure} {n b p′ : ℕ} → write ≡ false → r ≡ measureOf x → r ≡ Measured n b → p′ ≡ clamp (p + b) → Went write o p (mapReading Type·ToString x) o (At n p′)
+  went-measured {r} {n} {b} {p′} w e d c = go x e
+    where
+      go : (y : Reading (Ty Bytes)) → r ≡ measureOf y → Went write o p (mapReading Type·ToString y) o (At n p′)
+      go (got t m) f =
+          let q : m ≡ n = cc in
+          let l : b ≡ length (Type·ToString t) = cc in
+          came (record {
+            bytes = Type·ToString t;
+            reads = map-got Type·ToString (ap (got t) q);
+            laid = laid-counted w (ap clamp c ∙ clamp-twice (p + b) ∙ ap (λ (z : ℕ). clamp (p + z)) l);
+          })
+      go (stop k) f = impossible (cc)
+
+  pub went-refused : {r : Measure} {k : Refusal} → r ≡ measureOf x → r ≡ Refused k → Went write o p (mapReading Type·ToString x) o (Stopped k)
+  went-refused {r} {k} e d = go x e
+    where
+      go : (y : Reading (Ty Bytes)) → r ≡ measureOf y → Went write o p (mapReading Type·ToString y) o (Stopped k)
+      go (got t m) f = impossible (cc)
+      go (stop j) f = let q : j ≡ k = cc in stops-here (map-stop Type·ToString (ap stop q))

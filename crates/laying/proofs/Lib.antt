@@ -1,0 +1,4 @@
+-- Laws of passes: one text behind the other, and the texts of things from those of their parts.
+pub mod Passes
+pub mod Splits
+pub mod Leaves

@@ -1,0 +1,223 @@
+-- Laws of a pass: one text behind the other.
+use Prim.Native.Nat.{ℕ, zero, suc, _+_, _-_, _≤_, _<_}
+use mathlib.Core.Path.{_≡_, refl, ap, sym, _∙_, subst}
+use mathlib.Core.Bool.{Bool, true, false}
+use mathlib.Core.List.{List, [], _++_}
+use native.Mathlib.Omega.{arith}
+use native.Mathlib.Numerals.{sub-one}
+use lib.ListN.{length, length-append}
+use Rattle.rast.specs.Bytes.{Bytes}
+use Rattle.output.specs.Laid.{Laid, Fits}
+use Rattle.output.proofs.Laws.{wrote-kept}
+use Rattle.output.proofs.Passes.{laid-nothing, laid-then}
+use Rattle.encoding.specs.declared.Refusal.{Refusal}
+use Rattle.encoding.specs.Reading.{Reading, got, stop}
+use Rattle.encoding.proofs.Tables.{impossible}
+use Rattle.encoding.proofs.Types.{bind-got}
+use Rattle.writing.specs.Written.{Room}
+use Rattle.laying.specs.declared.Place.{Place}
+use Rattle.laying.specs.declared.Place.the-variants.{At, Stopped}
+use Rattle.laying.specs.Passes.{Chain, last, _then_, run, listed, Ready, Came, Went, came, stopped}
+
+-- ---- from an answer to what it says
+
+module _ {write : Bool} {o : List ℕ} {p : ℕ} {x : Reading Bytes} {o′ : List ℕ} where
+  pub came-to : {r : Place} {n q : ℕ} → Went write o p x o′ r → r ≡ At n q → Came write o p x o′ n q
+  came-to {n = n} {q = q} (came {n = m} {p′ = p′} c) e =
+      let a : m ≡ n = cc in
+      let b : p′ ≡ q = cc in
+      record { bytes = c .bytes; reads = c .reads ∙ ap (got (c .bytes)) a; laid = subst (λ (z : ℕ). Laid write o p (c .bytes) o′ z) b (c .laid) }
+  came-to (stopped d k) e = impossible (cc)
+
+  pub was-stopped : {r : Place} {k : Refusal} → Went write o p x o′ r → r ≡ Stopped k → (x ≡ stop k) × (write ≡ false → o′ ≡ o)
+  was-stopped (came c) e = impossible (cc)
+  was-stopped {k = k} (stopped {k = m} d h) e = let a : m ≡ k = cc in (d ∙ ap stop a, h)
+
+-- ---- the same text, said in another way
+
+pub ready-as : {write : Bool} {o : List ℕ} {p : ℕ} {x y : Reading Bytes} → x ≡ y → Ready write o p x → Ready write o p y
+ready-as {write} {o} {p} e r = subst (λ (z : Reading Bytes). Ready write o p z) e r
+
+pub went-as : {write : Bool} {o o′ : List ℕ} {p : ℕ} {x y : Reading Bytes} {r : Place} → x ≡ y → Went write o p x o′ r → Went write o p y o′ r
+went-as {write} {o} {o′} {p} {r = r} e w = subst (λ (z : Reading Bytes). Went write o p z o′ r) e w
+
+-- ---- a text of known bytes
+
+module _ {write : Bool} where
+  pub ready-bytes : {o : List ℕ} {p n : ℕ} {b : Bytes} → Ready write o p (got b n) → Fits write o p b
+  ready-bytes {o} {p} {n} {b} r = record { room = λ e. go (r .room e) }
+    where
+      go : Room o p (λ c. c) (got b n) → p + length b ≤ length o
+      go m = let v : m .value ≡ b = cc (m .reads) in subst (λ (z : Bytes). p + length z ≤ length o) v (m .room)
+
+  pub came-bytes : {o o′ : List ℕ} {p p′ : ℕ} {b : Bytes} (n : ℕ) → Laid write o p b o′ p′ → Came write o p (got b n) o′ n p′
+  came-bytes {b = b} n l = record { bytes = b; reads = refl; laid = l }
+
+  pub came-nothing : {o : List ℕ} {p : ℕ} (n : ℕ) → Came write o p (got [] n) o n p
+  came-nothing {o} {p} n = came-bytes n (laid-nothing o p)
+
+  pub stops-here : {o : List ℕ} {p : ℕ} {x : Reading Bytes} {k : Refusal} → x ≡ stop k → Went write o p x o (Stopped k)
+  stops-here e = stopped e (λ d. refl)
+
+-- ---- chains
+
+-- a text is that of a chain
+pub record Runs (x : Reading Bytes) (c : Chain) : Type 0 where
+  pub same : x ≡ run c
+
+-- what `Ready` and `Went` say, of a chain
+pub record ReadyChain (write : Bool) (o : List ℕ) (p : ℕ) (c : Chain) : Type 0 where
+  pub ready : Ready write o p (run c)
+
+pub record WentChain (write : Bool) (o : List ℕ) (p : ℕ) (c : Chain) (o′ : List ℕ) (r : Place) : Type 0 where
+  pub went : Went write o p (run c) o′ r
+
+-- a text and the next, and what the two come to
+record Both (x : Reading Bytes) (k : ℕ → Chain) (v : Bytes) (end : ℕ) : Type 0 where
+  pub first : Bytes
+  pub middle : ℕ
+  pub second : Bytes
+  pub reads : x ≡ got first middle
+  pub reads₂ : run (k middle) ≡ got second end
+  pub size : length v ≡ length first + length second
+
+both-got : (x : Reading Bytes) (k : ℕ → Chain) {v : Bytes} {end : ℕ} → run (x then k) ≡ got v end → Both x k v end
+unfolding run
+both-got x k {v} {end} e =
+    let t = bind-got x _ e in
+    let u = bind-got (run (k (t .end))) _ (t .rest) in
+    let q : u .end ≡ end = cc (u .rest) in
+    let w : v ≡ t .value ++ u .value = cc (u .rest) in
+    record {
+      first = t .value;
+      middle = t .end;
+      second = u .value;
+      reads = t .first;
+      reads₂ = u .first ∙ ap (got (u .value)) q;
+      size = ap length w ∙ length-append (t .value) (u .value);
+    }
+
+then-got : (x : Reading Bytes) (k : ℕ → Chain) {b c : Bytes} {n m : ℕ} → x ≡ got b n → run (k n) ≡ got c m → run (x then k) ≡ got (b ++ c) m
+unfolding run
+then-got x k e d = rw (e, d)
+
+then-first : (x : Reading Bytes) (k : ℕ → Chain) {r : Refusal} → x ≡ stop r → run (x then k) ≡ stop r
+unfolding run
+then-first x k e = rw e
+
+then-second : (x : Reading Bytes) (k : ℕ → Chain) {b : Bytes} {n : ℕ} {r : Refusal} → x ≡ got b n → run (k n) ≡ stop r → run (x then k) ≡ stop r
+unfolding run
+then-second x k e d = rw (e, d)
+
+module _ {write : Bool} {o : List ℕ} {p : ℕ} where
+  pub ready-runs : {x : Reading Bytes} {c : Chain} → Runs x c → Ready write o p x → ReadyChain write o p c
+  ready-runs e r = record { ready = ready-as (e .same) r }
+
+  pub went-runs : {x : Reading Bytes} {c : Chain} {o′ : List ℕ} {r : Place} → Runs x c → WentChain write o p c o′ r → Went write o p x o′ r
+  went-runs e w = went-as (sym (e .same)) (w .went)
+
+  pub ready-last : {x : Reading Bytes} → ReadyChain write o p (last x) → Ready write o p x
+  unfolding run
+  ready-last r = r .ready
+
+  pub went-last : {x : Reading Bytes} {o′ : List ℕ} {r : Place} → Went write o p x o′ r → WentChain write o p (last x) o′ r
+  unfolding run
+  went-last w = record { went = w }
+
+  pub ready-first : {x : Reading Bytes} {k : ℕ → Chain} → ReadyChain write o p (x then k) → Ready write o p x
+  ready-first {x} {k} r = record { room = λ e. go (r .ready .room e) }
+    where
+      go : Room o p (λ b. b) (run (x then k)) → Room o p (λ b. b) x
+      go m =
+          let b = both-got x k (m .reads) in
+          record { value = b .first; end = b .middle; reads = b .reads; room = omega (arith, m .room, b .size) }
+
+  pub ready-next : {x : Reading Bytes} {k : ℕ → Chain} {o′ : List ℕ} {n p′ : ℕ} → ReadyChain write o p (x then k) → Came write o p x o′ n p′ → ReadyChain write o′ p′ (k n)
+  ready-next {x} {k} {o′} {n} {p′} r c = record { ready = record { room = λ e. go e (r .ready .room e) } }
+    where
+      go : write ≡ true → Room o p (λ b. b) (run (x then k)) → Room o′ p′ (λ b. b) (run (k n))
+      go e m =
+          let b = both-got x k (m .reads) in
+          let w = c .laid .wrote e in
+          let q : b .middle ≡ n = cc (b .reads, c .reads) in
+          let v : b .first ≡ c .bytes = cc (b .reads, c .reads) in
+          let f : length (b .first) ≡ length (c .bytes) = ap length v in
+          record {
+            value = b .second;
+            end = m .end;
+            reads = ap (λ (z : ℕ). run (k z)) (sym q) ∙ b .reads₂;
+            room = omega (arith, m .room, b .size, f, w .next, wrote-kept w);
+          }
+
+  pub went-then : {x : Reading Bytes} {k : ℕ → Chain} {o′ o″ : List ℕ} {n p′ : ℕ} {r : Place} → Came write o p x o′ n p′ → WentChain write o′ p′ (k n) o″ r → WentChain write o p (x then k) o″ r
+  went-then {x} {k} {o′} {o″} {n} {p′} c w = record { went = go (w .went) }
+    where
+      go : {r : Place} → Went write o′ p′ (run (k n)) o″ r → Went write o p (run (x then k)) o″ r
+      go (came d) = came (record { bytes = c .bytes ++ d .bytes; reads = then-got x k (c .reads) (d .reads); laid = laid-then (c .laid) (d .laid) })
+      go (stopped e h) = stopped (then-second x k (c .reads) e) (λ d. h d ∙ c .laid .counted d .kept)
+
+  pub stops-then : {x : Reading Bytes} {k : ℕ → Chain} {o′ : List ℕ} {r : Place} {e : Refusal} → Went write o p x o′ r → r ≡ Stopped e → WentChain write o p (x then k) o′ r
+  stops-then {x} {k} {o′} {r} {e} w d =
+      let s = was-stopped w d in
+      record { went = subst (λ (z : Place). Went write o p (run (x then k)) o′ z) (sym d) (stopped (then-first x k (s .0)) (s .1)) }
+
+-- ---- lists
+
+module _ (item : ℕ → Reading Bytes) (separator : Bytes) where
+  -- the last of a list, and one before the last
+  listed-last : (n p : ℕ) → n ≡ 1 → listed item separator n p ≡ item p
+  unfolding listed
+  listed-last n p e = rw e
+
+  listed-more : (n p : ℕ) → 1 < n → Runs (listed item separator n p) (item p then λ q. got separator q then λ r. last (listed item separator (n - 1) r))
+  unfolding listed
+  listed-more zero p h = absurd (let z : ⊥ = omega arith in z)
+  listed-more (suc zero) p h = absurd (let z : ⊥ = omega arith in z)
+  listed-more (suc (suc n)) p h = record { same = rw (sub-one (suc (suc n))) }
+
+  -- a list stops where its first stops
+  listed-stop : (n p : ℕ) {k : Refusal} → 0 < n → item p ≡ stop k → listed item separator n p ≡ stop k
+  unfolding listed
+  listed-stop zero p h e = absurd (let z : ⊥ = omega arith in z)
+  listed-stop (suc zero) p h e = e
+  listed-stop (suc (suc n)) p h e = then-first (item p) (λ q. got separator q then λ r. last (listed item separator (suc n) r)) e
+
+  ready-item : {write : Bool} {o : List ℕ} {p : ℕ} (n at : ℕ) → 0 < n → Ready write o p (listed item separator n at) → Ready write o p (item at)
+  unfolding listed
+  ready-item zero at h r = absurd (let z : ⊥ = omega arith in z)
+  ready-item (suc zero) at h r = r
+  ready-item (suc (suc n)) at h r = ready-first (ready-runs (listed-more (suc (suc n)) at (omega arith)) r)
+
+-- how a loop over a list has come so far: what is left of it is the whole's end
+pub record Along (write : Bool) (o : List ℕ) (p : ℕ) (whole : Reading Bytes) (o′ : List ℕ) (p′ : ℕ) (left : Reading Bytes) : Type 0 where
+  pub ready : Ready write o′ p′ left
+  pub ends : (o″ : List ℕ) (r : Place) → Went write o′ p′ left o″ r → Went write o p whole o″ r
+
+pub along-start : {write : Bool} {o : List ℕ} {p : ℕ} {x : Reading Bytes} → Ready write o p x → Along write o p x o p x
+along-start r = record { ready = r; ends = λ o″ r w. w }
+
+module _ {write : Bool} {o : List ℕ} {p : ℕ} {whole : Reading Bytes} {o₁ : List ℕ} {p₁ : ℕ} (item : ℕ → Reading Bytes) (separator : Bytes) (left at : ℕ)
+    (a : Along write o p whole o₁ p₁ (listed item separator left at)) where
+  pub along-item : 0 < left → Ready write o₁ p₁ (item at)
+  along-item h = ready-item item separator left at h (a .ready)
+
+  pub along-stop : {o₂ : List ℕ} {r : Place} {k : Refusal} → 0 < left → Went write o₁ p₁ (item at) o₂ r → r ≡ Stopped k → Went write o p whole o₂ r
+  along-stop {o₂} {r} h w e =
+      let s = was-stopped w e in
+      a .ends o₂ r (subst (λ (z : Place). Went write o₁ p₁ (listed item separator left at) o₂ z) (sym e) (stopped (listed-stop item separator left at h (s .0)) (s .1)))
+
+  pub along-last : {o₂ : List ℕ} {r : Place} → left ≡ 1 → Went write o₁ p₁ (item at) o₂ r → Went write o p whole o₂ r
+  along-last {o₂} {r} e w = a .ends o₂ r (went-as (sym (listed-last item separator left at e)) w)
+
+  module _ {o₂ : List ℕ} {n p₂ : ℕ} (h : 1 < left) (c : Came write o₁ p₁ (item at) o₂ n p₂) where
+    more : ReadyChain write o₂ p₂ (got separator n then λ r. last (listed item separator (left - 1) r))
+    more = ready-next (ready-runs (listed-more item separator left at h) (a .ready)) c
+
+    pub along-gap : Fits write o₂ p₂ separator
+    along-gap = ready-bytes (ready-first more)
+
+    pub along-next : {o₃ : List ℕ} {p₃ : ℕ} → Laid write o₂ p₂ separator o₃ p₃ → Along write o p whole o₃ p₃ (listed item separator (left - 1) n)
+    along-next {o₃} {p₃} l = record {
+      ready = ready-last (ready-next more (came-bytes n l));
+      ends = λ o″ r w. a .ends o″ r (went-runs (listed-more item separator left at h) (went-then c (went-then (came-bytes n l) (went-last w))));
+    }

@@ -1,0 +1,38 @@
+use Prim.Native.Nat.{_+_, ℕ}
+use Rattle.encoding.proofs.Tables.{name-length}
+use Rattle.output.proofs.Passes.{clamp-twice, laid-counted, laid-wrote}
+use Rattle.output.specs.Laid.{clamp}
+use Rattle.rast.proofs.Parser.{name}
+use mathlib.Core.Path.{_∙_, ap, sym}
+use borrow.Author.Needs.{needs}
+use Rattle.laying.proofs.lay_known.Statement.{statement}
+use Rattle.laying.proofs.lay_known.Tie as tie
+
+put-name-requires : tie.Need-put-name-requires
+put-name-requires c κs = (c .before .before .before .before .before .pre .0, c .before .before .before .before .before .pre .1, c .before .before .before .before .before .pre .2 .room (c .before .if1 .taken))
+
+same-length : tie.Need-same-length
+same-length c = search needs
+
+returns : tie.Need-returns
+returns c = laid-wrote (c .before .before .before .before .if1 .taken) (c .before .before .put-name .ensures)
+
+name-length-requires : tie.Need-name-length-requires
+name-length-requires c κs = c .before .before .before .before .pre .0
+
+count-on-requires : tie.Need-count-on-requires
+count-on-requires c κs = search needs
+
+returns-2 : tie.Need-returns-2
+returns-2 c = laid-counted (c .before .before .if1 .left) (ap clamp (c .count-on .ensures) ∙ clamp-twice _ ∙ ap (λ (n : ℕ). clamp (c .before .before .before .before .before .before .args .pos + n)) (c .before .name-length .ensures ∙ sym (name-length (c .before .before .before .before .before .before .args .pairs .now) (c .before .before .before .before .before .before .args .text .now) (c .before .before .before .before .before .before .args .name) (c .before .before .before .before .before .before .pre .1) (c .before .before .before .before .before .before .pre .0))))
+
+pub lay-known-spec : {M : Type 1} → statement M
+lay-known-spec =
+    tie.close
+    (tie.spec
+    put-name-requires
+    same-length
+    returns
+    name-length-requires
+    count-on-requires
+    returns-2)

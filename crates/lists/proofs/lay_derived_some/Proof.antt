@@ -1,0 +1,74 @@
+use Rattle.laying.proofs.Passes.{came-bytes, came-to, ready-bytes, ready-first, ready-last, ready-next, stops-then, went-last, went-then}
+use Rattle.laying.specs.Passes.{came}
+use Rattle.lists.proofs.Lists.{derived-chain, derived-went}
+use Rattle.rast.specs.Bytes.{ascii}
+use borrow.Author.Needs.{needs}
+use Rattle.lists.proofs.lay_derived_some.Statement.{statement}
+use Rattle.lists.proofs.lay_derived_some.Tie as tie
+
+slice-aggregate-lay : tie.Need-slice-aggregate-lay
+slice-aggregate-lay c = search needs
+
+lay-requires : tie.Need-lay-requires
+unfolding ascii
+lay-requires c κs =
+    let start = c .before .before .before .before .before .before in
+    ready-bytes (ready-first (derived-chain (start .args .words .now) (start .args .pairs .now) (start .args .text .now) (start .args .n) (start .args .at) (start .pre .2)))
+
+lay-leaves-requires : tie.Need-lay-leaves-requires
+unfolding ascii
+lay-leaves-requires c κs =
+    let start = c .before .before .before .before .before .before .before .before .before .before in
+    let r = derived-chain (start .args .words .now) (start .args .pairs .now) (start .args .text .now) (start .args .n) (start .args .at) (start .pre .2) in
+    (start .pre .0, start .pre .1, ready-first (ready-next r (came-bytes _ (c .before .before .before .lay .ensures))))
+
+enum-known-list : tie.Need-enum-known-list
+enum-known-list c = search needs
+
+enum-told : tie.Need-enum-told
+enum-told c = search needs
+
+same-length : tie.Need-same-length
+same-length c = search needs
+
+returns : tie.Need-returns
+unfolding ascii
+returns c =
+    let start = c .before .before .before .before .before .before .before .before .before .before .before .before .before .before .before in
+    derived-went (start .args .words .now) (start .args .pairs .now) (start .args .text .now) (start .args .n) (start .args .at) (went-then (came-bytes _ (c .before .before .before .before .before .before .before .before .lay .ensures)) (stops-then (c .before .before .before .before .lay-leaves .ensures) (c .enum-told .given .1)))
+
+slice-aggregate-lay-2 : tie.Need-slice-aggregate-lay-2
+slice-aggregate-lay-2 c = search needs
+
+lay-requires-2 : tie.Need-lay-requires-2
+unfolding ascii
+lay-requires-2 c κs =
+    let start = c .before .before .before .before .before .before .before .before .before .before .before .before .before .before .before .before .before .before in
+    let r = derived-chain (start .args .words .now) (start .args .pairs .now) (start .args .text .now) (start .args .n) (start .args .at) (start .pre .2) in
+    ready-bytes (ready-last (ready-next (ready-next r (came-bytes _ (c .before .before .before .before .before .before .before .before .before .before .before .lay .ensures))) (came-to (c .before .before .before .before .before .before .before .lay-leaves .ensures) (c .before .before .before .list .given .1))))
+
+same-length-2 : tie.Need-same-length-2
+same-length-2 c = search needs
+
+returns-2 : tie.Need-returns-2
+unfolding ascii
+returns-2 c =
+    let start = c .before .before .before .before .before .before .before .before .before .before .before .before .before .before .before .before .before .before .before .before .before in
+    derived-went (start .args .words .now) (start .args .pairs .now) (start .args .text .now) (start .args .n) (start .args .at)
+    (went-then (came-bytes _ (c .before .before .before .before .before .before .before .before .before .before .before .before .before .before .lay .ensures)) (went-then (came-to (c .before .before .before .before .before .before .before .before .before .before .lay-leaves .ensures) (c .before .before .before .before .before .before .list .given .1)) (went-last (came (came-bytes _ (c .before .before .lay2 .ensures))))))
+
+pub lay-derived-some-spec : {M : Type 1} → statement M
+lay-derived-some-spec =
+    tie.close
+    (tie.spec
+    slice-aggregate-lay
+    lay-requires
+    lay-leaves-requires
+    enum-known-list
+    enum-told
+    same-length
+    returns
+    slice-aggregate-lay-2
+    lay-requires-2
+    same-length-2
+    returns-2)

@@ -1,2 +1,0 @@
--- Laws of lists that the proofs share.
-pub mod Fronts

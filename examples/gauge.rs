@@ -1,0 +1,5 @@
+/// Offset in mm.
+pub struct Gauge {
+    pub mm: i32,
+    id: &u8
+}
