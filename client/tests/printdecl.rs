@@ -345,3 +345,56 @@ fn input_in_parts() {
     });
     check_output("in parts", &largest, &output);
 }
+
+/// A directory can be opened and not read.
+#[test]
+fn a_read_error_prints_nothing() {
+    let directory = File::open(env!("CARGO_MANIFEST_DIR")).expect("this folder");
+    let output = Command::new(program())
+        .stdin(directory)
+        .output()
+        .expect("printdecl starts");
+    assert_eq!(output.stdout, b"");
+    assert_ne!(output.stderr, b"", "the failure must be told");
+}
+
+/// A device that takes nothing.
+#[test]
+fn a_write_error_is_told() {
+    let file = File::open(in_repository("examples/gauge.bin")).expect("the example");
+    let full = File::options()
+        .write(true)
+        .open("/dev/full")
+        .expect("/dev/full");
+    let output = Command::new(program())
+        .stdin(file)
+        .stdout(full)
+        .output()
+        .expect("printdecl starts");
+    assert_ne!(output.stderr, b"", "the failure must be told");
+}
+
+/// The script gives both as a status, and a refusal as an answer.
+#[test]
+fn the_script_has_a_status() {
+    let script = |input: File, output: Stdio| {
+        Command::new(in_repository("printdecl"))
+            .stdin(input)
+            .stdout(output)
+            .stderr(Stdio::null())
+            .status()
+            .expect("the script starts")
+            .code()
+    };
+    let example = || File::open(in_repository("examples/gauge.bin")).expect("the example");
+    let directory = File::open(env!("CARGO_MANIFEST_DIR")).expect("this folder");
+    let full = File::options()
+        .write(true)
+        .open("/dev/full")
+        .expect("/dev/full");
+    let empty = File::open("/dev/null").expect("/dev/null");
+    assert_eq!(script(example(), Stdio::null()), Some(0));
+    assert_eq!(script(empty, Stdio::null()), Some(0), "refused 9");
+    assert_eq!(script(directory, Stdio::null()), Some(1));
+    assert_eq!(script(example(), full.into()), Some(1));
+}
