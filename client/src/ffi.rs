@@ -5,6 +5,9 @@
 
 use crate::Encoding;
 
+pub(crate) mod rebuild;
+pub(crate) mod walks;
+
 extern "C" {
     fn tillercoral_type_text(
         words: *const u32,

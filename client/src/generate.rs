@@ -5,8 +5,12 @@ use crate::reference::{is_sound_name, is_sound_size, FIXED_NAMES};
 use crate::EncodingBuf;
 
 pub use declaration::{random_declaration, random_doc};
+pub use rules::{damage_rules, random_rules, respelled};
+pub use shapes::random_shaped_type;
 
 mod declaration;
+mod rules;
+mod shapes;
 
 /// A xorshift generator: small, and good enough to choose test data with.
 pub struct Random(u64);

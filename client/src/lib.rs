@@ -25,12 +25,18 @@
 #![deny(unsafe_code)]
 #![warn(missing_docs)]
 
+#[doc(hidden)]
+pub mod cases;
 mod encode;
 #[allow(unsafe_code)]
 mod ffi;
+mod part;
+mod rebuild;
 mod refusal;
+mod shape;
 pub mod source;
 pub mod tree;
+mod visit;
 
 #[doc(hidden)]
 pub mod generate;
@@ -40,7 +46,20 @@ pub mod reference;
 pub mod tuned;
 
 pub use encode::EncodingBuf;
+pub use part::{
+    box_dyn_underlying, box_underlying, expand, extract_maybe_placebo,
+    extract_maybe_uninit_array_element, get_builtin_collection_element, multi_array_underlying,
+    object_or_pointer_underlying, rc_underlying, remove_synonyms, to_owned,
+};
+pub use rebuild::{declaration_rebuild, type_at_initialization, type_rebuild};
 pub use refusal::Refusal;
+pub use shape::{
+    can_read_without_clone, ends_with_name_that_can_accept_generics, is_auto_size, is_box,
+    is_box_dyn, is_builtin_collection, is_maybe_uninit, is_multi_array, is_object,
+    is_object_or_pointer, is_pointer, is_rc, is_rc_or_borrowed_rc, is_uninit_array,
+    needs_as_ref_for_borrow,
+};
+pub use visit::{declaration_visit, type_visit};
 
 /// A tree and the names it uses.
 ///
@@ -146,7 +165,12 @@ pub fn declaration_text(
 /// assert_eq!(type_is_sound(&borrowed_sum), Ok(false));
 /// ```
 pub fn type_is_sound(encoding: &Encoding<'_>) -> Result<bool, Refusal> {
-    answer(ffi::type_is_sound(encoding)).map(|yes| match yes {
+    yes_or_no(ffi::type_is_sound(encoding))
+}
+
+/// Takes the answer to a question apart.
+fn yes_or_no(number: u64) -> Result<bool, Refusal> {
+    answer(number).map(|yes| match yes {
         0 => false,
         1 => true,
         other => unreachable!("the library answers 0 or 1, not {other}"),

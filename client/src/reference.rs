@@ -40,10 +40,22 @@ pub use crate::tree::{Name, Path, Root, Type};
 pub use declaration::{declaration_text, read_declaration};
 pub use doc::convert_docstring;
 pub use file::printdecl;
+pub use part::{Part, PARTS};
+pub use rebuild::{
+    declaration_rebuild, initialization_words, rebuilt_declaration, rebuilt_type,
+    type_at_initialization, type_rebuild, types_of_declaration, types_of_type, Rebuilt,
+};
+pub use shape::{Shape, SHAPES};
+pub use visit::{declaration_visit, type_visit};
 
 mod declaration;
 mod doc;
 mod file;
+mod part;
+mod places;
+mod rebuild;
+mod shape;
+mod visit;
 
 // The calls for types and paths over buffers.
 

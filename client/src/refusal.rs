@@ -25,15 +25,16 @@ pub enum Refusal {
     BadPair,
     /// 3: a word is wanted and none is left.
     EndsEarly,
-    /// 4: a word is none of those allowed at its place.
+    /// 4: a word is none of those allowed at its place; more than 32 rules are not allowed either.
     UnknownWord,
-    /// 5: a type begins at depth 65.
+    /// 5: a type begins at depth 65, or would in a rebuilt tree.
     TooDeep,
-    /// 6: words remain after the tree.
+    /// 6: words remain after the tree or after the rules.
     LeftOver,
     /// 7: the type lacks the shape asked for.
     NoSuchPart,
-    /// 8: the buffer is too short for the result.
+    /// 8: the buffer is too short for the result, or for what there is before it of a rebuilt tree.
+    /// 8,192 words are the most in any case.
     BufferTooShort,
     /// 9: a file is shorter than its header, or of another length than the header says.
     BadFileLength,

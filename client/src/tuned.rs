@@ -8,9 +8,17 @@
 use crate::{Encoding, Refusal};
 
 pub use declaration::declaration_text;
+pub use rebuild::{declaration_rebuild, type_rebuild};
+pub use walks::{
+    can_read_without_clone, declaration_visit, expand, is_object_or_pointer, is_rc,
+    object_or_pointer_underlying, type_visit,
+};
 
+mod check;
 mod declaration;
 mod doc;
+mod rebuild;
+mod walks;
 
 const FIXED_COUNT: u32 = 16;
 const DEPTH_LIMIT: usize = 64;

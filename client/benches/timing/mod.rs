@@ -1,5 +1,8 @@
 //! What the benchmarks have in common: cases, checks and tables.
 
+// Each benchmark takes what it needs.
+#![allow(dead_code)]
+
 use std::hint::black_box;
 use std::time::{Duration, Instant};
 
@@ -15,7 +18,7 @@ pub struct Kind {
     pub text_of: fn(&EncodingBuf, u32) -> Vec<u8>,
 }
 
-const ROUNDS: usize = 40;
+pub const ROUNDS: usize = 40;
 /// Long against the clock's own steps, short against being interrupted.
 const ROUND_TIME: Duration = Duration::from_millis(3);
 
@@ -26,7 +29,7 @@ pub fn timed() -> bool {
 }
 
 /// Whether this is among what the arguments ask for; without any, everything is.
-fn is_asked_for(name: &str) -> bool {
+pub fn is_asked_for(name: &str) -> bool {
     let mut asked = std::env::args()
         .skip(1)
         .filter(|argument| !argument.starts_with('-'))
@@ -105,19 +108,25 @@ impl<'a> Case<'a> {
             start.elapsed()
         };
         let calls = self.kind.calls;
-        let repeats = calls.map(|call| {
-            let once = run(call, 3).max(Duration::from_nanos(30)) / 3;
-            (ROUND_TIME.as_nanos() / once.as_nanos()).clamp(1, 1_000_000) as u32
-        });
-        let mut best = [f64::MAX; 3];
-        for _ in 0..ROUNDS {
-            for (which, call) in calls.into_iter().enumerate() {
-                let time = run(call, repeats[which]).as_nanos() as f64 / f64::from(repeats[which]);
-                best[which] = best[which].min(time);
-            }
-        }
-        best
+        best_times(|which, repeats| run(calls[which], repeats))
     }
+}
+
+/// Nanoseconds of one run of each of some versions: the best of interleaved rounds. `run` runs the
+/// version with this index so many times.
+pub fn best_times<const N: usize>(mut run: impl FnMut(usize, u32) -> Duration) -> [f64; N] {
+    let repeats: [u32; N] = std::array::from_fn(|which| {
+        let once = run(which, 3).max(Duration::from_nanos(30)) / 3;
+        (ROUND_TIME.as_nanos() / once.as_nanos()).clamp(1, 1_000_000) as u32
+    });
+    let mut best = [f64::MAX; N];
+    for _ in 0..ROUNDS {
+        for which in 0..N {
+            let time = run(which, repeats[which]).as_nanos() as f64 / f64::from(repeats[which]);
+            best[which] = best[which].min(time);
+        }
+    }
+    best
 }
 
 /// Times of one call, and ratios, for each case.

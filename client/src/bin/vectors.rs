@@ -10,6 +10,8 @@
 //! Printed for calls 1, 2 and 4: a line `done N` or `refused N`, then the whole buffer, which held
 //! `.` bytes before the call, and a newline. For call 3: a line `yes`, `no` or `refused N`. For
 //! call 5: what printdecl prints, the declaration and a newline or a line `refused N`.
+//!
+//! Calls 6 to 12 are described with their records, in `rebuild` and `walks`.
 
 use std::path::{Path, PathBuf};
 use std::process::ExitCode;
@@ -20,6 +22,11 @@ use tillercoral::generate::{
 };
 use tillercoral::reference;
 use tillercoral::{Encoding, EncodingBuf, Refusal};
+
+#[path = "vectors/rebuild.rs"]
+mod rebuild;
+#[path = "vectors/walks.rs"]
+mod walks;
 
 // What the program that reads the vectors has room for: a little more than the limits of an
 // encoding and of a file, which is at most 57,356 bytes, so that these can be passed.
@@ -169,11 +176,29 @@ impl Vectors {
 
     fn sound(&mut self, encoding: &Encoding<'_>) {
         self.record(3, 0, encoding, 0);
-        match reference::type_is_sound(encoding) {
+        self.yes_or_no(reference::type_is_sound(encoding));
+    }
+
+    fn yes_or_no(&mut self, answer: Result<bool, Refusal>) {
+        match answer {
             Ok(true) => self.line("yes"),
             Ok(false) => self.line("no"),
             Err(refusal) => self.line(&refused(refusal)),
         }
+    }
+
+    /// The answer of a call with a buffer of words, and the whole buffer.
+    fn word_answer(
+        &mut self,
+        buffer: usize,
+        call: impl FnOnce(&mut [u32]) -> Result<usize, Refusal>,
+    ) {
+        let mut out = vec![u32::from_le_bytes(*b"...."); buffer];
+        match call(&mut out) {
+            Ok(length) => self.line(&format!("done {length}")),
+            Err(refusal) => self.line(&refused(refusal)),
+        }
+        self.line(&decimals(&out));
     }
 
     /// Text with a few bytes to spare, and soundness.
@@ -186,6 +211,12 @@ impl Vectors {
 
 fn refused(refusal: Refusal) -> String {
     format!("refused {}", refusal.number())
+}
+
+/// The words as decimals with a space between each two.
+fn decimals(words: &[u32]) -> String {
+    let decimals: Vec<String> = words.iter().map(u32::to_string).collect();
+    decimals.join(" ")
 }
 
 fn all_vectors() -> Vectors {
@@ -206,6 +237,8 @@ fn all_vectors() -> Vectors {
     limits_of_declarations(&mut vectors);
     generated_declarations(&mut vectors);
     files(&mut vectors);
+    rebuild::rebuilds(&mut vectors);
+    walks::walks(&mut vectors);
     vectors
 }
 

@@ -98,13 +98,13 @@ impl Names {
     }
 
     /// The numbers of the names with these bytes, fixed or pairs.
-    fn numbers_of(&self, bytes: &[u8]) -> Vec<u32> {
+    pub(super) fn numbers_of(&self, bytes: &[u8]) -> Vec<u32> {
         (0..self.count())
             .filter(|&number| self.bytes_of(number) == bytes)
             .collect()
     }
 
-    fn bytes_of(&self, number: u32) -> &[u8] {
+    pub(super) fn bytes_of(&self, number: u32) -> &[u8] {
         let number = number as usize;
         match super::FIXED_NAMES.get(number) {
             Some(fixed) => fixed.as_bytes(),

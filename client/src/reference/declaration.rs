@@ -335,7 +335,7 @@ fn is_self_owned(of: &Type) -> bool {
 
 impl Type {
     /// `Expand`: follows the base of a synonym and the display of metadata.
-    fn expand(&self) -> &Type {
+    pub(super) fn expand(&self) -> &Type {
         match self {
             Type::Synonym { base, .. } => base.expand(),
             Type::MetaData { display, .. } => display.expand(),

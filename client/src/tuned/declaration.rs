@@ -49,15 +49,15 @@ pub fn declaration_text(
 }
 
 #[derive(Clone, Copy)]
-struct Names<'a> {
-    pairs: &'a [u32],
-    text: &'a [u8],
+pub(super) struct Names<'a> {
+    pub pairs: &'a [u32],
+    pub text: &'a [u8],
 }
 
 impl<'a> Names<'a> {
     /// The bytes of a name whose number was checked.
     #[inline]
-    fn bytes(self, number: u32) -> &'a [u8] {
+    pub fn bytes(self, number: u32) -> &'a [u8] {
         if number < FIXED_COUNT {
             let fixed = &FIXED[number as usize];
             return &fixed.bytes[..usize::from(fixed.length)];

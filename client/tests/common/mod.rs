@@ -13,6 +13,11 @@ pub fn pattern(length: usize) -> Vec<u8> {
     (0..length).map(|i| (i * 37 + i / 256 + 5) as u8).collect()
 }
 
+/// As `pattern`, of words. None of them is 0, which is what a cleared buffer holds.
+pub fn word_pattern(length: usize) -> Vec<u32> {
+    (0..length as u32).map(|i| 1_000_000 + 37 * i).collect()
+}
+
 /// One call on one buffer; the answer and the buffer must be those wanted.
 pub fn check_text(
     what: &str,

@@ -3,11 +3,24 @@ ghost use mathlib.Core.Path.{_≡_};
 ghost use Rattle.text.specs.Calls.{filled, typeText, pathText};
 ghost use Rattle.declaration.specs.Calls.{declarationText};
 ghost use Rattle.soundness.specs.Calls.{typeIsSound};
-ghost use Prim.Native.Nat.{_+_};
-ghost use Rattle.capi.specs.Numbers.{textNumber, textCall, soundNumber, soundCall, refusedNumber};
+ghost use Rattle.encoding.specs.Refusals.{mapAnswer};
+ghost use Rattle.encoding.specs.Types.{typeOf};
+ghost use Rattle.rebuild.specs.Calls.{laidDown, typeRebuilt};
+ghost use Rattle.shapes.specs.Shapes.{EndsWithNameThatCanAcceptGenerics, IsAutoSize, CanReadWithoutClone, IsRcOrBorrowedRc, IsMultiArray, IsMaybeUninit, IsUninitArray, IsBox, NeedsAsRefForBorrow, IsObject, IsPointer, IsObjectOrPointer, IsBuiltinCollection, IsRc, IsBoxDyn};
+ghost use Rattle.shapes.specs.Parts.{RemoveSynonyms, ExpandAt, ToOwned, MultiArrayUnderlying, BoxUnderlying, ObjectOrPointerUnderlying, RcUnderlying, BoxDynUnderlying, GetBuiltinCollectionElement, ExtractMaybePlacebo, ExtractMaybeUninitArrayElement};
+ghost use Rattle.rebuild_declaration.specs.Calls.{declarationRebuilt};
+ghost use Rattle.parts.specs.Answers.{partOf};
+ghost use Rattle.initialization.specs.Initialized.{typeInitialized};
+ghost use Rattle.visits.specs.Visited.{typeVisits, declarationVisits};
+ghost use Rattle.visits.specs.Calls.{filled as listed};
+ghost use Rattle.capi.specs.Numbers.{refusedNumber, textNumber, textCall, soundNumber, soundCall, rebuildNumber, rebuildCall, shapeNumber, shapeCall, partNumber, partCall, visitNumber, visitCall, Small};
 use encoding::Refusal;
+use parts::PartAnswer;
+use rebuild::RebuildAnswer;
+use shapes::ShapeAnswer;
 use soundness::SoundAnswer;
 use text::TextAnswer;
+use visits::VisitAnswer;
 
 // 2^63 and the refusal's number.
 fn refused(r: Refusal) -> u64
@@ -34,6 +47,47 @@ fn sound_number(answer: SoundAnswer) -> u64
         SoundAnswer::Refused(r) => refused(r),
     }
 }
+
+fn rebuild_number(answer: RebuildAnswer) -> u64
+    ensures { λ n. ⌜ n ≡ rebuildNumber answer ⌝ }
+{
+    match answer {
+        RebuildAnswer::Length(n) => n as u64,
+        RebuildAnswer::Refused(r) => refused(r),
+    }
+}
+
+fn visit_number(answer: VisitAnswer) -> u64
+    ensures { λ n. ⌜ n ≡ visitNumber answer ⌝ }
+{
+    match answer {
+        VisitAnswer::Count(n) => n as u64,
+        VisitAnswer::Refused(r) => refused(r),
+    }
+}
+
+fn shape_number(answer: ShapeAnswer) -> u64
+    ensures { λ n. ⌜ n ≡ shapeNumber answer ⌝ }
+{
+    match answer {
+        ShapeAnswer::Yes => 1,
+        ShapeAnswer::No => 0,
+        ShapeAnswer::Refused(r) => refused(r),
+    }
+}
+
+// A part lies within 8192 words, so its start and its length fit in one number.
+fn part_number(answer: PartAnswer) -> u64
+    requires { ⌜ Small answer ⌝ }
+    ensures { λ n. ⌜ n ≡ partNumber answer ⌝ }
+{
+    match answer {
+        PartAnswer::Part { start, length } => start as u64 * 65536 + length as u64,
+        PartAnswer::Refused(r) => refused(r),
+    }
+}
+
+// ---- texts and soundness
 
 #[no_mangle]
 pub extern "C" fn tillercoral_type_text(
@@ -79,4 +133,292 @@ pub extern "C" fn tillercoral_type_is_sound(words: &[u32], pairs: &[u32], text: 
     ensures { λ n. ⌜ n ≡ soundCall (typeIsSound (now (words .entry)) (now (pairs .entry)) (now (text .entry))) ⌝ }
 {
     sound_number(soundness::type_is_sound(words, pairs, text))
+}
+
+// ---- rebuilt trees
+
+#[no_mangle]
+pub extern "C" fn tillercoral_type_rebuild(
+    words: &[u32],
+    pairs: &[u32],
+    text: &[u8],
+    rules: &[u32],
+    out: &mut [u32],
+) -> u64
+    ensures { λ n. ⌜ (n, now (out .exit)) ≡ rebuildCall (laidDown (now (out .entry)) (typeRebuilt (now (words .entry)) (now (pairs .entry)) (now (text .entry)) (now (rules .entry)))) ⌝ }
+{
+    rebuild_number(replacement::type_rebuild(words, pairs, text, rules, out))
+}
+
+#[no_mangle]
+pub extern "C" fn tillercoral_declaration_rebuild(
+    words: &[u32],
+    pairs: &[u32],
+    text: &[u8],
+    rules: &[u32],
+    out: &mut [u32],
+) -> u64
+    ensures { λ n. ⌜ (n, now (out .exit)) ≡ rebuildCall (laidDown (now (out .entry)) (declarationRebuilt (now (words .entry)) (now (pairs .entry)) (now (text .entry)) (now (rules .entry)))) ⌝ }
+{
+    rebuild_number(replacement::declaration_rebuild(words, pairs, text, rules, out))
+}
+
+#[no_mangle]
+pub extern "C" fn tillercoral_type_at_initialization(
+    words: &[u32],
+    pairs: &[u32],
+    text: &[u8],
+    out: &mut [u32],
+) -> u64
+    ensures { λ n. ⌜ (n, now (out .exit)) ≡ rebuildCall (laidDown (now (out .entry)) (typeInitialized (now (words .entry)) (now (pairs .entry)) (now (text .entry)))) ⌝ }
+{
+    rebuild_number(initialization::type_at_initialization(words, pairs, text, out))
+}
+
+// ---- visit lists
+
+#[no_mangle]
+pub extern "C" fn tillercoral_type_visit(
+    words: &[u32],
+    pairs: &[u32],
+    text: &[u8],
+    out: &mut [u32],
+) -> u64
+    ensures { λ n. ⌜ (n, now (out .exit)) ≡ visitCall (listed (now (out .entry)) (typeVisits (now (words .entry)) (now (pairs .entry)) (now (text .entry)))) ⌝ }
+{
+    visit_number(visits::type_visit(words, pairs, text, out))
+}
+
+#[no_mangle]
+pub extern "C" fn tillercoral_declaration_visit(
+    words: &[u32],
+    pairs: &[u32],
+    text: &[u8],
+    out: &mut [u32],
+) -> u64
+    ensures { λ n. ⌜ (n, now (out .exit)) ≡ visitCall (listed (now (out .entry)) (declarationVisits (now (words .entry)) (now (pairs .entry)) (now (text .entry)))) ⌝ }
+{
+    visit_number(visits::declaration_visit(words, pairs, text, out))
+}
+
+// ---- shapes
+
+#[no_mangle]
+pub extern "C" fn tillercoral_ends_with_name_that_can_accept_generics(
+    words: &[u32],
+    pairs: &[u32],
+    text: &[u8],
+) -> u64
+    ensures { λ n. ⌜ n ≡ shapeCall (mapAnswer EndsWithNameThatCanAcceptGenerics (typeOf (now (words .entry)) (now (pairs .entry)) (now (text .entry)))) ⌝ }
+{
+    shape_number(shapes::ends_with_name_that_can_accept_generics(words, pairs, text))
+}
+
+#[no_mangle]
+pub extern "C" fn tillercoral_is_auto_size(words: &[u32], pairs: &[u32], text: &[u8]) -> u64
+    ensures { λ n. ⌜ n ≡ shapeCall (mapAnswer IsAutoSize (typeOf (now (words .entry)) (now (pairs .entry)) (now (text .entry)))) ⌝ }
+{
+    shape_number(shapes::is_auto_size(words, pairs, text))
+}
+
+#[no_mangle]
+pub extern "C" fn tillercoral_can_read_without_clone(
+    words: &[u32],
+    pairs: &[u32],
+    text: &[u8],
+) -> u64
+    ensures { λ n. ⌜ n ≡ shapeCall (mapAnswer CanReadWithoutClone (typeOf (now (words .entry)) (now (pairs .entry)) (now (text .entry)))) ⌝ }
+{
+    shape_number(shapes::can_read_without_clone(words, pairs, text))
+}
+
+#[no_mangle]
+pub extern "C" fn tillercoral_is_rc_or_borrowed_rc(words: &[u32], pairs: &[u32], text: &[u8]) -> u64
+    ensures { λ n. ⌜ n ≡ shapeCall (mapAnswer IsRcOrBorrowedRc (typeOf (now (words .entry)) (now (pairs .entry)) (now (text .entry)))) ⌝ }
+{
+    shape_number(shapes::is_rc_or_borrowed_rc(words, pairs, text))
+}
+
+#[no_mangle]
+pub extern "C" fn tillercoral_is_multi_array(words: &[u32], pairs: &[u32], text: &[u8]) -> u64
+    ensures { λ n. ⌜ n ≡ shapeCall (mapAnswer IsMultiArray (typeOf (now (words .entry)) (now (pairs .entry)) (now (text .entry)))) ⌝ }
+{
+    shape_number(shapes::is_multi_array(words, pairs, text))
+}
+
+#[no_mangle]
+pub extern "C" fn tillercoral_is_maybe_uninit(words: &[u32], pairs: &[u32], text: &[u8]) -> u64
+    ensures { λ n. ⌜ n ≡ shapeCall (mapAnswer IsMaybeUninit (typeOf (now (words .entry)) (now (pairs .entry)) (now (text .entry)))) ⌝ }
+{
+    shape_number(shapes::is_maybe_uninit(words, pairs, text))
+}
+
+#[no_mangle]
+pub extern "C" fn tillercoral_is_uninit_array(words: &[u32], pairs: &[u32], text: &[u8]) -> u64
+    ensures { λ n. ⌜ n ≡ shapeCall (mapAnswer IsUninitArray (typeOf (now (words .entry)) (now (pairs .entry)) (now (text .entry)))) ⌝ }
+{
+    shape_number(shapes::is_uninit_array(words, pairs, text))
+}
+
+#[no_mangle]
+pub extern "C" fn tillercoral_is_box(words: &[u32], pairs: &[u32], text: &[u8]) -> u64
+    ensures { λ n. ⌜ n ≡ shapeCall (mapAnswer IsBox (typeOf (now (words .entry)) (now (pairs .entry)) (now (text .entry)))) ⌝ }
+{
+    shape_number(shapes::is_box(words, pairs, text))
+}
+
+#[no_mangle]
+pub extern "C" fn tillercoral_needs_as_ref_for_borrow(
+    words: &[u32],
+    pairs: &[u32],
+    text: &[u8],
+) -> u64
+    ensures { λ n. ⌜ n ≡ shapeCall (mapAnswer NeedsAsRefForBorrow (typeOf (now (words .entry)) (now (pairs .entry)) (now (text .entry)))) ⌝ }
+{
+    shape_number(shapes::needs_as_ref_for_borrow(words, pairs, text))
+}
+
+#[no_mangle]
+pub extern "C" fn tillercoral_is_object(words: &[u32], pairs: &[u32], text: &[u8]) -> u64
+    ensures { λ n. ⌜ n ≡ shapeCall (mapAnswer IsObject (typeOf (now (words .entry)) (now (pairs .entry)) (now (text .entry)))) ⌝ }
+{
+    shape_number(shapes::is_object(words, pairs, text))
+}
+
+#[no_mangle]
+pub extern "C" fn tillercoral_is_pointer(words: &[u32], pairs: &[u32], text: &[u8]) -> u64
+    ensures { λ n. ⌜ n ≡ shapeCall (mapAnswer IsPointer (typeOf (now (words .entry)) (now (pairs .entry)) (now (text .entry)))) ⌝ }
+{
+    shape_number(shapes::is_pointer(words, pairs, text))
+}
+
+#[no_mangle]
+pub extern "C" fn tillercoral_is_object_or_pointer(words: &[u32], pairs: &[u32], text: &[u8]) -> u64
+    ensures { λ n. ⌜ n ≡ shapeCall (mapAnswer IsObjectOrPointer (typeOf (now (words .entry)) (now (pairs .entry)) (now (text .entry)))) ⌝ }
+{
+    shape_number(shapes::is_object_or_pointer(words, pairs, text))
+}
+
+#[no_mangle]
+pub extern "C" fn tillercoral_is_builtin_collection(
+    words: &[u32],
+    pairs: &[u32],
+    text: &[u8],
+) -> u64
+    ensures { λ n. ⌜ n ≡ shapeCall (mapAnswer IsBuiltinCollection (typeOf (now (words .entry)) (now (pairs .entry)) (now (text .entry)))) ⌝ }
+{
+    shape_number(shapes::is_builtin_collection(words, pairs, text))
+}
+
+#[no_mangle]
+pub extern "C" fn tillercoral_is_rc(words: &[u32], pairs: &[u32], text: &[u8]) -> u64
+    ensures { λ n. ⌜ n ≡ shapeCall (mapAnswer IsRc (typeOf (now (words .entry)) (now (pairs .entry)) (now (text .entry)))) ⌝ }
+{
+    shape_number(shapes::is_rc(words, pairs, text))
+}
+
+#[no_mangle]
+pub extern "C" fn tillercoral_is_box_dyn(words: &[u32], pairs: &[u32], text: &[u8]) -> u64
+    ensures { λ n. ⌜ n ≡ shapeCall (mapAnswer IsBoxDyn (typeOf (now (words .entry)) (now (pairs .entry)) (now (text .entry)))) ⌝ }
+{
+    shape_number(shapes::is_box_dyn(words, pairs, text))
+}
+
+// ---- parts
+
+#[no_mangle]
+pub extern "C" fn tillercoral_remove_synonyms(words: &[u32], pairs: &[u32], text: &[u8]) -> u64
+    ensures { λ n. ⌜ n ≡ partCall (partOf RemoveSynonyms (now (words .entry)) (now (pairs .entry)) (now (text .entry))) ⌝ }
+{
+    part_number(parts::remove_synonyms_at(words, pairs, text))
+}
+
+#[no_mangle]
+pub extern "C" fn tillercoral_expand(words: &[u32], pairs: &[u32], text: &[u8]) -> u64
+    ensures { λ n. ⌜ n ≡ partCall (partOf ExpandAt (now (words .entry)) (now (pairs .entry)) (now (text .entry))) ⌝ }
+{
+    part_number(parts::expand_at(words, pairs, text))
+}
+
+#[no_mangle]
+pub extern "C" fn tillercoral_to_owned(words: &[u32], pairs: &[u32], text: &[u8]) -> u64
+    ensures { λ n. ⌜ n ≡ partCall (partOf ToOwned (now (words .entry)) (now (pairs .entry)) (now (text .entry))) ⌝ }
+{
+    part_number(parts::to_owned_at(words, pairs, text))
+}
+
+#[no_mangle]
+pub extern "C" fn tillercoral_multi_array_underlying(
+    words: &[u32],
+    pairs: &[u32],
+    text: &[u8],
+) -> u64
+    ensures { λ n. ⌜ n ≡ partCall (partOf MultiArrayUnderlying (now (words .entry)) (now (pairs .entry)) (now (text .entry))) ⌝ }
+{
+    part_number(parts::multi_array_underlying_at(words, pairs, text))
+}
+
+#[no_mangle]
+pub extern "C" fn tillercoral_box_underlying(words: &[u32], pairs: &[u32], text: &[u8]) -> u64
+    ensures { λ n. ⌜ n ≡ partCall (partOf BoxUnderlying (now (words .entry)) (now (pairs .entry)) (now (text .entry))) ⌝ }
+{
+    part_number(parts::box_underlying_at(words, pairs, text))
+}
+
+#[no_mangle]
+pub extern "C" fn tillercoral_object_or_pointer_underlying(
+    words: &[u32],
+    pairs: &[u32],
+    text: &[u8],
+) -> u64
+    ensures { λ n. ⌜ n ≡ partCall (partOf ObjectOrPointerUnderlying (now (words .entry)) (now (pairs .entry)) (now (text .entry))) ⌝ }
+{
+    part_number(parts::object_or_pointer_underlying_at(words, pairs, text))
+}
+
+#[no_mangle]
+pub extern "C" fn tillercoral_rc_underlying(words: &[u32], pairs: &[u32], text: &[u8]) -> u64
+    ensures { λ n. ⌜ n ≡ partCall (partOf RcUnderlying (now (words .entry)) (now (pairs .entry)) (now (text .entry))) ⌝ }
+{
+    part_number(parts::rc_underlying_at(words, pairs, text))
+}
+
+#[no_mangle]
+pub extern "C" fn tillercoral_box_dyn_underlying(words: &[u32], pairs: &[u32], text: &[u8]) -> u64
+    ensures { λ n. ⌜ n ≡ partCall (partOf BoxDynUnderlying (now (words .entry)) (now (pairs .entry)) (now (text .entry))) ⌝ }
+{
+    part_number(parts::box_dyn_underlying_at(words, pairs, text))
+}
+
+#[no_mangle]
+pub extern "C" fn tillercoral_get_builtin_collection_element(
+    words: &[u32],
+    pairs: &[u32],
+    text: &[u8],
+) -> u64
+    ensures { λ n. ⌜ n ≡ partCall (partOf GetBuiltinCollectionElement (now (words .entry)) (now (pairs .entry)) (now (text .entry))) ⌝ }
+{
+    part_number(parts::get_builtin_collection_element_at(words, pairs, text))
+}
+
+#[no_mangle]
+pub extern "C" fn tillercoral_extract_maybe_placebo(
+    words: &[u32],
+    pairs: &[u32],
+    text: &[u8],
+) -> u64
+    ensures { λ n. ⌜ n ≡ partCall (partOf ExtractMaybePlacebo (now (words .entry)) (now (pairs .entry)) (now (text .entry))) ⌝ }
+{
+    part_number(parts::extract_maybe_placebo_at(words, pairs, text))
+}
+
+#[no_mangle]
+pub extern "C" fn tillercoral_extract_maybe_uninit_array_element(
+    words: &[u32],
+    pairs: &[u32],
+    text: &[u8],
+) -> u64
+    ensures { λ n. ⌜ n ≡ partCall (partOf ExtractMaybeUninitArrayElement (now (words .entry)) (now (pairs .entry)) (now (text .entry))) ⌝ }
+{
+    part_number(parts::extract_maybe_uninit_array_element_at(words, pairs, text))
 }

@@ -14,7 +14,6 @@ use Rattle.encoding.specs.declared.Head.the-variants.{Apply, Tuple, Func
 use Rattle.encoding.specs.Refusals.{pick}
 use Rattle.encoding.specs.Reading.{Reading, got, stop, _>>=_, readWord, readBelow, readNames}
 use Rattle.encoding.specs.Heads.{readPath, pathHead, headAfter, readHead, InsidePath, InsideHead}
-use Rattle.encoding.proofs.Tables.{impossible}
 
 -- P of what was read, if anything was
 abbrev Holds : {A : Type 0} → (A → ℕ → Type 0) → Reading A → Type 0

@@ -1,6 +1,6 @@
 -- Laws of reading at a position, and from the code's answers back to the readings.
 use Prim.Native.Nat.{ℕ, zero, suc, _+_, _-_, _≤_, _<_}
-use mathlib.Core.Path.{_≡_, refl, ap, sym, _∙_}
+use mathlib.Core.Path.{_≡_, ap}
 use mathlib.Core.List.{List}
 use native.Mathlib.Omega.{arith}
 use native.Mathlib.Numerals.{sub-one}
@@ -18,7 +18,7 @@ use Rattle.encoding.specs.declared.PathScan.the-variants.{OwnPath, NoPat
 use Rattle.encoding.specs.declared.Head.{Head}
 use Rattle.encoding.specs.declared.HeadScan.{HeadScan}
 use Rattle.encoding.specs.declared.HeadScan.the-variants.{Own, NoHead}
-use Rattle.encoding.specs.Reading.{Reading, got, stop, _>>=_, readWord, readBelow, readNames}
+use Rattle.encoding.specs.Reading.{Reading, got, stop, readWord, readBelow, readNames}
 use Rattle.encoding.specs.Scans.{wordScan, ended, pathScan, headScan}
 use Rattle.encoding.proofs.Tables.{impossible}
 

@@ -1,11 +1,11 @@
 -- Laws of types that were read: what a reading's parts are, that more depth changes nothing, and where a type lies.
 use Prim.Native.Nat.{ℕ, zero, suc, _+_, _≤_, _<_}
-use mathlib.Core.Path.{_≡_, refl, ap, sym, _∙_, subst}
+use mathlib.Core.Path.{_≡_, refl, ap}
 use mathlib.Core.List.{List}
 use native.Mathlib.Omega.{arith}
 use lib.ListN.{length}
 use Rattle.rast.specs.Bytes.{Bytes}
-use Rattle.rast.specs.Tree.{Ty, Tys, TypeApp, FnType, IntersectionType, TSynonym, TupleType, nil, cons}
+use Rattle.rast.specs.Tree.{Ty, TypeApp, FnType, TupleType, cons}
 use Rattle.encoding.specs.declared.Refusal.the-variants.{EndsEarly}
 use Rattle.encoding.specs.declared.Head.{Head}
 use Rattle.encoding.specs.declared.Head.the-variants.{Plain, Name, FromPath, Apply, Ref, RefMut, Impl, Dyn, Tuple, Function, Both, ArrayOf, Synonym, Meta}
@@ -114,13 +114,17 @@ deeper b ws name (suc deep) p t n e =
     (λ h m u k. extend-node (readType b ws name deep) (readType b ws name (suc deep)) (deeper b ws name deep) ws name h m u k) e
 
 -- a type's parts are read like the type itself
+pub node-parts : {N : Type 0} (b : ℕ) (ws : List ℕ) (name : ℕ → N) (deep at : ℕ) {h : Head} {q n : ℕ} {t : Ty N}
+    → readType b ws name (suc deep) at ≡ got t n → readHead b ws at ≡ got h q
+    → readNode ws name (readType b ws name (suc deep)) h q ≡ got t n
+unfolding readType
+node-parts b ws name deep at {h} {q} {n} {t} e d =
+    extend-node (readType b ws name deep) (readType b ws name (suc deep)) (deeper b ws name deep) ws name h q t n (rw d at e)
+
 pub node-of : (ws pairs : List ℕ) (text : Bytes) (at : ℕ) {h : Head} {q n : ℕ} {t : Ty Bytes}
     → typeAt ws pairs text at ≡ got t n → readHead (nameCount pairs) ws at ≡ got h q
     → readNode ws (nameBytes pairs text) (typeAt ws pairs text) h q ≡ got t n
-unfolding readType
-node-of ws pairs text at {h} {q} {n} {t} e d =
-    extend-node (readType (nameCount pairs) ws (nameBytes pairs text) 63) (typeAt ws pairs text)
-    (deeper (nameCount pairs) ws (nameBytes pairs text) 63) ws (nameBytes pairs text) h q t n (rw d at e)
+node-of ws pairs text at e d = node-parts (nameCount pairs) ws (nameBytes pairs text) 63 at e d
 
 -- ---- where a type lies
 

@@ -277,7 +277,7 @@ pub fn scan_below(words: &[u32], bound: usize, at: usize) -> WordScan
 }
 
 // `count` names.
-fn scan_names(words: &[u32], bound: usize, at: usize, count: u32) -> Scan
+pub fn scan_names(words: &[u32], bound: usize, at: usize, count: u32) -> Scan
     ensures { λ r. ⌜ r ≡ ended (readNames bound (now (words .entry)) count at) ⌝ }
 {
     let mut pos = at;

@@ -1,11 +1,11 @@
 -- Laws of writing, one run of bytes behind the other.
 use Prim.Native.Nat.{ℕ, zero, suc, _+_, _-_, _≤_, _<_}
-use mathlib.Core.Path.{_≡_, refl, ap, sym, _∙_, subst}
+use mathlib.Core.Path.{_≡_, refl, ap, _∙_, subst}
 use mathlib.Core.List.{List, [], _∷_, _++_}
 use native.Mathlib.Omega.{arith}
 use native.Mathlib.Nat.{add-zero}
 use native.Mathlib.Numerals.{add-one, sub-one}
-use lib.ListN.{length, set, getD, take, drop, length-append, length-set, length-take, length-drop}
+use lib.ListN.{length, set, getD, take, drop, length-append, length-take, length-drop}
 use lib.Seq.{sets, length-sets, drop-cons}
 use Rattle.output.specs.Wrote.{Wrote}
 

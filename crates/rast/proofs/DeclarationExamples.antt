@@ -2,7 +2,7 @@
 use Prim.Native.Nat.{ℕ}
 use Prim.Native.String.{String}
 use mathlib.Core.Path.{_≡_, refl}
-use mathlib.Core.Bool.{true, false}
+use mathlib.Core.Bool.{false}
 use mathlib.Core.List.{List, [], _∷_, map}
 use Rattle.rast.specs.Bytes.{Bytes, ascii, same, begins, _and_}
 use Rattle.rast.specs.Tree.{Self, Global, MSels, U8, U16, I32, Ty, Primitive, TIdentifier, TypeFromPath, Borrowed, BorrowedMut, TSynonym, TMetaData}

@@ -4,12 +4,11 @@ use mathlib.Core.List.{List, _++_}
 use lib.Dec.{leb}
 use lib.ListN.{length, drop}
 use Rattle.rast.specs.Bytes.{Bytes}
-use Rattle.rast.specs.Tree.{Path, Ty}
 use Rattle.rast.specs.ToString.{Path·ToString, Type·ToString}
 use Rattle.encoding.specs.declared.Refusal.the-variants.{BufferTooShort}
 use Rattle.encoding.specs.Refusals.{pick, Answer, given, refused, mapAnswer, unless}
 use Rattle.encoding.specs.Reading.{whole}
-use Rattle.encoding.specs.Tables.{checkLevel, checkTables, nameBytes, nameCount}
+use Rattle.encoding.specs.Tables.{checkLevel, nameBytes, nameCount}
 use Rattle.encoding.specs.Heads.{readPath}
 use Rattle.encoding.specs.Types.{typeAt, typeOf, pathOf, pathIn}
 use Rattle.text.specs.declared.TextAnswer.{TextAnswer}

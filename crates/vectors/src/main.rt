@@ -3,7 +3,13 @@
 // A record is a header of six numbers (the call, the level, how many words, numbers in the pair table, text bytes and buffer bytes), then the
 // words, the pair table and the text. Each number is a u32, little-endian. The answer is a line `done N` or `refused N` and the whole buffer,
 // which held `.` bytes before the call; of a soundness call it is `yes`, `no` or `refused N`. A call that prints a file has the file for its
-// text, and the answer is what is printed. What is no such record ends the run with the line `bad record`.
+// text, and the answer is what is printed.
+//
+// A call that rebuilds a tree or lists positions counts its buffer in words, and the buffer is printed as a line of decimals. Where it takes
+// rules, the level is the number of their words, which follow the text. Of a shape or a part the level says which. A shape is answered as
+// soundness is; a part by a line `part START LENGTH` and a line of its words, or a line `refused N` and an empty line.
+//
+// What is no such record ends the run with the line `bad record`.
 ghost use mathlib.Core.Path.{_≡_};
 ghost use Prim.Native.Nat.{_≤_};
 ghost use lib.ListN.{length};
@@ -11,8 +17,12 @@ ghost use Rattle.vectors.specs.Header.{headerOf};
 use encoding::Refusal;
 use libc::STDIN_FILENO;
 use libc::STDOUT_FILENO;
+use parts::PartAnswer;
+use rebuild::RebuildAnswer;
+use shapes::ShapeAnswer;
 use soundness::SoundAnswer;
 use text::TextAnswer;
+use visits::VisitAnswer;
 
 const TYPE_TEXT: u32 = 1;
 
@@ -23,6 +33,27 @@ const TYPE_IS_SOUND: u32 = 3;
 const DECLARATION_TEXT: u32 = 4;
 
 const PRINTED_FILE: u32 = 5;
+
+const TYPE_REBUILD: u32 = 6;
+
+const DECLARATION_REBUILD: u32 = 7;
+
+const TYPE_AT_INITIALIZATION: u32 = 8;
+
+const TYPE_VISIT: u32 = 9;
+
+const DECLARATION_VISIT: u32 = 10;
+
+const SHAPE: u32 = 11;
+
+const PART: u32 = 12;
+
+// What a buffer of words holds before the call: `.` bytes.
+const DOTS: u32 = 774778414;
+
+const LAST_SHAPE: u32 = 14;
+
+const LAST_PART: u32 = 10;
 
 // The most that a record may hold: a little more than the limits of an encoding and of a file, so that these can be passed.
 const MOST_WORDS: usize = 8256;
@@ -93,6 +124,23 @@ fn print_refusal(r: Refusal) {
     print_numbered(b"refused ", encoding::refusal_number(r) as u64);
 }
 
+// A line of decimals with a space between each two.
+fn print_words(words: &[u32]) {
+    let mut i = 0;
+    while i < words.len() {
+        print_word(i, words[i]);
+        i += 1;
+    }
+    print(b"\n");
+}
+
+fn print_word(i: usize, word: u32) {
+    if i > 0 {
+        print(b" ");
+    }
+    io::print_decimal(STDOUT_FILENO, word as u64);
+}
+
 fn print_text_answer(answer: TextAnswer, buffer: &[u8]) {
     match answer {
         TextAnswer::Length(n) => print_numbered(b"done ", n as u64),
@@ -107,6 +155,41 @@ fn print_sound_answer(answer: SoundAnswer) {
         SoundAnswer::Sound => print(b"yes\n"),
         SoundAnswer::Unsound => print(b"no\n"),
         SoundAnswer::Refused(r) => print_refusal(r),
+    }
+}
+
+fn print_rebuild_answer(answer: RebuildAnswer, buffer: &[u32]) {
+    match answer {
+        RebuildAnswer::Length(n) => print_numbered(b"done ", n as u64),
+        RebuildAnswer::Refused(r) => print_refusal(r),
+    }
+    print_words(buffer);
+}
+
+fn print_visit_answer(answer: VisitAnswer, buffer: &[u32]) {
+    match answer {
+        VisitAnswer::Count(n) => print_numbered(b"done ", n as u64),
+        VisitAnswer::Refused(r) => print_refusal(r),
+    }
+    print_words(buffer);
+}
+
+fn print_shape_answer(answer: ShapeAnswer) {
+    match answer {
+        ShapeAnswer::Yes => print(b"yes\n"),
+        ShapeAnswer::No => print(b"no\n"),
+        ShapeAnswer::Refused(r) => print_refusal(r),
+    }
+}
+
+fn print_part_answer(answer: PartAnswer) {
+    match answer {
+        PartAnswer::Part { start, length } => {
+            print(b"part ");
+            io::print_decimal(STDOUT_FILENO, start as u64);
+            print_numbered(b" ", length as u64);
+        }
+        PartAnswer::Refused(r) => print_refusal(r),
     }
 }
 
@@ -144,7 +227,144 @@ fn print_file(file: &[u8]) {
     print(&out[..n]);
 }
 
-// Makes the call that a header names, and prints its answer. False if there is no such call.
+fn call_rebuild(
+    call: u32,
+    words: &[u32],
+    pairs: &[u32],
+    text: &[u8],
+    rules: &[u32],
+    out: &mut [u32],
+) -> RebuildAnswer {
+    if call == TYPE_AT_INITIALIZATION {
+        return initialization::type_at_initialization(words, pairs, text, out);
+    }
+    if call == DECLARATION_REBUILD {
+        return replacement::declaration_rebuild(words, pairs, text, rules, out);
+    }
+    replacement::type_rebuild(words, pairs, text, rules, out)
+}
+
+// Makes a call that rebuilds, with a buffer of `.` bytes, and prints its answer.
+fn rebuild_by(h: Header, words: &[u32], pairs: &[u32], text: &[u8], rules: &[u32])
+    requires { do ⌜ h .buffer ≤ (← ⟦MOST_BUFFER⟧) ⌝ }
+{
+    let mut buffer = [DOTS; MOST_BUFFER];
+    let size = h.buffer;
+    let answer = call_rebuild(h.call, words, pairs, text, rules, &mut buffer[..size]);
+    print_rebuild_answer(answer, &buffer[..size]);
+}
+
+// Reads the rules, none for a call that takes none, and makes the call. False if the record is bad.
+fn run_rebuild_call(h: Header, words: &[u32], pairs: &[u32], text: &[u8]) -> bool
+    requires { do ⌜ h .buffer ≤ (← ⟦MOST_BUFFER⟧) ⌝ }
+{
+    let count = h.level as usize;
+    if MOST_WORDS < count {
+        return false;
+    }
+    let mut rules = [0u32; MOST_WORDS];
+    if !read_numbers(&mut rules[..count]) {
+        return false;
+    }
+    rebuild_by(h, words, pairs, text, &rules[..count]);
+    true
+}
+
+fn call_visit(
+    call: u32,
+    words: &[u32],
+    pairs: &[u32],
+    text: &[u8],
+    out: &mut [u32],
+) -> VisitAnswer {
+    if call == TYPE_VISIT {
+        return visits::type_visit(words, pairs, text, out);
+    }
+    visits::declaration_visit(words, pairs, text, out)
+}
+
+// Makes a call that lists positions, with a buffer of `.` bytes, and prints its answer.
+fn run_visit_call(h: Header, words: &[u32], pairs: &[u32], text: &[u8])
+    requires { do ⌜ h .buffer ≤ (← ⟦MOST_BUFFER⟧) ⌝ }
+{
+    let mut buffer = [DOTS; MOST_BUFFER];
+    let size = h.buffer;
+    let answer = call_visit(h.call, words, pairs, text, &mut buffer[..size]);
+    print_visit_answer(answer, &buffer[..size]);
+}
+
+fn shape_of(which: u32, words: &[u32], pairs: &[u32], text: &[u8]) -> ShapeAnswer {
+    match which {
+        0 => shapes::ends_with_name_that_can_accept_generics(words, pairs, text),
+        1 => shapes::is_auto_size(words, pairs, text),
+        2 => shapes::can_read_without_clone(words, pairs, text),
+        3 => shapes::is_rc_or_borrowed_rc(words, pairs, text),
+        4 => shapes::is_multi_array(words, pairs, text),
+        5 => shapes::is_maybe_uninit(words, pairs, text),
+        6 => shapes::is_uninit_array(words, pairs, text),
+        7 => shapes::is_box(words, pairs, text),
+        8 => shapes::needs_as_ref_for_borrow(words, pairs, text),
+        9 => shapes::is_object(words, pairs, text),
+        10 => shapes::is_pointer(words, pairs, text),
+        11 => shapes::is_object_or_pointer(words, pairs, text),
+        12 => shapes::is_builtin_collection(words, pairs, text),
+        13 => shapes::is_rc(words, pairs, text),
+        _ => shapes::is_box_dyn(words, pairs, text),
+    }
+}
+
+// False if there is no such shape.
+fn run_shape_call(which: u32, words: &[u32], pairs: &[u32], text: &[u8]) -> bool {
+    if LAST_SHAPE < which {
+        return false;
+    }
+    print_shape_answer(shape_of(which, words, pairs, text));
+    true
+}
+
+fn part_of(which: u32, words: &[u32], pairs: &[u32], text: &[u8]) -> PartAnswer {
+    match which {
+        0 => parts::remove_synonyms_at(words, pairs, text),
+        1 => parts::expand_at(words, pairs, text),
+        2 => parts::to_owned_at(words, pairs, text),
+        3 => parts::multi_array_underlying_at(words, pairs, text),
+        4 => parts::box_underlying_at(words, pairs, text),
+        5 => parts::object_or_pointer_underlying_at(words, pairs, text),
+        6 => parts::rc_underlying_at(words, pairs, text),
+        7 => parts::box_dyn_underlying_at(words, pairs, text),
+        8 => parts::get_builtin_collection_element_at(words, pairs, text),
+        9 => parts::extract_maybe_placebo_at(words, pairs, text),
+        _ => parts::extract_maybe_uninit_array_element_at(words, pairs, text),
+    }
+}
+
+fn part_words<'a>(which: u32, words: &'a [u32], pairs: &[u32], text: &[u8]) -> &'a [u32] {
+    match which {
+        0 => parts::remove_synonyms(words, pairs, text),
+        1 => parts::expand(words, pairs, text),
+        2 => parts::to_owned(words, pairs, text),
+        3 => parts::multi_array_underlying(words, pairs, text),
+        4 => parts::box_underlying(words, pairs, text),
+        5 => parts::object_or_pointer_underlying(words, pairs, text),
+        6 => parts::rc_underlying(words, pairs, text),
+        7 => parts::box_dyn_underlying(words, pairs, text),
+        8 => parts::get_builtin_collection_element(words, pairs, text),
+        9 => parts::extract_maybe_placebo(words, pairs, text),
+        _ => parts::extract_maybe_uninit_array_element(words, pairs, text),
+    }
+}
+
+// False if there is no such part.
+fn run_part_call(which: u32, words: &[u32], pairs: &[u32], text: &[u8]) -> bool {
+    if LAST_PART < which {
+        return false;
+    }
+    print_part_answer(part_of(which, words, pairs, text));
+    print_words(part_words(which, words, pairs, text));
+    true
+}
+
+// Makes the call that a header names, and prints its answer. False if there is no such call, or its rules are missing.
 fn run_call(h: Header, words: &[u32], pairs: &[u32], text: &[u8]) -> bool
     requires { do ⌜ h .buffer ≤ (← ⟦MOST_BUFFER⟧) ⌝ }
 {
@@ -153,6 +373,12 @@ fn run_call(h: Header, words: &[u32], pairs: &[u32], text: &[u8]) -> bool
         TYPE_TEXT | PATH_TEXT | DECLARATION_TEXT => run_text_call(h, words, pairs, text),
         TYPE_IS_SOUND => print_sound_answer(soundness::type_is_sound(words, pairs, text)),
         PRINTED_FILE => print_file(text),
+        TYPE_REBUILD => return run_rebuild_call(h, words, pairs, text),
+        DECLARATION_REBUILD => return run_rebuild_call(h, words, pairs, text),
+        TYPE_AT_INITIALIZATION => return run_rebuild_call(h, words, pairs, text),
+        TYPE_VISIT | DECLARATION_VISIT => run_visit_call(h, words, pairs, text),
+        SHAPE => return run_shape_call(h.level, words, pairs, text),
+        PART => return run_part_call(h.level, words, pairs, text),
         _ => return false,
     }
     true

@@ -1,20 +1,19 @@
 -- Each kind of type that holds others, part by part: the room for each part, and what is written in the end.
-use Prim.Native.Nat.{ℕ, zero, suc, _+_, _-_, _≤_, _<_}
+use Prim.Native.Nat.{ℕ, zero, suc, _+_, _≤_}
 use mathlib.Core.Path.{_≡_, refl, ap, sym, _∙_, subst}
-use mathlib.Core.List.{List, [], _∷_, _++_, append-assoc, append-nil}
+use mathlib.Core.List.{List, [], _++_, append-assoc, append-nil}
 use native.Mathlib.Omega.{arith}
 use native.Mathlib.Decide.{ℕ-discrete}
-use lib.ListN.{length, length-append}
+use lib.ListN.{length}
 use Rattle.rast.specs.Bytes.{Bytes, ascii}
-use Rattle.rast.specs.Tree.{Ty, Tys, TypeApp, Borrowed, BorrowedMut, ImplType, DynType, TupleType, FnType, IntersectionType, Array, TSynonym, TMetaData, nil, cons}
+use Rattle.rast.specs.Tree.{Ty, Tys, TypeApp, TupleType, FnType, IntersectionType, Array, TSynonym, nil, cons}
 use Rattle.rast.specs.ToString.{Type·ToString, argumentsText, commaText, afterText}
 use Rattle.output.specs.Wrote.{Wrote}
-use Rattle.output.proofs.Laws.{wrote-nothing, wrote-then, wrote-as, wrote-kept}
-use Rattle.encoding.specs.declared.Head.the-variants.{Apply, Ref, RefMut, Impl, Dyn, Tuple, Function, Both, ArrayOf, Synonym, Meta}
+use Rattle.output.proofs.Laws.{wrote-nothing, wrote-then}
+use Rattle.encoding.specs.declared.Head.the-variants.{Apply, Tuple, Function, Both, ArrayOf, Synonym}
 use Rattle.encoding.specs.Tables.{nameBytes}
-use Rattle.encoding.specs.Reading.{Reading, got, _>>=_}
+use Rattle.encoding.specs.Reading.{Reading, got}
 use Rattle.encoding.specs.Types.{sizeOf, readTypes, readNode, typeAt}
-use Rattle.encoding.proofs.Tables.{impossible}
 use Rattle.encoding.proofs.Types.{Made, Made₂, made-got, made₂-got, type-lies}
 use Rattle.writing.specs.declared.Spot.{Spot}
 use Rattle.writing.specs.Written.{Readable, EndsAt, Room, Written, Front, nodeAt, endText}

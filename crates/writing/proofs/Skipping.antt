@@ -1,6 +1,6 @@
 -- Passing over accepted types: what is due behind a head is what was due before it, less one, and the types that follow the head.
 use Prim.Native.Nat.{ℕ, zero, suc, _+_, _-_, _≤_, _<_}
-use mathlib.Core.Path.{_≡_, refl, ap, sym, _∙_, subst}
+use mathlib.Core.Path.{_≡_, ap, sym, _∙_, subst}
 use mathlib.Core.List.{List}
 use native.Mathlib.Omega.{arith}
 use native.Mathlib.Numerals.{add-one, sub-one}
@@ -11,7 +11,7 @@ use Rattle.rast.specs.Tree.{Ty, Tys, TypeApp, TupleType, FnType, nil, cons}
 use Rattle.encoding.specs.declared.Head.{Head}
 use Rattle.encoding.specs.declared.Head.the-variants.{Plain, Name, FromPath, Apply, Ref, RefMut, Impl, Dyn, Tuple, Function, Both, ArrayOf, Synonym, Meta}
 use Rattle.encoding.specs.Tables.{nameBytes, nameCount}
-use Rattle.encoding.specs.Reading.{Reading, got, stop, _>>=_}
+use Rattle.encoding.specs.Reading.{Reading, got, stop}
 use Rattle.encoding.specs.Heads.{readHead, kids}
 use Rattle.encoding.specs.Types.{readTypes, readNode, readType, typeAt}
 use Rattle.encoding.proofs.Tables.{impossible}

@@ -1,7 +1,7 @@
 -- A type up to the type that ends it, turn by turn; and a list of types, one by one.
-use Prim.Native.Nat.{ℕ, zero, suc, _+_, _-_, _≤_, _<_}
+use Prim.Native.Nat.{ℕ, _+_, _-_, _≤_, _<_}
 use mathlib.Core.Path.{_≡_, refl, ap, sym, _∙_, subst}
-use mathlib.Core.List.{List, [], _∷_, _++_, append-assoc, append-nil}
+use mathlib.Core.List.{List, [], _++_, append-assoc, append-nil}
 use native.Mathlib.Omega.{arith}
 use lib.ListN.{length}
 use Rattle.rast.specs.Bytes.{Bytes, ascii}
@@ -13,12 +13,12 @@ use Rattle.encoding.specs.declared.Head.{Head}
 use Rattle.encoding.specs.Reading.{Reading, got, _>>=_}
 use Rattle.encoding.specs.Types.{readTypes, typeAt}
 use Rattle.encoding.proofs.Tables.{impossible}
-use Rattle.encoding.proofs.Types.{Made₂, made-got, made₂-got, type-lies}
+use Rattle.encoding.proofs.Types.{Made₂, made-got, type-lies}
 use Rattle.writing.specs.declared.Spot.{Spot}
 use Rattle.writing.specs.declared.Part.{Part}
 use Rattle.writing.specs.declared.Part.the-variants.{Rest, Done}
 use Rattle.writing.specs.Written.{Room, Written, Front, PartWritten, front, whole, nodeAt}
-use Rattle.writing.proofs.Laws.{room-after, room-last, room-next, At, written-at, done}
+use Rattle.writing.proofs.Laws.{room-after, room-last, room-next, written-at}
 use Rattle.writing.proofs.Accepted.{type-here}
 use Rattle.writing.proofs.Skipping.{first-of}
 

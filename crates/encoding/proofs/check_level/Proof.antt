@@ -1,7 +1,5 @@
 use borrow.Author.Tests.{lt-ltb, le-ltb}
 use Rattle.encoding.specs.Tables.{checkLevel}
-use native.Mathlib.Omega.{arith}
-use borrow.Author.Needs.{needs}
 use Rattle.encoding.proofs.check_level.Statement.{statement}
 use Rattle.encoding.proofs.check_level.Tie as tie
 

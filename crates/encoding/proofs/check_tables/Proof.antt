@@ -1,6 +1,5 @@
 use borrow.Author.Tests.{lt-ltb, le-ltb}
 use Rattle.encoding.specs.Tables.{checkTables, overlong}
-use native.Mathlib.Omega.{arith}
 use borrow.Author.Needs.{needs}
 use Rattle.encoding.proofs.check_tables.Statement.{statement}
 use Rattle.encoding.proofs.check_tables.Tie as tie

@@ -1,7 +1,5 @@
 use borrow.Author.Tests.{ne-eqb}
 use Rattle.encoding.specs.Scans.{headOf}
-use native.Mathlib.Omega.{arith}
-use borrow.Author.Needs.{needs}
 use Rattle.encoding.proofs.head_of.Statement.{statement}
 use Rattle.encoding.proofs.head_of.Tie as tie
 

@@ -1,4 +1,3 @@
-use native.Mathlib.Omega.{arith}
 use borrow.Author.Needs.{needs}
 use Rattle.encoding.proofs.kids_of.Statement.{statement}
 use Rattle.encoding.proofs.kids_of.Tie as tie

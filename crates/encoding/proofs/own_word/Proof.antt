@@ -1,4 +1,3 @@
-use native.Mathlib.Omega.{arith}
 use borrow.Author.Needs.{needs}
 use Rattle.encoding.proofs.own_word.Statement.{statement}
 use Rattle.encoding.proofs.own_word.Tie as tie

@@ -1,8 +1,8 @@
 use Prim.Native.Nat.{_+_}
-use mathlib.Core.Path.{ap, _∙_}
+use mathlib.Core.Path.{_∙_}
 use Rattle.encoding.specs.Reading.{readBelow, readWord}
 use Rattle.encoding.specs.Heads.{headAfter}
-use Rattle.encoding.specs.Scans.{headOf, headScan}
+use Rattle.encoding.specs.Scans.{headOf}
 use Rattle.encoding.proofs.Heads.{head-worded, head-other, past-six}
 use native.Mathlib.Omega.{arith}
 use borrow.Author.Needs.{needs}

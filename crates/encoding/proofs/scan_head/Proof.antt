@@ -1,7 +1,6 @@
 use Prim.Native.Nat.{_+_}
 use lib.ListN.{getD}
 use Rattle.encoding.proofs.Heads.{head-at, head-end, head-plain}
-use native.Mathlib.Omega.{arith}
 use borrow.Author.Needs.{needs}
 use Rattle.encoding.proofs.scan_head.Statement.{statement}
 use Rattle.encoding.proofs.scan_head.Tie as tie

@@ -1,7 +1,6 @@
 use Rattle.encoding.specs.Reading.{readBelow, readWord, readNames}
 use Rattle.encoding.specs.Heads.{readPath}
 use Rattle.encoding.proofs.Reading.{word-got, word-stop, names-got, scan-stop}
-use native.Mathlib.Omega.{arith}
 use borrow.Author.Needs.{needs}
 use Rattle.encoding.proofs.scan_path.Statement.{statement}
 use Rattle.encoding.proofs.scan_path.Tie as tie

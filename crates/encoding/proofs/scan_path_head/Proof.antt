@@ -1,6 +1,5 @@
 use Rattle.encoding.specs.Heads.{readPath, pathHead}
 use Rattle.encoding.proofs.Reading.{path-got, path-stop}
-use native.Mathlib.Omega.{arith}
 use borrow.Author.Needs.{needs}
 use Rattle.encoding.proofs.scan_path_head.Statement.{statement}
 use Rattle.encoding.proofs.scan_path_head.Tie as tie

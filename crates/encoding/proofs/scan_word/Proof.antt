@@ -1,5 +1,4 @@
 use Rattle.encoding.proofs.Reading.{word-in, word-end}
-use native.Mathlib.Omega.{arith}
 use borrow.Author.Needs.{needs}
 use Rattle.encoding.proofs.scan_word.Statement.{statement}
 use Rattle.encoding.proofs.scan_word.Tie as tie

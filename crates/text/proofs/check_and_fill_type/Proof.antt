@@ -3,7 +3,6 @@ use Rattle.encoding.specs.Refusals.{unless, mapAnswer}
 use Rattle.encoding.specs.Types.{typeOf}
 use Rattle.text.specs.Calls.{filled}
 use Rattle.encoding.proofs.Tables.{tables-passed}
-use native.Mathlib.Omega.{arith}
 use borrow.Author.Needs.{needs}
 use Rattle.text.proofs.check_and_fill_type.Statement.{statement}
 use Rattle.text.proofs.check_and_fill_type.Tie as tie

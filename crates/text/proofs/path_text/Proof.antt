@@ -1,7 +1,6 @@
 use mathlib.Core.Path.{sym, _∙_}
 use Rattle.encoding.specs.Refusals.{unless}
 use Rattle.text.specs.Calls.{filled, pathText}
-use native.Mathlib.Omega.{arith}
 use borrow.Author.Needs.{needs}
 use Rattle.text.proofs.path_text.Statement.{statement}
 use Rattle.text.proofs.path_text.Tie as tie

@@ -55,12 +55,8 @@ use Rattle.output.proofs.put.Reads as put-reads
 use Rattle.writing.proofs.put_size.Reads as put-size-reads
 use Rattle.writing.proofs.skip_type.Reads as skip-type-reads
 use Rattle.writing.proofs.write_leaf.Reads as write-leaf-reads
-use Rattle.writing.proofs.+write_apply+write_array+write_head+write_inputs+write_left+write_list+write_part+write_synonym+write_tuple+write_type.{
-  statement,
-}
-use Rattle.writing.proofs.+write_apply+write_array+write_head+write_inputs+write_left+write_list+write_part+write_synonym+write_tuple+write_type.Tie.{
-  close,
-}
+use Rattle.writing.proofs.+write_apply+write_array+write_head+write_inputs+write_left+write_list+write_part+write_synonym+write_tuple+write_type.{statement}
+use Rattle.writing.proofs.+write_apply+write_array+write_head+write_inputs+write_left+write_list+write_part+write_synonym+write_tuple+write_type.Tie.{close}
 
 abbrev μ-write-apply : Measures 4 write-apply-kinds.ps ℕ
 μ-write-apply κs a = 5 * (length (a .0 .now) - a .1 .1 .1 .0) + 4

@@ -2,7 +2,6 @@ use Rattle.rast.specs.Bytes.{ascii}
 use Rattle.rast.specs.ToString.{Primitive·ToString}
 use Rattle.encoding.specs.Types.{primitives}
 use Rattle.writing.proofs.Paths.{last-kind}
-use native.Mathlib.Omega.{arith}
 use borrow.Author.Needs.{needs}
 use Rattle.writing.proofs.put_primitive.Statement.{statement}
 use Rattle.writing.proofs.put_primitive.Tie as tie

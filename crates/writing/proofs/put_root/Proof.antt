@@ -3,7 +3,6 @@ use Rattle.rast.specs.ToString.{Path·ToString}
 use Rattle.encoding.specs.Types.{rootOf}
 use Rattle.output.proofs.Laws.{wrote-nothing}
 use Rattle.writing.proofs.Paths.{root-self}
-use native.Mathlib.Omega.{arith}
 use borrow.Author.Needs.{needs}
 use Rattle.writing.proofs.put_root.Statement.{statement}
 use Rattle.writing.proofs.put_root.Tie as tie

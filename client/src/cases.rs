@@ -1,0 +1,121 @@
+//! Small cases with answers worked out by hand from the papers: their marked cases, and what is
+//! easily got wrong. The reference and the library are held to the same ones.
+
+use crate::generate::Names;
+use crate::EncodingBuf;
+
+pub use rebuild::{declaration_rebuilds, initializations, type_rebuilds};
+pub use walks::{declaration_visits, parts, shapes, type_visits, PartCase, ShapeCase};
+
+mod rebuild;
+mod walks;
+
+/// The names that the cases use: the papers' own four as 16 to 19, then those that shapes look at,
+/// bytes of fixed names among them.
+pub fn names() -> Names {
+    Names::of(&[
+        b"Gauge",         // 16
+        b"Offset in mm.", // 17
+        b"mm",            // 18
+        b"id",            // 19
+        b"Array",         // 20
+        b"Array2",        // 21
+        b"Arra",          // 22
+        b"Set",           // 23
+        b"Sequence",      // 24
+        b"Multiset",      // 25
+        b"Map",           // 26
+        b"std",           // 27
+        b"rc",            // 28
+        b"Rc",            // 29
+        b"dafny_runtime", // 30
+        b"",              // 31
+        b"Object",        // 32
+        b"array2",        // 33
+        b"Sets",          // 34
+        b"Ptr",           // 35
+    ])
+}
+
+/// An encoding of these words with the names of the cases.
+pub fn encoded(words: &[u32]) -> EncodingBuf {
+    names().with_words(words)
+}
+
+/// `count` times `&`, then these words.
+pub fn borrows_then(count: usize, rest: &[u32]) -> Vec<u32> {
+    let mut words = vec![15; count];
+    words.extend(rest);
+    words
+}
+
+/// The struct of the papers' example.
+pub const GAUGE: [u32; 14] = [25, 17, 0, 16, 0, 0, 2, 0, 18, 7, 1, 19, 15, 0];
+
+/// A call that writes words.
+#[derive(Clone, Debug)]
+pub struct WordCase {
+    pub words: Vec<u32>,
+    pub rules: Vec<u32>,
+    pub buffer: usize,
+    /// The words at the front of the buffer, or the number of the refusal.
+    pub wanted: Result<Vec<u32>, u32>,
+}
+
+impl WordCase {
+    /// What the buffer holds after the call if it held `before`.
+    ///
+    /// `zeroed` says whether refusals 5 and 8 come from rebuilding, which leaves zeros behind; a
+    /// tree that is too deep to begin with does not.
+    pub fn buffer_after(&self, before: &[u32], zeroed: bool) -> Vec<u32> {
+        match &self.wanted {
+            Ok(words) => [words, &before[words.len()..]].concat(),
+            Err(5 | 8) if zeroed => vec![0; before.len()],
+            Err(_) => before.to_vec(),
+        }
+    }
+}
+
+/// An Object, a Ptr and a MaybeUninit, each without its argument.
+pub const OBJECT_OF: [u32; 7] = [14, 1, 13, 0, 2, 10, 11];
+pub const PTR_OF: [u32; 7] = [14, 1, 13, 0, 2, 10, 12];
+pub const MAYBE_UNINIT_OF: [u32; 8] = [14, 1, 13, 0, 3, 1, 8, 9];
+/// `Array2`, without its argument.
+pub const ARRAY2_OF: [u32; 7] = [14, 1, 13, 0, 2, 10, 21];
+
+/// Words one after the other.
+pub fn joined(parts: &[&[u32]]) -> Vec<u32> {
+    parts.concat()
+}
+
+fn rebuilt(words: &[u32], rules: &[u32], wanted: &[u32]) -> WordCase {
+    WordCase {
+        words: words.to_vec(),
+        rules: rules.to_vec(),
+        buffer: 100,
+        wanted: Ok(wanted.to_vec()),
+    }
+}
+
+fn refused(words: &[u32], rules: &[u32], number: u32) -> WordCase {
+    WordCase {
+        words: words.to_vec(),
+        rules: rules.to_vec(),
+        buffer: 3,
+        wanted: Err(number),
+    }
+}
+
+/// The case with just enough room, and with a word less, which is refused.
+fn with_least_room(case: &WordCase, least: usize) -> [WordCase; 2] {
+    let enough = WordCase {
+        buffer: least,
+        ..case.clone()
+    };
+    let too_little = WordCase {
+        buffer: least - 1,
+        wanted: Err(8),
+        ..case.clone()
+    };
+    [enough, too_little]
+}

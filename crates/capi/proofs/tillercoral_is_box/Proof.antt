@@ -1,0 +1,22 @@
+use Rattle.capi.specs.Numbers.{shapeNumber}
+use mathlib.Core.Path.{_∙_, ap}
+use borrow.Author.Needs.{needs}
+use Rattle.capi.proofs.tillercoral_is_box.Statement.{statement}
+use Rattle.capi.proofs.tillercoral_is_box.Tie as tie
+
+is-box-requires : tie.Need-is-box-requires
+is-box-requires c κs = search needs
+
+shape-number-requires : tie.Need-shape-number-requires
+shape-number-requires c κs = search needs
+
+returns : tie.Need-returns
+returns c = c .shape-number .ensures ∙ ap shapeNumber (c .before .is-box .ensures)
+
+pub tillercoral-is-box-spec : {M : Type 1} → statement M
+tillercoral-is-box-spec =
+    tie.close
+    (tie.spec
+    is-box-requires
+    shape-number-requires
+    returns)

@@ -1,0 +1,22 @@
+use Rattle.capi.specs.Numbers.{shapeNumber}
+use mathlib.Core.Path.{_∙_, ap}
+use borrow.Author.Needs.{needs}
+use Rattle.capi.proofs.tillercoral_is_rc_or_borrowed_rc.Statement.{statement}
+use Rattle.capi.proofs.tillercoral_is_rc_or_borrowed_rc.Tie as tie
+
+is-rc-or-borrowed-rc-requires : tie.Need-is-rc-or-borrowed-rc-requires
+is-rc-or-borrowed-rc-requires c κs = search needs
+
+shape-number-requires : tie.Need-shape-number-requires
+shape-number-requires c κs = search needs
+
+returns : tie.Need-returns
+returns c = c .shape-number .ensures ∙ ap shapeNumber (c .before .is-rc-or-borrowed-rc .ensures)
+
+pub tillercoral-is-rc-or-borrowed-rc-spec : {M : Type 1} → statement M
+tillercoral-is-rc-or-borrowed-rc-spec =
+    tie.close
+    (tie.spec
+    is-rc-or-borrowed-rc-requires
+    shape-number-requires
+    returns)

@@ -1,0 +1,27 @@
+use Rattle.capi.proofs.Small.{part-small}
+use Rattle.capi.specs.Numbers.{partNumber}
+use Rattle.shapes.proofs.Parts.{pointer-keeps}
+use Rattle.shapes.specs.Parts.{ObjectOrPointerUnderlying}
+use mathlib.Core.Path.{_∙_, ap}
+use borrow.Author.Needs.{needs}
+use Rattle.capi.proofs.tillercoral_object_or_pointer_underlying.Statement.{statement}
+use Rattle.capi.proofs.tillercoral_object_or_pointer_underlying.Tie as tie
+
+object-or-pointer-underlying-at-requires : tie.Need-object-or-pointer-underlying-at-requires
+object-or-pointer-underlying-at-requires c κs = search needs
+
+part-number-requires : tie.Need-part-number-requires
+part-number-requires c κs =
+    let a = c .before .before .before .before .args in
+    part-small (a .words .now) (a .pairs .now) (a .text .now) ObjectOrPointerUnderlying (pointer-keeps (a .words .now) (a .pairs .now) (a .text .now)) (c .object-or-pointer-underlying-at .ensures)
+
+returns : tie.Need-returns
+returns c = c .part-number .ensures ∙ ap partNumber (c .before .object-or-pointer-underlying-at .ensures)
+
+pub tillercoral-object-or-pointer-underlying-spec : {M : Type 1} → statement M
+tillercoral-object-or-pointer-underlying-spec =
+    tie.close
+    (tie.spec
+    object-or-pointer-underlying-at-requires
+    part-number-requires
+    returns)

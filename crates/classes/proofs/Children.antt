@@ -1,0 +1,264 @@
+-- The types in an accepted type, by the word that stands there, and where the parts of an accepted type stand.
+use Prim.Native.Nat.{ℕ, zero, suc, _+_, _%_, _<_}
+use mathlib.Core.Path.{_≡_, refl, ap, sym, _∙_, subst}
+use mathlib.Core.Bool.{Bool, true, false}
+use mathlib.Core.List.{List}
+use mathlib.Core.Option.{Option, some, none}
+use lib.Dec.{eqb, leb}
+use lib.ListN.{length, getD}
+use Rattle.rast.specs.Bytes.{Bytes}
+use Rattle.rast.specs.Tree.{Ty, Tys, Primitive, TIdentifier, TypeFromPath, TypeApp, Borrowed, BorrowedMut, ImplType, DynType, TupleType, FnType, IntersectionType, Array, TSynonym, TMetaData, nil, cons}
+use Rattle.encoding.specs.declared.Head.the-variants.{Meta}
+use Rattle.encoding.specs.Tables.{nameBytes}
+use Rattle.encoding.specs.Heads.{headAfter}
+use Rattle.encoding.specs.Reading.{Reading, got}
+use Rattle.encoding.specs.Types.{sizeOf, readTypes, readNode, typeAt}
+use Rattle.encoding.proofs.Tables.{impossible}
+use Rattle.encoding.proofs.Types.{Made, Made₂, made-got, made₂-got}
+use Rattle.encoding.proofs.TypeKinds.{type-kind}
+use Rattle.writing.proofs.Accepted.{ref-head, mut-head, impl-head, dyn-head, both-head, synonym-head, apply-head, array-head, by-below}
+use Rattle.trees.specs.Encode.{words}
+use Rattle.trees.specs.Places.{Place, place}
+use Rattle.trees.proofs.Renaming.{type-words}
+use Rattle.classes.specs.Steps.{when, andThen, orElse, typeAtIndex, argumentAt, argumentOf, dynAt, dynOf, elementAt, elementOf}
+
+-- ---- by the word
+
+module _ (ws pairs : List ℕ) (text : Bytes) (at : ℕ) {t : Ty Bytes} {n : ℕ} (e : typeAt ws pairs text at ≡ got t n) where
+  pub ref-of : getD ws at 0 ≡ 15 → Made (typeAt ws pairs text (at + 1)) Borrowed t n
+  unfolding readNode
+  ref-of h = made-got (typeAt ws pairs text (at + 1)) Borrowed (ref-head ws pairs text at e h)
+
+  pub mut-of : getD ws at 0 ≡ 16 → Made (typeAt ws pairs text (at + 1)) BorrowedMut t n
+  unfolding readNode
+  mut-of h = made-got (typeAt ws pairs text (at + 1)) BorrowedMut (mut-head ws pairs text at e h)
+
+  pub impl-of : getD ws at 0 ≡ 17 → Made (typeAt ws pairs text (at + 1)) ImplType t n
+  unfolding readNode
+  impl-of h = made-got (typeAt ws pairs text (at + 1)) ImplType (impl-head ws pairs text at e h)
+
+  pub dyn-of : getD ws at 0 ≡ 18 → Made (typeAt ws pairs text (at + 1)) DynType t n
+  unfolding readNode
+  dyn-of h = made-got (typeAt ws pairs text (at + 1)) DynType (dyn-head ws pairs text at e h)
+
+  pub both-of : getD ws at 0 ≡ 21 → Made₂ (typeAt ws pairs text (at + 1)) (typeAt ws pairs text) IntersectionType t n
+  unfolding readNode
+  both-of h = made₂-got (typeAt ws pairs text (at + 1)) (typeAt ws pairs text) IntersectionType (both-head ws pairs text at e h)
+
+  pub synonym-of : getD ws at 0 ≡ 23 → Made₂ (typeAt ws pairs text (at + 1)) (typeAt ws pairs text) TSynonym t n
+  unfolding readNode
+  synonym-of h = made₂-got (typeAt ws pairs text (at + 1)) (typeAt ws pairs text) TSynonym (synonym-head ws pairs text at e h)
+
+  -- the type that metadata makes of d
+  abbrev pub flagged : Ty Bytes → Ty Bytes
+  flagged d = TMetaData d (eqb (getD ws (at + 1) 0 % 2) 1) (leb 2 (getD ws (at + 1) 0))
+
+  pub meta-of : getD ws at 0 ≡ 24 → (at + 1 < length ws) × Made (typeAt ws pairs text (at + 2)) flagged t n
+  unfolding headAfter readNode
+  meta-of h =
+      let k = by-below ws pairs text at e 4 Meta (rw h) in
+      (k .0, made-got (typeAt ws pairs text (at + 2)) flagged (k .2))
+
+  abbrev pub sized : Ty Bytes → Ty Bytes
+  sized u = Array u (sizeOf (nameBytes pairs text) (getD ws (at + 1) 0))
+
+  pub array-of : getD ws at 0 ≡ 22 → (at + 1 < length ws) × Made (typeAt ws pairs text (at + 2)) sized t n
+  unfolding readNode
+  array-of h =
+      let k = array-head ws pairs text at e h in
+      (k .0, made-got (typeAt ws pairs text (at + 2)) sized (k .2))
+
+  pub apply-of : getD ws at 0 ≡ 14
+      → (at + 1 < length ws) × Made₂ (typeAt ws pairs text (at + 2)) (readTypes (typeAt ws pairs text) (getD ws (at + 1) 0)) TypeApp t n
+  unfolding readNode
+  apply-of h =
+      let k = apply-head ws pairs text at e h in
+      (k .0, made₂-got (typeAt ws pairs text (at + 2)) (readTypes (typeAt ws pairs text) (getD ws (at + 1) 0)) TypeApp (k .1))
+
+-- ---- where parts stand
+
+-- the type of the place is read where it stands
+pub record Standing (ws pairs : List ℕ) (text : Bytes) (p : Place Bytes) : Type 0 where
+  pub end : ℕ
+  pub reads : typeAt ws pairs text (p .at) ≡ got (p .tpe) end
+
+-- f leads from a type that stands where it is said to another
+pub record Keeps (ws pairs : List ℕ) (text : Bytes) (f : Place Bytes → Option (Place Bytes)) : Type 0 where
+  pub keeps : (p q : Place Bytes) → Standing ws pairs text p → f p ≡ some q → Standing ws pairs text q
+
+pub some-same : {A : Type 0} {a b : A} → some a ≡ some b → a ≡ b
+some-same e = cc
+
+module _ (ws pairs : List ℕ) (text : Bytes) where
+  abbrev again : ℕ → Reading (Ty Bytes)
+  again = typeAt ws pairs text
+
+  pub stand-here : (p : ℕ) {t : Ty Bytes} {n : ℕ} → again p ≡ got t n → Standing ws pairs text (place p t)
+  stand-here p {t} {n} e = record { end = n; reads = e }
+
+  stand-as : {p q : Place Bytes} → p ≡ q → Standing ws pairs text p → Standing ws pairs text q
+  stand-as e s = subst (Standing ws pairs text) e s
+
+  -- ---- a type below, by the type above it
+
+  module _ (p : ℕ) {n : ℕ} where
+    pub ref-below : {u : Ty Bytes} → again p ≡ got (Borrowed u) n → again (p + 1) ≡ got u n
+    ref-below {u} e =
+        let m = ref-of ws pairs text p e (sym (type-kind ws pairs text p e)) in
+        let i : m .value ≡ u = cc (m .made) in
+        m .reads ∙ ap (λ v. got v n) i
+
+    pub mut-below : {u : Ty Bytes} → again p ≡ got (BorrowedMut u) n → again (p + 1) ≡ got u n
+    mut-below {u} e =
+        let m = mut-of ws pairs text p e (sym (type-kind ws pairs text p e)) in
+        let i : m .value ≡ u = cc (m .made) in
+        m .reads ∙ ap (λ v. got v n) i
+
+    pub impl-below : {u : Ty Bytes} → again p ≡ got (ImplType u) n → again (p + 1) ≡ got u n
+    impl-below {u} e =
+        let m = impl-of ws pairs text p e (sym (type-kind ws pairs text p e)) in
+        let i : m .value ≡ u = cc (m .made) in
+        m .reads ∙ ap (λ v. got v n) i
+
+    pub dyn-below : {u : Ty Bytes} → again p ≡ got (DynType u) n → again (p + 1) ≡ got u n
+    dyn-below {u} e =
+        let m = dyn-of ws pairs text p e (sym (type-kind ws pairs text p e)) in
+        let i : m .value ≡ u = cc (m .made) in
+        m .reads ∙ ap (λ v. got v n) i
+
+    pub display-below : {d b : Ty Bytes} → again p ≡ got (TSynonym d b) n → again (p + 1) ≡ got d (p + 1 + words d)
+    display-below {d} {b} e =
+        let m = synonym-of ws pairs text p e (sym (type-kind ws pairs text p e)) in
+        let i : m .left ≡ d = cc (m .made) in
+        let r : again (p + 1) ≡ got d (m .middle) = m .reads ∙ ap (λ v. got v (m .middle)) i in
+        r ∙ ap (got d) (type-words ws pairs text (p + 1) r)
+
+    pub base-below : {d b : Ty Bytes} → again p ≡ got (TSynonym d b) n → again (p + 1 + words d) ≡ got b n
+    base-below {d} {b} e =
+        let m = synonym-of ws pairs text p e (sym (type-kind ws pairs text p e)) in
+        let i : m .left ≡ d = cc (m .made) in
+        let j : m .right ≡ b = cc (m .made) in
+        let o : m .middle ≡ p + 1 + words d = type-words ws pairs text (p + 1) (m .reads ∙ ap (λ v. got v (m .middle)) i) in
+        rw (sym o) (m .reads₂ ∙ ap (λ v. got v n) j)
+
+    pub meta-below : {d : Ty Bytes} {c o : Bool} → again p ≡ got (TMetaData d c o) n → again (p + 2) ≡ got d n
+    meta-below {d} e =
+        let m = meta-of ws pairs text p e (sym (type-kind ws pairs text p e)) .1 in
+        let i : m .value ≡ d = cc (m .made) in
+        m .reads ∙ ap (λ v. got v n) i
+
+    pub element-below : {u : Ty Bytes} {s : Option Bytes} → again p ≡ got (Array u s) n → again (p + 2) ≡ got u n
+    element-below {u} e =
+        let m = array-of ws pairs text p e (sym (type-kind ws pairs text p e)) .1 in
+        let i : m .value ≡ u = cc (m .made) in
+        m .reads ∙ ap (λ v. got v n) i
+
+  types-below : (k p : ℕ) (ts : Tys Bytes) (n i : ℕ) (q : Place Bytes) → readTypes again k p ≡ got ts n → typeAtIndex i p ts ≡ some q → Standing ws pairs text q
+  unfolding readTypes typeAtIndex
+  types-below zero p ts n i q e d = let z : ts ≡ nil = cc in none-there ts z d
+    where
+      none-there : (us : Tys Bytes) → us ≡ nil → typeAtIndex i p us ≡ some q → Standing ws pairs text q
+      none-there nil z d = impossible (cc)
+      none-there (cons u us) z d = impossible (cc)
+  types-below (suc k) p nil n i q e d = impossible (cc)
+  types-below (suc k) p (cons t ts) n zero q e d =
+      let m = made₂-got (again p) (readTypes again k) cons e in
+      let j : m .left ≡ t = cc (m .made) in
+      stand-as (some-same d) (stand-here p (m .reads ∙ ap (λ v. got v (m .middle)) j))
+  types-below (suc k) p (cons t ts) n (suc i) q e d =
+      let m = made₂-got (again p) (readTypes again k) cons e in
+      let j : m .left ≡ t = cc (m .made) in
+      let l : m .right ≡ ts = cc (m .made) in
+      let o : m .middle ≡ p + words t = type-words ws pairs text p (m .reads ∙ ap (λ v. got v (m .middle)) j) in
+      types-below k (p + words t) ts n i q (rw (sym o) (m .reads₂ ∙ ap (λ v. got v n) l)) d
+
+  pub arguments-below : (p : ℕ) {n : ℕ} {b : Ty Bytes} {ts : Tys Bytes} → again p ≡ got (TypeApp b ts) n
+      → (again (p + 2) ≡ got b (p + 2 + words b)) × (readTypes again (getD ws (p + 1) 0) (p + 2 + words b) ≡ got ts n)
+  arguments-below p {n} {b} {ts} e =
+      let m = apply-of ws pairs text p e (sym (type-kind ws pairs text p e)) .1 in
+      let i : m .left ≡ b = cc (m .made) in
+      let j : m .right ≡ ts = cc (m .made) in
+      let r : again (p + 2) ≡ got b (m .middle) = m .reads ∙ ap (λ v. got v (m .middle)) i in
+      let o : m .middle ≡ p + 2 + words b = type-words ws pairs text (p + 2) r in
+      (r ∙ ap (got b) o, rw (sym o) (m .reads₂ ∙ ap (λ v. got v n) j))
+
+  argument-stands : (i p : ℕ) (t : Ty Bytes) (n : ℕ) (q : Place Bytes) → again p ≡ got t n → argumentAt i p t ≡ some q → Standing ws pairs text q
+  unfolding argumentAt
+  argument-stands i p (Primitive x) n q e d = impossible (cc)
+  argument-stands i p (TIdentifier x) n q e d = impossible (cc)
+  argument-stands i p (TypeFromPath x) n q e d = impossible (cc)
+  argument-stands i p (TypeApp b ts) n q e d = types-below (getD ws (p + 1) 0) (p + 2 + words b) ts n i q (arguments-below p e .1) d
+  argument-stands i p (Borrowed t) n q e d = impossible (cc)
+  argument-stands i p (BorrowedMut t) n q e d = impossible (cc)
+  argument-stands i p (ImplType t) n q e d = impossible (cc)
+  argument-stands i p (DynType t) n q e d = impossible (cc)
+  argument-stands i p (TupleType ts) n q e d = impossible (cc)
+  argument-stands i p (FnType ts t) n q e d = impossible (cc)
+  argument-stands i p (IntersectionType l r) n q e d = impossible (cc)
+  argument-stands i p (Array t s) n q e d = impossible (cc)
+  argument-stands i p (TSynonym a b) n q e d = impossible (cc)
+  argument-stands i p (TMetaData a c o) n q e d = impossible (cc)
+
+  pub argument-keeps : (i : ℕ) → Keeps ws pairs text (argumentOf i)
+  unfolding argumentOf
+  argument-keeps i = record { keeps = λ p q s e. argument-stands i (p .at) (p .tpe) (s .end) q (s .reads) e }
+
+  dyn-stands : (p : ℕ) (t : Ty Bytes) (n : ℕ) (q : Place Bytes) → again p ≡ got t n → dynAt p t ≡ some q → Standing ws pairs text q
+  unfolding dynAt
+  dyn-stands p (Primitive x) n q e d = impossible (cc)
+  dyn-stands p (TIdentifier x) n q e d = impossible (cc)
+  dyn-stands p (TypeFromPath x) n q e d = impossible (cc)
+  dyn-stands p (TypeApp b ts) n q e d = impossible (cc)
+  dyn-stands p (Borrowed t) n q e d = impossible (cc)
+  dyn-stands p (BorrowedMut t) n q e d = impossible (cc)
+  dyn-stands p (ImplType t) n q e d = impossible (cc)
+  dyn-stands p (DynType t) n q e d = stand-as (some-same d) (stand-here (p + 1) (dyn-below p e))
+  dyn-stands p (TupleType ts) n q e d = impossible (cc)
+  dyn-stands p (FnType ts t) n q e d = impossible (cc)
+  dyn-stands p (IntersectionType l r) n q e d = impossible (cc)
+  dyn-stands p (Array t s) n q e d = impossible (cc)
+  dyn-stands p (TSynonym a b) n q e d = impossible (cc)
+  dyn-stands p (TMetaData a c o) n q e d = impossible (cc)
+
+  pub dyn-keeps : Keeps ws pairs text dynOf
+  unfolding dynOf
+  dyn-keeps = record { keeps = λ p q s e. dyn-stands (p .at) (p .tpe) (s .end) q (s .reads) e }
+
+  element-stands : (p : ℕ) (t : Ty Bytes) (n : ℕ) (q : Place Bytes) → again p ≡ got t n → elementAt p t ≡ some q → Standing ws pairs text q
+  unfolding elementAt
+  element-stands p (Primitive x) n q e d = impossible (cc)
+  element-stands p (TIdentifier x) n q e d = impossible (cc)
+  element-stands p (TypeFromPath x) n q e d = impossible (cc)
+  element-stands p (TypeApp b ts) n q e d = impossible (cc)
+  element-stands p (Borrowed t) n q e d = impossible (cc)
+  element-stands p (BorrowedMut t) n q e d = impossible (cc)
+  element-stands p (ImplType t) n q e d = impossible (cc)
+  element-stands p (DynType t) n q e d = impossible (cc)
+  element-stands p (TupleType ts) n q e d = impossible (cc)
+  element-stands p (FnType ts t) n q e d = impossible (cc)
+  element-stands p (IntersectionType l r) n q e d = impossible (cc)
+  element-stands p (Array t s) n q e d = stand-as (some-same d) (stand-here (p + 2) (element-below p e))
+  element-stands p (TSynonym a b) n q e d = impossible (cc)
+  element-stands p (TMetaData a c o) n q e d = impossible (cc)
+
+  pub element-keeps : Keeps ws pairs text elementOf
+  unfolding elementOf
+  element-keeps = record { keeps = λ p q s e. element-stands (p .at) (p .tpe) (s .end) q (s .reads) e }
+
+  -- ---- compositions
+
+  pub when-keeps : (b : Bool) (x : Option (Place Bytes)) (q : Place Bytes) → (x ≡ some q → Standing ws pairs text q) → when b x ≡ some q → Standing ws pairs text q
+  unfolding when
+  when-keeps true x q h e = h e
+  when-keeps false x q h e = impossible (cc)
+
+  pub then-keeps : (x : Option (Place Bytes)) (f : Place Bytes → Option (Place Bytes)) (q : Place Bytes) → ((p : Place Bytes) → x ≡ some p → Standing ws pairs text p) → Keeps ws pairs text f
+      → andThen x f ≡ some q → Standing ws pairs text q
+  unfolding andThen
+  then-keeps none f q h k e = impossible (cc)
+  then-keeps (some p) f q h k e = k .keeps p q (h p refl) e
+
+  pub else-keeps : (x y : Option (Place Bytes)) (q : Place Bytes) → (x ≡ some q → Standing ws pairs text q) → (y ≡ some q → Standing ws pairs text q) → orElse x y ≡ some q → Standing ws pairs text q
+  unfolding orElse
+  else-keeps none y q h k e = k e
+  else-keeps (some p) y q h k e = h e

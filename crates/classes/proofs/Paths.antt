@@ -1,0 +1,298 @@
+-- A path by the words that stand there: equal paths have the same root and as many names.
+use Prim.Native.Nat.{ℕ, zero, suc, _+_, _-_, _≤_, _<_}
+use mathlib.Core.Path.{_≡_, refl, ap, sym, _∙_}
+use mathlib.Core.Bool.{Bool, true, false, Bool·beq}
+use mathlib.Core.List.{List, [], _∷_, map}
+use native.Mathlib.Omega.{arith}
+use borrow.Author.Tests.{le-leb, lt-leb}
+use lib.Dec.{eqb}
+use lib.ListN.{length, getD, take, drop, length-take, length-drop, length-map}
+use lib.Seq.{drop-cons}
+use Rattle.rast.specs.Bytes.{Bytes, ascii, same, begins, _and_, among}
+use Rattle.rast.specs.Tree.{Path, Global, Crate, Self, PMemberSelect, MSels}
+use Rattle.encoding.specs.declared.PathAt.{PathAt}
+use Rattle.encoding.specs.Refusals.{pick}
+use Rattle.encoding.specs.Tables.{fixedNames, nameBytes, nameCount}
+use Rattle.encoding.specs.Heads.{InsidePath}
+use Rattle.encoding.specs.Types.{rootOf, pathOf}
+use Rattle.encoding.proofs.Tables.{impossible, and-left, and-right, same-eq, everyBelow, every-at, name-fixed}
+use Rattle.encoding.proofs.Names.{and-no, and-yes, and-false, beq-eq}
+use Rattle.trees.specs.Encode.{rootWord}
+use Rattle.classes.specs.declared.Class.{Class}
+use Rattle.classes.specs.declared.Class.the-variants.{Counted, Placebo, ObjectClass, PtrClass, ArrayClass, Collection, MapClass}
+use Rattle.classes.specs.Asked.{InRuntime}
+use Rattle.classes.specs.Classes.{isSet, inClass, memberIn}
+use Rattle.classes.specs.Paths.{samePath, std, inStd, dafny_runtime, inRuntime, runtimeMember, RcPath, ArcPath, MaybePlaceboPath, ObjectPath, PtrPath}
+
+-- ---- equal paths
+
+path-eq : (p q : Path Bytes) → samePath p q ≡ true → p ≡ q
+unfolding samePath
+path-eq Global Global e = refl
+path-eq Global Crate e = impossible (cc)
+path-eq Global Self e = impossible (cc)
+path-eq Global (PMemberSelect q y) e = impossible (cc)
+path-eq Crate Global e = impossible (cc)
+path-eq Crate Crate e = refl
+path-eq Crate Self e = impossible (cc)
+path-eq Crate (PMemberSelect q y) e = impossible (cc)
+path-eq Self Global e = impossible (cc)
+path-eq Self Crate e = impossible (cc)
+path-eq Self Self e = refl
+path-eq Self (PMemberSelect q y) e = impossible (cc)
+path-eq (PMemberSelect p x) Global e = impossible (cc)
+path-eq (PMemberSelect p x) Crate e = impossible (cc)
+path-eq (PMemberSelect p x) Self e = impossible (cc)
+path-eq (PMemberSelect p x) (PMemberSelect q y) e =
+    let i : p ≡ q = path-eq p q (and-left (samePath p q) (same x y) e) in
+    let j : x ≡ y = same-eq x y (and-right (samePath p q) (same x y) e) in
+    rw (i, j)
+
+path-apart : (f : Path Bytes → ℕ) (p q : Path Bytes) → (f p ≡ f q → ⊥) → samePath p q ≡ false
+path-apart f p q h = go (samePath p q) (path-eq p q)
+  where
+    go : (b : Bool) → (b ≡ true → p ≡ q) → b ≡ false
+    go true k = absurd (h (ap f (k refl)))
+    go false k = refl
+
+-- ---- root and number of names
+
+abbrev names : Path Bytes → ℕ
+names Global = 0
+names Crate = 0
+names Self = 0
+names (PMemberSelect p x) = suc (names p)
+
+select-names : (p : Path Bytes) (xs : List Bytes) → names (MSels p xs) ≡ names p + length xs
+unfolding MSels
+select-names p [] = omega arith
+select-names p (x ∷ xs) = omega (arith, select-names (PMemberSelect p x) xs)
+
+select-root : (p : Path Bytes) (xs : List Bytes) → rootWord (MSels p xs) ≡ rootWord p
+unfolding MSels rootWord
+select-root p [] = refl
+select-root p (x ∷ xs) = select-root (PMemberSelect p x) xs
+
+root-names : (r : ℕ) → names (rootOf r) ≡ 0
+unfolding rootOf
+root-names r = go (eqb r 0) (eqb r 1)
+  where
+    go : (a b : Bool) → names (pick a Global (pick b Crate Self)) ≡ 0
+    go true b = refl
+    go false true = refl
+    go false false = refl
+
+root-word : (r : ℕ) → r < 3 → rootWord {N = Bytes} (rootOf r) ≡ r
+unfolding rootOf rootWord
+root-word zero h = refl
+root-word (suc zero) h = refl
+root-word (suc (suc zero)) h = refl
+root-word (suc (suc (suc r))) h = absurd (let z : ⊥ = omega arith in z)
+
+module _ (bound : ℕ) (ws : List ℕ) (name : ℕ → Bytes) (p : PathAt) (i : InsidePath bound ws p) where
+  path-names : names (pathOf ws name p) ≡ p .count
+  unfolding pathOf
+  path-names =
+      let l : length (map name (take (p .count) (drop (p .start) ws))) ≡ p .count = simp (length-map, length-take, length-drop) (omega (arith, i .inside)) in
+      omega (arith, select-names (rootOf (p .root)) (map name (take (p .count) (drop (p .start) ws))), root-names (p .root), l)
+
+  path-root : rootWord (pathOf ws name p) ≡ p .root
+  unfolding pathOf
+  path-root = select-root (rootOf (p .root)) (map name (take (p .count) (drop (p .start) ws))) ∙ root-word (p .root) (i .root)
+
+  abbrev nameAt : ℕ → Bytes
+  nameAt k = name (getD ws (p .start + k) 0)
+
+  abbrev first : Bytes
+  first = name (getD ws (p .start) 0)
+
+  two-names : p .root ≡ 0 → p .count ≡ 2 → pathOf ws name p ≡ PMemberSelect (PMemberSelect Global first) (nameAt 1)
+  unfolding pathOf rootOf MSels
+  two-names r c =
+      let k = i .inside in
+      let s = p .start in
+      let z : s + 1 ≡ suc s = omega arith in
+      rw (r, c, drop-cons ws s 0 (omega (arith, k, c)), drop-cons ws (suc s) 0 (omega (arith, k, c)), z) refl
+
+  three-names : p .root ≡ 0 → p .count ≡ 3 → pathOf ws name p ≡ PMemberSelect (PMemberSelect (PMemberSelect Global first) (nameAt 1)) (nameAt 2)
+  unfolding pathOf rootOf MSels
+  three-names r c =
+      let k = i .inside in
+      let s = p .start in
+      let z : s + 1 ≡ suc s = omega arith in
+      let y : s + 2 ≡ suc (suc s) = omega arith in
+      rw (r, c, drop-cons ws s 0 (omega (arith, k, c)), drop-cons ws (suc s) 0 (omega (arith, k, c)), drop-cons ws (suc (suc s)) 0 (omega (arith, k, c)), z, y) refl
+
+  -- ---- members of members of `std`
+
+  module _ (x y : Bytes) where
+    pub std-root : (p .root ≡ 0 → ⊥) → samePath (pathOf ws name p) (inStd x y) ≡ false
+    unfolding inStd std rootWord
+    std-root h = path-apart rootWord (pathOf ws name p) (inStd x y) (λ e. h (sym path-root ∙ e))
+
+    pub std-count : (p .count ≡ 3 → ⊥) → samePath (pathOf ws name p) (inStd x y) ≡ false
+    unfolding inStd std
+    std-count h = path-apart names (pathOf ws name p) (inStd x y) (λ e. h (sym path-names ∙ e))
+
+    pub std-names : p .root ≡ 0 → p .count ≡ 3 → samePath (pathOf ws name p) (inStd x y) ≡ (same first (ascii "std") and same (nameAt 1) x and same (nameAt 2) y)
+    unfolding inStd std samePath _and_
+    std-names r c = rw (three-names r c) refl
+
+  -- ---- members of `dafny_runtime`
+
+  module _ (f : Bytes → Bool) where
+    member-apart : (q : Path Bytes) → ((u : Path Bytes) (x : Bytes) → q ≡ PMemberSelect u x → samePath u dafny_runtime ≡ false) → runtimeMember f q ≡ false
+    unfolding runtimeMember
+    member-apart Global h = refl
+    member-apart Crate h = refl
+    member-apart Self h = refl
+    member-apart (PMemberSelect u x) h = and-no (f x) (h u x refl)
+
+    member-root : (p .root ≡ 0 → ⊥) → runtimeMember f (pathOf ws name p) ≡ false
+    unfolding dafny_runtime rootWord
+    member-root h =
+        member-apart (pathOf ws name p) λ u x e. path-apart rootWord u dafny_runtime λ d. h (sym path-root ∙ ap rootWord e ∙ d)
+
+    member-count : (p .count ≡ 2 → ⊥) → runtimeMember f (pathOf ws name p) ≡ false
+    unfolding dafny_runtime
+    member-count h =
+        member-apart (pathOf ws name p) λ u x e. path-apart names u dafny_runtime λ d. h (sym path-names ∙ ap names e ∙ ap suc d)
+
+    member-names : p .root ≡ 0 → p .count ≡ 2 → runtimeMember f (pathOf ws name p) ≡ (same first (ascii "dafny_runtime") and f (nameAt 1))
+    unfolding runtimeMember dafny_runtime samePath _and_
+    member-names r c = rw (two-names r c) refl
+
+module _ (ws pairs : List ℕ) (text : Bytes) (p : PathAt) (i : InsidePath (nameCount pairs) ws p) where
+  abbrev name : ℕ → Bytes
+  name = nameBytes pairs text
+
+  pub runtime-root : (p .root ≡ 0 → ⊥) → InRuntime ws pairs text p false
+  unfolding _and_
+  runtime-root h = record { two = λ e. impossible (cc); says = λ f. member-root (nameCount pairs) ws name p i f h }
+
+  pub runtime-count : (p .count ≡ 2 → ⊥) → InRuntime ws pairs text p false
+  unfolding _and_
+  runtime-count h = record { two = λ e. impossible (cc); says = λ f. member-count (nameCount pairs) ws name p i f h }
+
+  pub runtime-name : {r : Bool} → p .root ≡ 0 → p .count ≡ 2 → r ≡ same (name (getD ws (p .start) 0)) (ascii "dafny_runtime") → InRuntime ws pairs text p r
+  runtime-name {r} h k e = record { two = λ d. k; says = λ f. rw e (member-names (nameCount pairs) ws name p i f h k) }
+
+-- a member of `dafny_runtime`, by its test or by its path
+member-same : (x : Bytes) (p : Path Bytes) → samePath p (inRuntime x) ≡ runtimeMember (λ y. same y x) p
+unfolding samePath inRuntime runtimeMember
+member-same x Global = refl
+member-same x Crate = refl
+member-same x Self = refl
+member-same x (PMemberSelect q y) = refl
+
+pub class-placebo : (p : Path Bytes) → inClass Placebo p ≡ runtimeMember (memberIn Placebo) p
+unfolding inClass memberIn MaybePlaceboPath
+class-placebo p = member-same (ascii "MaybePlacebo") p
+
+pub class-object : (p : Path Bytes) → inClass ObjectClass p ≡ runtimeMember (memberIn ObjectClass) p
+unfolding inClass memberIn ObjectPath
+class-object p = member-same (ascii "Object") p
+
+pub class-pointer : (p : Path Bytes) → inClass PtrClass p ≡ runtimeMember (memberIn PtrClass) p
+unfolding inClass memberIn PtrPath
+class-pointer p = member-same (ascii "Ptr") p
+
+-- ---- names that are not fixed
+
+-- a fixed name has none of the bytes that no fixed name has
+pub fixed-other : (pairs : List ℕ) (text : Bytes) (x : ℕ) (bytes : Bytes) → x < 16 → among bytes fixedNames ≡ false → same (nameBytes pairs text x) bytes ≡ false
+unfolding everyBelow _and_ same fixedNames ascii among
+fixed-other pairs text x bytes h k = rw (name-fixed pairs text x h) (go (same (getD fixedNames x []) bytes) (same-eq (getD fixedNames x []) bytes))
+  where
+    go : (b : Bool) → (b ≡ true → getD fixedNames x [] ≡ bytes) → b ≡ false
+    go true e =
+        let d : among (getD fixedNames x []) fixedNames ≡ true = every-at (λ j. among (getD fixedNames j []) fixedNames) 16 refl x h in
+        let i = e refl in
+        impossible (cc)
+    go false e = refl
+
+pub fixed-no-array : (pairs : List ℕ) (text : Bytes) (x : ℕ) → x < 16 → begins (ascii "Array") (nameBytes pairs text x) ≡ false
+unfolding everyBelow _and_ same fixedNames ascii begins
+fixed-no-array pairs text x h =
+    rw (name-fixed pairs text x h)
+    (beq-eq (begins (ascii "Array") (getD fixedNames x [])) false
+    (every-at (λ j. Bool·beq (begins (ascii "Array") (getD fixedNames j [])) false) 16 refl x h))
+
+pub begins-short : (d : Bytes) → length d < 5 → begins (ascii "Array") d ≡ false
+unfolding begins ascii _and_
+begins-short d h = rw (lt-leb 5 (length d) h) refl
+
+pub begins-long : (d : Bytes) → 5 ≤ length d → begins (ascii "Array") d ≡ same (take (5 - 0) (drop 0 d)) (ascii "Array")
+unfolding begins ascii _and_
+begins-long d h = rw (le-leb 5 (length d) h) refl
+
+-- ---- the tests in their order
+
+module _ (bound : ℕ) (ws : List ℕ) (name : ℕ → Bytes) (p : PathAt) (i : InsidePath bound ws p) (x y : Bytes) (r : p .root ≡ 0) (c : p .count ≡ 3) where
+  abbrev whole : Bool
+  whole = samePath (pathOf ws name p) (inStd x y)
+
+  pub std-no-first : {a : Bool} → a ≡ same (name (getD ws (p .start) 0)) (ascii "std") → a ≡ false → false ≡ whole
+  unfolding _and_
+  std-no-first {a} e k = rw (std-names bound ws name p i x y r c, sym e, k) refl
+
+  pub std-no-second : {a : Bool} → a ≡ same (name (getD ws (p .start + 1) 0)) x → a ≡ false → false ≡ whole
+  unfolding _and_
+  std-no-second {a} e k = rw (std-names bound ws name p i x y r c, sym e, k, and-false (same (name (getD ws (p .start) 0)) (ascii "std"))) refl
+
+  pub std-last : {a b d : Bool} → a ≡ same (name (getD ws (p .start) 0)) (ascii "std") → a ≡ true → b ≡ same (name (getD ws (p .start + 1) 0)) x → b ≡ true
+      → d ≡ same (name (getD ws (p .start + 2) 0)) y → d ≡ whole
+  unfolding _and_
+  std-last {a} {b} {d} e k f l g = rw (std-names bound ws name p i x y r c, sym e, k, sym f, l) g
+
+module _ (ws pairs : List ℕ) (text : Bytes) (p : PathAt) {r : Bool} (i : InRuntime ws pairs text p r) (f : Bytes → Bool) where
+  pub runtime-no : r ≡ false → false ≡ runtimeMember f (pathOf ws (nameBytes pairs text) p)
+  runtime-no k = sym (i .says f ∙ and-no _ k)
+
+  pub runtime-yes : {b : Bool} → r ≡ true → b ≡ f (nameBytes pairs text (getD ws (p .start + 1) 0)) → b ≡ runtimeMember f (pathOf ws (nameBytes pairs text) p)
+  runtime-yes k e = e ∙ sym (i .says f ∙ and-yes _ k)
+
+module _ (p : Path Bytes) {a : Bool} (e : a ≡ samePath p RcPath) where
+  pub counted-yes : a ≡ true → true ≡ inClass Counted p
+  unfolding inClass
+  counted-yes k = rw (sym e, k) refl
+
+  pub counted-no : {b : Bool} → a ≡ false → b ≡ samePath p ArcPath → b ≡ inClass Counted p
+  unfolding inClass
+  counted-no k d = rw (sym e, k) d
+
+-- a class of members of `dafny_runtime`
+module _ (p : Path Bytes) {class : Class} {b : Bool} (e : b ≡ runtimeMember (memberIn class) p) where
+  pub in-placebo : class ≡ Placebo → b ≡ inClass class p
+  in-placebo k = e ∙ rw k (sym (class-placebo p))
+
+  pub in-object : class ≡ ObjectClass → b ≡ inClass class p
+  in-object k = e ∙ rw k (sym (class-object p))
+
+  pub in-pointer : class ≡ PtrClass → b ≡ inClass class p
+  in-pointer k = e ∙ rw k (sym (class-pointer p))
+
+  pub in-array : class ≡ ArrayClass → b ≡ inClass class p
+  unfolding inClass memberIn
+  in-array k = e ∙ rw k refl
+
+  pub in-collection : class ≡ Collection → b ≡ inClass class p
+  unfolding inClass memberIn
+  in-collection k = e ∙ rw k refl
+
+  pub in-map : class ≡ MapClass → b ≡ inClass class p
+  unfolding inClass memberIn
+  in-map k = e ∙ rw k refl
+
+module _ (x : Bytes) {a : Bool} (e : a ≡ same x (ascii "Set")) where
+  pub set-first : a ≡ true → true ≡ isSet x
+  unfolding isSet
+  set-first k = rw (sym e, k) refl
+
+  pub set-second : {b : Bool} → a ≡ false → b ≡ same x (ascii "Sequence") → b ≡ true → true ≡ isSet x
+  unfolding isSet
+  set-second k d l = rw (sym e, k, sym d, l) refl
+
+  pub set-third : {b c : Bool} → a ≡ false → b ≡ same x (ascii "Sequence") → b ≡ false → c ≡ same x (ascii "Multiset") → c ≡ isSet x
+  unfolding isSet
+  set-third k d l g = rw (sym e, k, sym d, l) g

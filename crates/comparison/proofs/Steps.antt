@@ -1,0 +1,97 @@
+-- Laws of the comparison of words, one word after the other, and of names by their bytes.
+use Prim.Native.Nat.{ℕ, zero, suc, _+_, _-_, _*_, _≤_, _<_}
+use mathlib.Core.Path.{_≡_, refl, ap, sym, _∙_}
+use mathlib.Core.Bool.{true, false}
+use mathlib.Core.List.{List, [], _∷_}
+use native.Mathlib.Omega.{arith}
+use native.Mathlib.Numerals.{add-one}
+use native.Mathlib.Decide.{ℕ-discrete}
+use lib.Dec.{eqb, leb}
+use borrow.Author.Tests.{eq-eqb, ne-eqb, leb-true}
+use lib.ListN.{length, getD, take, drop}
+use lib.Seq.{drop-cons}
+use Rattle.rast.specs.Bytes.{Bytes, ascii, same, _and_}
+use Rattle.output.specs.Wrote.{Wrote}
+use Rattle.output.proofs.Laws.{wrote-front}
+use Rattle.encoding.specs.Tables.{fixedNames, nameBytes, nameCount, pairBytes}
+use Rattle.encoding.proofs.Tables.{name-fixed, name-pair, everyBelow, every-at}
+use Rattle.encoding.proofs.Names.{and-false, and-no, and-yes, fixed-same}
+use Rattle.comparison.specs.declared.Due.{Due}
+use Rattle.comparison.specs.Runs.{after, agrees, sameRuns}
+
+pub same-self : (a : Bytes) → same a a ≡ true
+unfolding same _and_
+same-self [] = refl
+same-self (x ∷ a) = rw (eq-eqb x x refl) (same-self a)
+
+pub same-swap : (a b : Bytes) → same a b ≡ same b a
+unfolding same
+same-swap [] [] = refl
+same-swap [] (y ∷ b) = refl
+same-swap (x ∷ a) [] = refl
+same-swap (x ∷ a) (y ∷ b) = rw (eqb-swap x y, same-swap a b) refl
+  where
+    eqb-swap : (x y : ℕ) → eqb x y ≡ eqb y x
+    eqb-swap x y = go (ℕ-discrete x y)
+      where
+        go : Dec (x ≡ y) → eqb x y ≡ eqb y x
+        go (yes e) = rw e refl
+        go (no h) = ne-eqb x y h ∙ sym (ne-eqb y x (λ e. h (sym e)))
+
+-- two fixed names with different numbers
+pub fixed-apart : (pairs text : List ℕ) (x y : ℕ) → x < 16 → y < 16 → (x ≡ y → ⊥) → same (nameBytes pairs text x) (nameBytes pairs text y) ≡ false
+fixed-apart pairs text x y h k d =
+    ap (same (nameBytes pairs text x)) (name-fixed pairs text y k) ∙ fixed-same pairs text x y h k ∙ ne-eqb x y d
+
+-- no fixed name is longer than 13 bytes
+pub fixed-short : (pairs text : List ℕ) (k : ℕ) → k < 16 → length (nameBytes pairs text k) ≤ 13
+unfolding everyBelow _and_ fixedNames ascii
+fixed-short pairs text k h =
+    rw (name-fixed pairs text k h) (leb-true (length (getD fixedNames k [])) 13 (every-at (λ i. leb (length (getD fixedNames i [])) 13) 16 refl k h))
+
+-- a name that was written to the front stands there
+pub front-name : {o o′ b : List ℕ} {n : ℕ} → length b ≤ length o → Wrote o 0 b o′ n → take (n - 0) (drop 0 o′) ≡ b
+front-name {n = n} h w = let z : n - 0 ≡ n = omega arith in rw z (wrote-front h w)
+
+-- a name past the table
+pub no-name : (pairs text : List ℕ) (x : ℕ) → nameCount pairs ≤ x → nameBytes pairs text x ≡ []
+unfolding pairBytes
+no-name pairs text x h =
+    let e : getD pairs (2 * (x - 16) + 1) 0 ≡ 0 = getD-past pairs (2 * (x - 16) + 1) (omega arith) in
+    name-pair pairs text x (omega arith) ∙ rw e refl
+  where
+    getD-past : (l : List ℕ) (i : ℕ) → length l ≤ i → getD l i 0 ≡ 0
+    getD-past [] i h = refl
+    getD-past (w ∷ l) zero h = absurd (let z : ⊥ = omega arith in z)
+    getD-past (w ∷ l) (suc i) h = getD-past l i (omega arith)
+
+-- ---- the front words of two runs
+
+take-word : (l : List ℕ) (i left : ℕ) → i < length l → 0 < left → take left (drop i l) ≡ getD l i 0 ∷ take (left - 1) (drop (i + 1) l)
+take-word l i zero h k = absurd (let z : ⊥ = omega arith in z)
+take-word l i (suc n) h k = let z : suc n - 1 ≡ n = omega arith in rw (drop-cons l i 0 h, add-one i, z) refl
+
+module _ (name : ℕ → Bytes) (due : Due) (a b : List ℕ) (i j left : ℕ) (h : i < length a) (k : j < length b) (l : 0 < left) where
+  runs-more : sameRuns name due (take left (drop i a)) (take left (drop j b))
+      ≡ (agrees name due (getD a i 0) (getD b j 0) and sameRuns name (after due (getD a i 0)) (take (left - 1) (drop (i + 1) a)) (take (left - 1) (drop (j + 1) b)))
+  unfolding sameRuns
+  runs-more = rw (take-word a i left h l, take-word b j left k l) refl
+
+  pub runs-stop : agrees name due (getD a i 0) (getD b j 0) ≡ false → sameRuns name due (take left (drop i a)) (take left (drop j b)) ≡ false
+  runs-stop e = runs-more ∙ and-no _ e
+
+  pub runs-on : agrees name due (getD a i 0) (getD b j 0) ≡ true → sameRuns name due (take left (drop i a)) (take left (drop j b))
+      ≡ sameRuns name (after due (getD a i 0)) (take (left - 1) (drop (i + 1) a)) (take (left - 1) (drop (j + 1) b))
+  runs-on e = runs-more ∙ and-yes _ e
+
+pub runs-none : (name : ℕ → Bytes) (due : Due) (a b : List ℕ) (i j left : ℕ) → left ≡ 0 → sameRuns name due (take left (drop i a)) (take left (drop j b)) ≡ true
+unfolding sameRuns
+runs-none name due a b i j left e = rw e refl
+
+-- runs of different lengths are not the same
+pub runs-uneven : (name : ℕ → Bytes) (due : Due) (xs ys : List ℕ) → (length xs ≡ length ys → ⊥) → sameRuns name due xs ys ≡ false
+unfolding sameRuns
+runs-uneven name due [] [] h = absurd (h refl)
+runs-uneven name due [] (y ∷ ys) h = refl
+runs-uneven name due (x ∷ xs) [] h = refl
+runs-uneven name due (x ∷ xs) (y ∷ ys) h = rw (runs-uneven name (after due x) xs ys (λ e. h (ap suc e))) (and-false (agrees name due x y))

@@ -1,0 +1,269 @@
+-- What the buffer holds: the pieces, one behind the other, or the words as they are.
+use Prim.Native.Nat.{ℕ, _+_, _-_, _≤_, _<_}
+use mathlib.Core.Path.{_≡_, refl, ap, sym, _∙_, subst}
+use mathlib.Core.Bool.{Bool, true, false}
+use mathlib.Core.List.{List, [], _∷_, _++_}
+use mathlib.Core.Option.{Option, some, none}
+use native.Mathlib.Omega.{arith}
+use borrow.Author.Tests.{eqb-true}
+use lib.Dec.{eqb}
+use lib.ListN.{length, take, drop, length-append}
+use lib.Seq.{sets}
+use Rattle.rast.specs.Bytes.{Bytes}
+use Rattle.rast.specs.Tree.{Global, PMemberSelect, Ty, nil, cons}
+use Rattle.rast.specs.DeclarationToString.{Expand}
+use Rattle.encoding.specs.declared.Refusal.{Refusal}
+use Rattle.encoding.specs.declared.Refusal.the-variants.{LeftOver, TooDeep, BufferTooShort}
+use Rattle.encoding.specs.declared.Check.{Check}
+use Rattle.encoding.specs.declared.Check.the-variants.{Passed, Failed}
+use Rattle.encoding.specs.Refusals.{pick, Answer, given, refused, mapAnswer, unless}
+use Rattle.encoding.specs.Reading.{Reading, got, stop, mapReading, whole}
+use Rattle.encoding.specs.Tables.{nameBytes, checkTables}
+use Rattle.encoding.specs.Types.{readTypes, typeOf}
+use Rattle.encoding.proofs.Tables.{impossible}
+use Rattle.output.specs.Wrote.{Wrote}
+use Rattle.output.proofs.Laws.{wrote-then, part-length}
+use Rattle.trees.specs.Renamed.{renamed}
+use Rattle.trees.specs.Encode.{tokenWord, rootWord, names, pathTokens, tokens, encode}
+use Rattle.trees.specs.Numbered.{treeAt, treeOf}
+use Rattle.trees.proofs.Renaming.{encode-words, spelled, tree-run}
+use Rattle.replace.specs.Laying.{depth}
+use Rattle.rules.specs.declared.Deep.{Deep}
+use Rattle.rules.specs.Scans.{Deepens}
+use Rattle.rules.proofs.Lists.{one-deep}
+use Rattle.classes.specs.Matches.{argument}
+use Rattle.classes.specs.Steps.{when, andThen}
+use Rattle.shapes.specs.Shapes.{IsObject, IsObjectOrPointer}
+use Rattle.shapes.specs.Initialization.{ObjectType, PtrType, orThis, newUnderlying, TypeAtInitialization}
+use Rattle.shapes.proofs.Answers.{Accepted}
+use Rattle.rebuild.specs.declared.RebuildAnswer.{RebuildAnswer}
+use Rattle.rebuild.specs.declared.RebuildAnswer.the-variants.{Length, Refused}
+use Rattle.rebuild.specs.Calls.{Laid, roomOf, zeros, laidDown, Fills}
+use Rattle.rebuild.proofs.Calls.{down-over, down-deep, down-front}
+use Rattle.initialization.specs.declared.Initial.{Initial}
+use Rattle.initialization.specs.declared.Initial.the-variants.{OfArray, Unchanged}
+use Rattle.initialization.specs.Initialized.{laidInit, typeInitialized, pointerWords, uninitWords, initialWords, newArray, Named, Pieces, pieces, unchanged, Becomes, Kept, Whole}
+use Rattle.initialization.proofs.Parts.{tree-deep}
+use Rattle.initialization.proofs.Changes.{one-words, one-depth}
+
+-- ---- the type at initialization, by the new array
+
+module _ (bytes : ℕ → Bytes) (t : Ty ℕ) where
+  abbrev pointed : Ty ℕ → Ty ℕ
+  pointed v = pick (IsObject (renamed bytes t)) (ObjectType v) (PtrType v)
+
+  initial-is : TypeAtInitialization bytes t ≡ orThis t (andThen (newArray bytes t) λ v. some (pointed v))
+  unfolding TypeAtInitialization newArray when andThen
+  initial-is = ap (orThis t) (go (IsObjectOrPointer (renamed bytes t)) (argument 0 (Expand t)) (newUnderlying bytes))
+    where
+      go : (b : Bool) (x : Option (Ty ℕ)) (g : Ty ℕ → Option (Ty ℕ)) → when b (andThen x λ s. andThen (g s) λ v. some (pointed v)) ≡ andThen (when b (andThen x g)) λ v. some (pointed v)
+      go true none g = refl
+      go true (some s) g = refl
+      go false x g = refl
+
+  initial-same : newArray bytes t ≡ none → TypeAtInitialization bytes t ≡ t
+  unfolding orThis andThen
+  initial-same e = initial-is ∙ rw e refl
+
+  initial-new : {v : Ty ℕ} → newArray bytes t ≡ some v → TypeAtInitialization bytes t ≡ pointed v
+  unfolding orThis andThen
+  initial-new e = initial-is ∙ rw e refl
+
+  pointed-words : (v : Ty ℕ) → encode (pointed v) ≡ pointerWords (pick (IsObject (renamed bytes t)) 11 12) ++ encode v
+  unfolding ObjectType PtrType encode tokens pathTokens rootWord names tokenWord
+  pointed-words v = go (IsObject (renamed bytes t))
+    where
+      go : (b : Bool) → encode (pick b (ObjectType v) (PtrType v)) ≡ pointerWords (pick b 11 12) ++ encode v
+      go true = one-words (PMemberSelect (PMemberSelect Global 10) 11) v
+      go false = one-words (PMemberSelect (PMemberSelect Global 10) 12) v
+
+  pointed-depth : (v : Ty ℕ) → 0 < depth v → depth (pointed v) ≡ 1 + depth v
+  unfolding ObjectType PtrType
+  pointed-depth v h = go (IsObject (renamed bytes t))
+    where
+      go : (b : Bool) → depth (pick b (ObjectType v) (PtrType v)) ≡ 1 + depth v
+      go true = one-depth (PMemberSelect (PMemberSelect Global 10) 11) v h
+      go false = one-depth (PMemberSelect (PMemberSelect Global 10) 12) v h
+
+-- ---- lengths
+
+take-whole : (l : List ℕ) → take (length l) l ≡ l
+take-whole [] = refl
+take-whole (x ∷ l) = ap (λ m. x ∷ m) (take-whole l)
+
+pieces-length : (name : ℕ) (x y : List ℕ) {n : ℕ} → length x + length y ≡ n → length (pointerWords name ++ (x ++ (uninitWords ++ y))) ≡ 15 + n
+pieces-length name x y e = omega (arith, e, length-append x (uninitWords ++ y))
+
+-- ---- a type that changes
+
+module _ (ws pairs : List ℕ) (text : Bytes) where
+  abbrev bytes : ℕ → Bytes
+  bytes = nameBytes pairs text
+
+  abbrev laid : Reading Laid
+  laid = mapReading (laidInit bytes) (treeAt ws pairs 0)
+
+  -- the answer to the tree that was read
+  pub filled : {t : Ty ℕ} {n : ℕ} {o o′ : List ℕ} {r : RebuildAnswer} → treeAt ws pairs 0 ≡ got t n → (r, o′) ≡ laidDown o (given (laidInit bytes t)) → Fills laid o o′ r
+  unfolding mapReading
+  filled {t} {n} {o} e d = record {
+    fills = λ b k c.
+        let g : got (laidInit bytes t) n ≡ got b k = rw e at c in
+        let i : laidInit bytes t ≡ b = cc in
+        d ∙ ap (λ x. laidDown o (given x)) i;
+  }
+
+  pub record Changes (start element end deep : ℕ) : Type 0 where
+    pub tree : Ty ℕ
+    pub last : ℕ
+    pub reads : treeAt ws pairs 0 ≡ got tree last
+    pub own : start ≤ element
+    pub inner : element ≤ end
+    pub inside : end ≤ length ws
+    pub words : encode (TypeAtInitialization bytes tree) ≡ initialWords ws (pick (IsObject (renamed bytes tree)) 11 12) start element end
+    pub size : length (encode (TypeAtInitialization bytes tree)) ≡ 15 + (end - start)
+    pub deeper : depth (TypeAtInitialization bytes tree) ≡ 3 + deep
+
+  -- the element stands there
+  pub element-readable : {start element : ℕ} → Becomes (newArray bytes) ws pairs 0 (OfArray start element) → (element ≤ length ws) × (u : Ty ℕ) × (n : ℕ) × (treeAt ws pairs element ≡ got u n)
+  element-readable {start} {element} b = go (b .by)
+    where
+      go : {new : Option (Ty ℕ)} → Pieces ws pairs new (OfArray start element) → (element ≤ length ws) × (u : Ty ℕ) × (n : ℕ) × (treeAt ws pairs element ≡ got u n)
+      go (pieces {u = u} {n = n} e h l k w d) = (l, u, n, k)
+
+  pub changes : {start element : ℕ} (r : Deep) → Becomes (newArray bytes) ws pairs 0 (OfArray start element) → Deepens (readTypes (treeAt ws pairs) 1 element) (length ws) r → Changes start element (r .next) (r .depth)
+  unfolding readTypes
+  changes {start} {element} r b k = go (b .by)
+    where
+      go : Pieces ws pairs (newArray bytes (b .tree)) (OfArray start element) → Changes start element (r .next) (r .depth)
+      go (pieces {array = v} {u = u} {n = n} e h l c w d) =
+          let g : got (cons u nil) n ≡ got (k .types) (r .next) = rw c at (k .reads) in
+          let i : n ≡ r .next = cc in
+          let a = tree-run ws pairs element l c in
+          let j = encode-words u in
+          let part : take (r .next - element) (drop element ws) ≡ encode u =
+          (let z : r .next - element ≡ length (encode u) = omega (arith, a .1, i, j) in rw z (a .0 .words)) in
+          let q = initial-new bytes (b .tree) e in
+          let all : encode (TypeAtInitialization bytes (b .tree)) ≡ initialWords ws (pick (IsObject (renamed bytes (b .tree))) 11 12) start element (r .next) =
+          ap encode q ∙ pointed-words bytes (b .tree) v ∙ ap (λ x. pointerWords (pick (IsObject (renamed bytes (b .tree))) 11 12) ++ x) (w ∙ ap (λ x. take (element - start) (drop start ws) ++ (uninitWords ++ x)) (sym part)) in
+          record {
+            tree = b .tree;
+            last = b .end;
+            reads = b .reads;
+            own = h;
+            inner = omega (arith, a .1, i);
+            inside = omega (arith, a .1, i, a .0 .ends, j);
+            words = all;
+            size = ap length all ∙ pieces-length (pick (IsObject (renamed bytes (b .tree))) 11 12) (take (element - start) (drop start ws)) (take (r .next - element) (drop element ws))
+                (omega (arith, part-length ws start (element - start) (omega (arith, l, h)), ap length part, j, a .1, i, h));
+            deeper = ap depth q ∙ pointed-depth bytes (b .tree) v (omega (arith, d)) ∙ omega (arith, d, one-deep ws pairs element r c k);
+          }
+
+  module _ {start element end deep count : ℕ} (c : Changes start element end deep) (o : List ℕ) (n : count ≡ 15 + (end - start)) where
+    pub change-over : {o′ : List ℕ} → roomOf o < count → o′ ≡ zeros o → Fills laid o o′ (Refused BufferTooShort)
+    change-over h z = filled (c .reads) (down-over o (laidInit bytes (c .tree)) (omega (arith, h, n, c .size)) z)
+
+    pub change-deep : {o′ : List ℕ} → count ≤ roomOf o → 61 < deep → o′ ≡ zeros o → Fills laid o o′ (Refused TooDeep)
+    change-deep h d z = filled (c .reads) (down-deep o (laidInit bytes (c .tree)) (omega (arith, h, n, c .size)) (omega (arith, d, c .deeper)) z)
+
+    pub change-front : {name : ℕ} {o′ : List ℕ} → count ≤ roomOf o → deep ≤ 61 → Named bytes (treeAt ws pairs 0) name → o′ ≡ sets o 0 (initialWords ws name start element end) → Fills laid o o′ (Length count)
+    change-front {name} {o′} h d k z =
+        let i = k .names (c .tree) (c .last) (c .reads) in
+        let w : o′ ≡ sets o 0 (encode (TypeAtInitialization bytes (c .tree))) = z ∙ ap (sets o 0) (ap (λ x. initialWords ws x start element end) i ∙ sym (c .words)) in
+        filled (c .reads) (down-front o (laidInit bytes (c .tree)) (omega (arith, h, n, c .size)) (omega (arith, d, c .deeper)) (omega (arith, h, n, c .size)) w (omega (arith, n, c .size)))
+
+  -- ---- a type that stays
+
+  pub stays : {o o′ : List ℕ} {r : RebuildAnswer} {c : Initial} → Whole ws pairs → Becomes (newArray bytes) ws pairs 0 c → c ≡ Unchanged → Kept ws o o′ r → Fills laid o o′ r
+  stays {o} {o′} {r} {c} w b e k = go (subst (Pieces ws pairs (newArray bytes (b .tree))) e (b .by))
+    where
+      go : Pieces ws pairs (newArray bytes (b .tree)) Unchanged → Fills laid o o′ r
+      go (unchanged d) =
+          let t = b .tree in
+          let q : TypeAtInitialization bytes t ≡ t = initial-same bytes t d in
+          let i : b .end ≡ length ws = cc (b .reads, w .reads) in
+          let a = tree-run ws pairs 0 (omega arith) (b .reads) in
+          let n : length ws ≡ length (encode t) = omega (arith, a .1, i, encode-words t) in
+          let same : ws ≡ encode t = sym (take-whole ws) ∙ ap (λ k. take k ws) n ∙ a .0 .words in
+          let l : record { words = ws; top = length ws; deep = depth t } ≡ laidInit bytes t = rw (q, sym same) refl in
+          filled (b .reads) (k .keeps (depth t) (tree-deep ws pairs 0 (b .reads)) ∙ ap (λ x. laidDown o (given x)) l)
+
+-- ---- the words as they are
+
+module _ (ws o : List ℕ) where
+  abbrev unaltered : ℕ → Laid
+  unaltered d = record { words = ws; top = length ws; deep = d }
+
+  pub keep-over : {o′ : List ℕ} → length o < length ws → o′ ≡ zeros o → Kept ws o o′ (Refused BufferTooShort)
+  keep-over h z = record { keeps = λ d l. down-over o (unaltered d) (omega (arith, h)) z }
+
+  pub keep-front : {o′ : List ℕ} → length ws ≤ 8192 → length ws ≤ length o → o′ ≡ sets o 0 (take (length ws) ws) → Kept ws o o′ (Length (length ws))
+  keep-front k h z = record { keeps = λ d l. down-front o (unaltered d) (omega (arith, h, k)) l h (z ∙ ap (sets o 0) (take-whole ws)) refl }
+
+-- ---- the pieces, one behind the other
+
+pub four-wrote : (o a b c d : List ℕ) (p q r : ℕ) {o₁ o₂ o₃ o₄ : List ℕ} → o₁ ≡ sets o 0 a → o₂ ≡ sets o₁ p b → o₃ ≡ sets o₂ q c → o₄ ≡ sets o₃ r d → p ≡ length a → q ≡ p + length b → r ≡ q + length c
+    → o₄ ≡ sets o 0 (a ++ (b ++ (c ++ d)))
+four-wrote o a b c d p q r {o₁} {o₂} {o₃} {o₄} e f g h i j k =
+    let first : Wrote o 0 a o₁ p = record { bytes = e; next = omega (arith, i) } in
+    let second : Wrote o₁ p b o₂ q = record { bytes = f; next = j } in
+    let third : Wrote o₂ q c o₃ r = record { bytes = g; next = k } in
+    let fourth : Wrote o₃ r d o₄ (r + length d) = record { bytes = h; next = refl } in
+    wrote-then first (wrote-then second (wrote-then third fourth)) .bytes
+
+-- ---- the call
+
+module _ (ws pairs : List ℕ) (text : Bytes) where
+  -- the type with bytes is the tree with its names' bytes
+  type-is : typeOf ws pairs text ≡ mapAnswer (renamed (nameBytes pairs text)) (treeOf ws pairs text)
+  unfolding typeOf treeOf mapAnswer unless whole mapReading
+  type-is = ap (λ x. unless (checkTables ws pairs text) (whole (length ws) x)) (spelled ws pairs text 0) ∙ go (checkTables ws pairs text) (treeAt ws pairs 0)
+    where
+      at-end : (b : Bool) (t : Ty ℕ) → pick b (given (renamed (nameBytes pairs text) t)) (refused LeftOver) ≡ mapAnswer (renamed (nameBytes pairs text)) (pick b (given t) (refused LeftOver))
+      at-end true t = refl
+      at-end false t = refl
+
+      go : (c : Check) (x : Reading (Ty ℕ)) → unless c (whole (length ws) (mapReading (renamed (nameBytes pairs text)) x)) ≡ mapAnswer (renamed (nameBytes pairs text)) (unless c (whole (length ws) x))
+      go Passed (got t n) = at-end (eqb n (length ws)) t
+      go Passed (stop r) = refl
+      go (Failed r) x = refl
+
+  given-tree : (c : Check) (x : Reading (Ty ℕ)) {t : Ty ℕ} → unless c (whole (length ws) x) ≡ given t → x ≡ got t (length ws)
+  unfolding unless whole
+  given-tree Passed (got u n) {t} e = go (eqb n (length ws)) (eqb-true n (length ws)) e
+    where
+      go : (b : Bool) → (b ≡ true → n ≡ length ws) → pick b (given u) (refused LeftOver) ≡ given t → got u n ≡ got t (length ws)
+      go true h d = let q = h refl in let i : u ≡ t = cc in cc
+      go false h d = impossible (cc)
+  given-tree Passed (stop r) e = impossible (cc)
+  given-tree (Failed r) x e = impossible (cc)
+
+  -- the tree that an accepted encoding holds
+  pub record Held : Type 0 where
+    pub tree : Ty ℕ
+    pub is : treeOf ws pairs text ≡ given tree
+    pub reads : treeAt ws pairs 0 ≡ got tree (length ws)
+
+  pub held : Accepted ws pairs text → Held
+  unfolding treeOf mapAnswer
+  held a = go (treeOf ws pairs text) refl (sym type-is ∙ a .is)
+    where
+      go : (x : Answer (Ty ℕ)) → treeOf ws pairs text ≡ x → mapAnswer (renamed (nameBytes pairs text)) x ≡ given (a .type) → Held
+      go (given t) e d = record { tree = t; is = e; reads = given-tree (checkTables ws pairs text) (treeAt ws pairs 0) e }
+      go (refused r) e d = impossible (cc)
+
+  pub held-whole : Accepted ws pairs text → Whole ws pairs
+  held-whole a = let h = held a in record { tree = h .tree; reads = h .reads }
+
+  pub accepted-filled : {o o′ : List ℕ} {r : RebuildAnswer} → Accepted ws pairs text → Fills (mapReading (laidInit (nameBytes pairs text)) (treeAt ws pairs 0)) o o′ r
+      → (r, o′) ≡ laidDown o (typeInitialized ws pairs text)
+  unfolding mapReading typeInitialized mapAnswer
+  accepted-filled a f = let h = held a in rw (h .is) (f .fills (laidInit (nameBytes pairs text) (h .tree)) (length ws) (rw (h .reads) refl))
+
+  pub refused-leaves : {o : List ℕ} {r : Refusal} → typeOf ws pairs text ≡ refused r → _≡_ {A = RebuildAnswer × List ℕ} (Refused r, o) (laidDown o (typeInitialized ws pairs text))
+  unfolding laidDown typeInitialized mapAnswer
+  refused-leaves {o} {r} e = rw (go (treeOf ws pairs text) (sym type-is ∙ e)) refl
+    where
+      go : (x : Answer (Ty ℕ)) → mapAnswer (renamed (nameBytes pairs text)) x ≡ refused r → x ≡ refused r
+      go (given t) d = impossible (cc)
+      go (refused k) d = cc

@@ -1,0 +1,12 @@
+-- Laws of a declaration's pieces and of the walk over them.
+pub mod Measured
+pub mod Scans
+pub mod Ahead
+pub mod Steps
+pub mod Openings
+pub mod OpeningRuns
+pub mod Passes
+pub mod Fronts
+pub mod RenamedReading
+pub mod WithTypes
+pub mod Encoded

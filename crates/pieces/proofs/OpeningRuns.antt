@@ -1,0 +1,201 @@
+-- The own words of an opening stand in the words as they are read.
+use Prim.Native.Nat.{ℕ, zero, suc, _+_, _≤_, _<_}
+use mathlib.Core.Path.{_≡_, refl, ap, sym, _∙_, subst}
+use mathlib.Core.Bool.{Bool, true, false}
+use mathlib.Core.List.{List, [], _∷_, _++_, map}
+use native.Mathlib.Omega.{arith}
+use borrow.Author.Tests.{eqb-true}
+use lib.Dec.{eqb}
+use lib.ListN.{length, take, drop, length-append, length-map}
+use Rattle.rast.specs.Tree.{MSels, Ty}
+use Rattle.rast.specs.Declaration.{Attribute}
+use Rattle.encoding.specs.declared.Refusal.the-variants.{UnknownWord}
+use Rattle.encoding.specs.declared.PathAt.{PathAt}
+use Rattle.encoding.specs.Refusals.{pick}
+use Rattle.encoding.specs.Reading.{Reading, got, stop, readWord, readBelow, readNames}
+use Rattle.encoding.specs.Heads.{readPath}
+use Rattle.encoding.specs.Types.{rootOf, pathOf}
+use Rattle.encoding.specs.Declarations.{structHead, enumHead, synonymHead, useHead, readList, readCounted, readName, readAttribute}
+use Rattle.encoding.proofs.Tables.{impossible}
+use Rattle.encoding.proofs.Inside.{path-lies, path-end}
+use Rattle.encoding.proofs.Types.{bind-got, made-got, made₂-got}
+use Rattle.trees.specs.Encode.{Token, word, name, tokenWord, rootWord, names, pathTokens}
+use Rattle.trees.specs.Runs.{Run}
+use Rattle.trees.proofs.Runs.{run-none, run-join, run-part}
+use Rattle.writing.proofs.Accepted.{below-there}
+use Rattle.pieces.specs.declared.After.{After}
+use Rattle.pieces.specs.declared.After.the-variants.{FieldList, CaseList, OneType}
+use Rattle.pieces.specs.Pieces.{runs, attributeTokens, attributesTokens, titleTokens, useTokens}
+use Rattle.pieces.specs.Walks.{readEntry, Opening, readAttributes, readTitle, readUsing, openingAfter, readOpening}
+use Rattle.pieces.proofs.Scans.{entry}
+use Rattle.pieces.proofs.Ahead.{list-length}
+use Rattle.pieces.proofs.Steps.{Stands, any-word, below-word, one-run, two-run, visibility-word}
+use Rattle.pieces.proofs.Openings.{select-root, select-names, root-same, map-same}
+
+-- what f reads at a position stands there by its words, and ends behind them
+pub record Spelt (ws : List ℕ) (p : ℕ) (code : List ℕ) (n : ℕ) : Type 0 where
+  pub run : Run ws p code
+  pub end : n ≡ p + length code
+
+abbrev pub Spells : {A : Type 0} → (A → List ℕ) → List ℕ → (ℕ → Reading A) → Type 0
+Spells {A} code ws f = (p : ℕ) (a : A) (n : ℕ) → p ≤ length ws → f p ≡ got a n → Spelt ws p (code a) n
+
+pub words-append : (ks js : List (Token ℕ)) → map tokenWord (ks ++ js) ≡ map tokenWord ks ++ map tokenWord js
+words-append [] js = refl
+words-append (k ∷ ks) js = ap (_∷_ (tokenWord k)) (words-append ks js)
+
+words-runs : {A : Type 0} (f : A → List (Token ℕ)) (xs : List A) → map tokenWord (runs f xs) ≡ runs (λ x. map tokenWord (f x)) xs
+unfolding runs
+words-runs f [] = refl
+words-runs f (x ∷ xs) = words-append (f x) (runs f xs) ∙ ap (λ l. map tokenWord (f x) ++ l) (words-runs f xs)
+
+name-words : (xs : List ℕ) → map tokenWord (map name xs) ≡ xs
+unfolding tokenWord
+name-words [] = refl
+name-words (x ∷ xs) = ap (_∷_ x) (name-words xs)
+
+root-word : (r : ℕ) → r < 3 → rootWord {N = ℕ} (rootOf r) ≡ r
+unfolding rootWord rootOf
+root-word zero h = refl
+root-word (suc zero) h = refl
+root-word (suc (suc zero)) h = refl
+root-word (suc (suc (suc r))) h = absurd (let z : ⊥ = omega arith in z)
+
+got-value : {A : Type 0} {a c : A} {m n : ℕ} → got a m ≡ got c n → a ≡ c
+got-value e = cc
+
+got-end : {A : Type 0} {a c : A} {m n : ℕ} → got a m ≡ got c n → m ≡ n
+got-end e = cc
+
+module _ (ws : List ℕ) where
+  pub spelt-inside : {p n : ℕ} {code : List ℕ} → Spelt ws p code n → n ≤ length ws
+  spelt-inside s = omega (arith, s .run .ends, s .end)
+
+  pub spelt-then : {p m n : ℕ} (a b : List ℕ) → Spelt ws p a m → Spelt ws m b n → Spelt ws p (a ++ b) n
+  spelt-then a b s t = record { run = run-join a b (s .run) (s .end) (t .run); end = omega (arith, s .end, t .end, length-append a b) }
+
+  pub spelt-word : {p x q : ℕ} → Stands ws p x q → Spelt ws p (x ∷ []) q
+  spelt-word {p} s = let r = one-run ws p s in record { run = r .0; end = r .1 }
+
+  pub spelt-as : {p n : ℕ} {a b : List ℕ} → a ≡ b → Spelt ws p a n → Spelt ws p b n
+  spelt-as {p} {n} e s = subst (λ (l : List ℕ). Spelt ws p l n) e s
+
+  list-spells : {A : Type 0} (code : A → List ℕ) (item : ℕ → Reading A) → Spells code ws item → (k : ℕ) → Spells (runs code) ws (readList item k)
+  unfolding readList runs
+  list-spells code item h zero p xs n l e =
+      let z : xs ≡ [] = cc in let y : p ≡ n = cc in
+      spelt-as (sym (ap (runs code) z)) (record { run = run-none ws p l; end = omega (arith, y) })
+  list-spells code item h (suc k) p xs n l e =
+      let m = made₂-got (item p) (readList item k) _∷_ e in
+      let s = h p (m .left) (m .middle) l (m .reads) in
+      let t = list-spells code item h k (m .middle) (m .right) n (spelt-inside s) (m .reads₂) in
+      spelt-as (sym (ap (runs code) (m .made))) (spelt-then (code (m .left)) (runs code (m .right)) s t)
+
+  pub counted-spells : {A : Type 0} (code : A → List ℕ) (item : ℕ → Reading A) → Spells code ws item → Spells (λ xs. length xs ∷ runs code xs) ws (readCounted ws item)
+  unfolding readCounted
+  counted-spells code item h p xs n l e =
+      let t = bind-got (readWord ws p) _ e in
+      let s = spelt-word (any-word ws p (t .first)) in
+      let u = list-spells code item h (t .value) (t .end) xs n (spelt-inside s) (t .rest) in
+      spelt-as (ap (λ k. k ∷ runs code xs) (sym (list-length item (t .value) (t .end) (t .rest)))) (spelt-then (t .value ∷ []) (runs code xs) s u)
+
+  module _ (bound : ℕ) where
+    pub name-spells : (ty : ℕ → Reading (Ty ℕ)) → Spells (λ x. x ∷ []) ws (readName bound ws (λ x. x) ty)
+    unfolding readName
+    name-spells ty p x n l e =
+        let m = made-got (readBelow bound ws p) (λ i. i) e in
+        spelt-as (ap (λ i. i ∷ []) (sym (m .made))) (spelt-word (below-word bound ws p (m .reads)))
+
+    runs-one : (xs : List ℕ) → runs (λ x. x ∷ []) xs ≡ map tokenWord (map name xs)
+    unfolding runs tokenWord
+    runs-one [] = refl
+    runs-one (x ∷ xs) = ap (_∷_ x) (runs-one xs)
+
+    attribute-spells : (ty : ℕ → Reading (Ty ℕ)) → Spells (λ a. map tokenWord (attributeTokens a)) ws (readAttribute bound ws (λ x. x) ty)
+    unfolding readAttribute attributeTokens tokenWord
+    attribute-spells ty p a n l e =
+        let m = made₂-got (readName bound ws (λ x. x) ty p) (readCounted ws (readName bound ws (λ x. x) ty)) (λ x xs. record { name = x; derived = xs }) e in
+        let s = name-spells ty p (m .left) (m .middle) l (m .reads) in
+        let t = counted-spells (λ x. x ∷ []) _ (name-spells ty) (m .middle) (m .right) n (spelt-inside s) (m .reads₂) in
+        spelt-as (ap (λ (i : List ℕ). m .left ∷ length (m .right) ∷ i) (runs-one (m .right)) ∙ ap (λ (b : Attribute ℕ). map tokenWord (attributeTokens b)) (sym (m .made))) (spelt-then (m .left ∷ []) (length (m .right) ∷ runs (λ x. x ∷ []) (m .right)) s t)
+
+    attributes-words : (l : List (Attribute ℕ)) → map tokenWord (attributesTokens l) ≡ length l ∷ runs (λ a. map tokenWord (attributeTokens a)) l
+    unfolding attributesTokens tokenWord
+    attributes-words l = ap (_∷_ (length l)) (words-runs attributeTokens l)
+
+    pub attributes-spell : (ty : ℕ → Reading (Ty ℕ)) → Spells (λ l. map tokenWord (attributesTokens l)) ws (readCounted ws (readAttribute bound ws (λ x. x) ty))
+    attributes-spell ty p l n h e = spelt-as (sym (attributes-words l)) (counted-spells (λ a. map tokenWord (attributeTokens a)) (readAttribute bound ws (λ x. x) ty) (attribute-spells ty) p l n h e)
+
+    -- a path's words
+    pub path-spells : Spells (λ x. map tokenWord (pathTokens (pathOf ws (λ i. i) x))) ws (readPath bound ws)
+    unfolding readPath pathTokens pathOf tokenWord
+    path-spells p x q l e =
+        let r = bind-got (readBelow 3 ws p) _ e in
+        let k = bind-got (readWord ws (r .end)) _ (r .rest) in
+        let u = bind-got (readNames bound ws (k .value) (k .end)) _ (k .rest) in
+        let s = below-word 3 ws p (r .first) in
+        let t = any-word ws (r .end) (k .first) in
+        let lies = path-lies bound ws p e in
+        let d : record { root = r .value; start = k .end; count = k .value } ≡ x = got-value (u .rest) in
+        let xs = take (x .count) (drop (x .start) ws) in
+        let part = run-part ws (x .start) (x .count) (lies .own .inside) in
+        let known = root-same {N = ℕ} (x .root) in
+        let n : names (MSels (rootOf (x .root)) (map (λ i. i) xs)) ≡ xs = select-names (rootOf (x .root)) (map (λ i. i) xs) ∙ rw (known .1, map-same xs) in
+        let w : rootWord (MSels (rootOf (x .root)) (map (λ i. i) xs)) ≡ r .value = select-root (rootOf (x .root)) (map (λ i. i) xs) ∙ root-word (x .root) (lies .own .root) ∙ sym (ap PathAt.root d) in
+        let v : length (names (MSels (rootOf (x .root)) (map (λ i. i) xs))) ≡ k .value = ap length n ∙ part .0 ∙ sym (ap PathAt.count d) in
+        let m : x .start ≡ k .end = sym (ap PathAt.start d) in
+        let last : Spelt ws (k .end) (take (x .count) (drop (x .start) ws)) q = record { run = subst (λ (i : ℕ). Run ws i (take (x .count) (drop (x .start) ws))) m (part .1); end = omega (arith, path-end bound ws p e, part .0, m) } in
+        let three = spelt-then (r .value ∷ k .value ∷ []) xs (spelt-then (r .value ∷ []) (k .value ∷ []) (spelt-word s) (spelt-word t)) last in
+        spelt-as (rw (w, v, n, name-words xs)) three
+
+    -- the words of an opening, from its head on
+    title-spells : (k : ℕ) (after : After) (p : ℕ) (o : Opening) (q n : ℕ) → Spelt ws p (k ∷ []) q → readTitle bound ws k after q ≡ got o n → Spelt ws p (map tokenWord (o .tokens)) n
+    unfolding readTitle readAttributes titleTokens tokenWord
+    title-spells k after p o q n h e =
+        let r = bind-got (readBelow bound ws q) _ e in
+        let a = bind-got (readAttributes bound ws (r .end)) _ (r .rest) in
+        let t = bind-got (readEntry bound ws (a .end)) _ (a .rest) in
+        let pair = entry bound ws (a .end) (t .first) in
+        let two = two-run ws (a .end) (below-word bound ws (a .end) (pair .first)) (any-word ws (pair .middle) (pair .second)) in
+        let s₁ = spelt-word (below-word bound ws q (r .first)) in
+        let s₂ = attributes-spell (λ i. stop UnknownWord) (r .end) (a .value) (a .end) (spelt-inside s₁) (a .first) in
+        let s₃ : Spelt ws (a .end) (t .value .0 ∷ t .value .1 ∷ []) (t .end) = record { run = two .0; end = two .1 } in
+        let all = spelt-then (k ∷ []) _ h (spelt-then (r .value ∷ []) _ s₁ (spelt-then (map tokenWord (attributesTokens (a .value))) (t .value .0 ∷ t .value .1 ∷ []) s₂ s₃)) in
+        let v = got-value (t .rest) in
+        let m : t .end ≡ n = got-end (t .rest) in
+        subst (Spelt ws p (map tokenWord (o .tokens))) m
+        (spelt-as (ap (λ l. k ∷ r .value ∷ l) (sym (words-append (attributesTokens (a .value)) (name (t .value .0) ∷ word (t .value .1) ∷ []))) ∙ ap (λ (x : Opening). map tokenWord (x .tokens)) v) all)
+
+    using-spells : (p : ℕ) (o : Opening) (q n : ℕ) → Spelt ws p (useHead ∷ []) q → readUsing bound ws q ≡ got o n → Spelt ws p (map tokenWord (o .tokens)) n
+    unfolding readUsing useTokens tokenWord
+    using-spells p o q n h e =
+        let r = bind-got (readBelow 2 ws q) _ e in
+        let x = bind-got (readPath bound ws (r .end)) _ (r .rest) in
+        let w = below-there 2 ws q (r .first) in
+        let s₁ = spelt-word (below-word 2 ws q (r .first)) in
+        let s₂ = path-spells (r .end) (x .value) (x .end) (spelt-inside s₁) (x .first) in
+        let all = spelt-then (useHead ∷ []) _ h (spelt-then (r .value ∷ []) _ s₁ s₂) in
+        let v = got-value (x .rest) in
+        let m : x .end ≡ n = got-end (x .rest) in
+        subst (Spelt ws p (map tokenWord (o .tokens))) m
+        (spelt-as (ap (λ i. useHead ∷ i ∷ map tokenWord (pathTokens (pathOf ws (λ j. j) (x .value)))) (sym (visibility-word (r .value) (w .1))) ∙ ap (λ (y : Opening). map tokenWord (y .tokens)) v) all)
+
+    -- the own words of an opening, and where it ends
+    pub opening-run : (at : ℕ) (o : Opening) (n : ℕ) → readOpening bound ws at ≡ got o n → Run ws at (map tokenWord (o .tokens)) × (n ≡ at + length (o .tokens))
+    unfolding readOpening openingAfter
+    opening-run at o n e =
+        let r = bind-got (readWord ws at) _ e in
+        let s = spelt-word (any-word ws at (r .first)) in
+        let t = go (r .value) (r .end) s (eqb (r .value) structHead) (eqb-true (r .value) structHead) (eqb (r .value) enumHead) (eqb-true (r .value) enumHead)
+        (eqb (r .value) synonymHead) (eqb-true (r .value) synonymHead) (eqb (r .value) useHead) (eqb-true (r .value) useHead) (r .rest) in
+        (t .run, t .end ∙ ap (λ i. at + i) (length-map (o .tokens) tokenWord))
+      where
+        go : (w p : ℕ) → Spelt ws at (w ∷ []) p → (a : Bool) → (a ≡ true → w ≡ structHead) → (b : Bool) → (b ≡ true → w ≡ enumHead) → (c : Bool) → (c ≡ true → w ≡ synonymHead)
+            → (d : Bool) → (d ≡ true → w ≡ useHead)
+            → pick a (readTitle bound ws structHead FieldList p) (pick b (readTitle bound ws enumHead CaseList p) (pick c (readTitle bound ws synonymHead OneType p) (pick d (readUsing bound ws p) (stop UnknownWord)))) ≡ got o n
+            → Spelt ws at (map tokenWord (o .tokens)) n
+        go w p s true h b hb c hc d hd e = title-spells structHead FieldList at o p n (spelt-as (ap (λ i. i ∷ []) (h refl)) s) e
+        go w p s false h true hb c hc d hd e = title-spells enumHead CaseList at o p n (spelt-as (ap (λ i. i ∷ []) (hb refl)) s) e
+        go w p s false h false hb true hc d hd e = title-spells synonymHead OneType at o p n (spelt-as (ap (λ i. i ∷ []) (hc refl)) s) e
+        go w p s false h false hb false hc true hd e = using-spells at o p n (spelt-as (ap (λ i. i ∷ []) (hd refl)) s) e
+        go w p s false h false hb false hc false hd e = impossible (cc)

@@ -1,0 +1,346 @@
+-- A declaration is its opening, and what is left to the walk behind it.
+use Prim.Native.Nat.{ℕ, zero, suc}
+use mathlib.Core.Path.{_≡_, refl, ap, sym, _∙_}
+use mathlib.Core.Bool.{Bool, true, false}
+use mathlib.Core.Option.{some, none}
+use mathlib.Core.List.{List, [], _∷_, _++_, map, append-nil, append-assoc}
+use lib.Dec.{eqb}
+use lib.ListN.{length, take, drop, length-map}
+use Rattle.rast.specs.Tree.{Path, Global, Crate, Self, PMemberSelect, MSels, Ty}
+use Rattle.rast.specs.Declaration.{Attribute, TypeParamDecl, Fields, EnumCase, StructDecl, EnumDecl, TypeDecl, UseDecl}
+use Rattle.encoding.specs.declared.Refusal.the-variants.{UnknownWord}
+use Rattle.encoding.specs.declared.PathAt.{PathAt}
+use Rattle.encoding.specs.Refusals.{pick}
+use Rattle.encoding.specs.Reading.{Reading, got, stop, _>>=_, mapReading, readWord, readBelow}
+use Rattle.encoding.specs.Heads.{readPath}
+use Rattle.encoding.specs.Types.{rootOf, pathOf}
+use Rattle.encoding.specs.Declarations.{structHead, enumHead, synonymHead, useHead, readList, readCounted, visibilityOf, readVisibility, readName, readAttribute, readParameter, readFields, readCase, readStruct, readEnum, readTypeSynonym, readUse, declarationAfter, readDeclaration}
+use Rattle.trees.specs.Renamed.{renamedSize}
+use Rattle.trees.specs.Encode.{Token, word, name, size, rootWord, names, pathTokens}
+use Rattle.pieces.specs.declared.After.{After}
+use Rattle.pieces.specs.declared.After.the-variants.{FieldList, CaseList, OneType, NoMore}
+use Rattle.pieces.specs.declared.Walk.{Walk}
+use Rattle.pieces.specs.Pieces.{Piece, runs, owned, attributeTokens, attributesTokens, titleTokens, useTokens, parameterPieces, fieldsPieces, casePieces, counted, typePiece, heading, front, rest, pieces}
+use Rattle.pieces.specs.Renamed.{renamedAttribute}
+use Rattle.pieces.specs.Walks.{ahead, _&_, many, bodyOf, leftOf, readEntry, Opening, readOneAttribute, readAttributes, readTitle, readUsing, openingAfter, readOpening, opened, renamedToken}
+use Rattle.pieces.proofs.Ahead.{ahead-twice, and-last, and-same, many-none, list-length}
+use Rattle.pieces.proofs.Steps.{left-parameters, rest-after, members-cases}
+
+-- ---- own words by other names
+
+-- a path's words
+pub select-root : {M : Type 0} (p : Path M) (xs : List M) → rootWord (MSels p xs) ≡ rootWord p
+unfolding MSels rootWord
+select-root p [] = refl
+select-root p (x ∷ xs) = select-root (PMemberSelect p x) xs
+
+pub select-names : {M : Type 0} (p : Path M) (xs : List M) → names (MSels p xs) ≡ names p ++ xs
+unfolding MSels names
+select-names p [] = sym (append-nil (names p))
+select-names p (x ∷ xs) = select-names (PMemberSelect p x) xs ∙ append-assoc (names p) (x ∷ []) xs
+
+pub root-same : {N : Type 0} (r : ℕ) → (rootWord {N = ℕ} (rootOf r) ≡ rootWord {N = N} (rootOf r)) × (names {N = ℕ} (rootOf r) ≡ []) × (names {N = N} (rootOf r) ≡ [])
+unfolding rootOf rootWord names
+root-same {N} r = go (eqb r 0) (eqb r 1)
+  where
+    go : (a b : Bool) → (rootWord {N = ℕ} (pick a Global (pick b Crate Self)) ≡ rootWord {N = N} (pick a Global (pick b Crate Self)))
+        × (names {N = ℕ} (pick a Global (pick b Crate Self)) ≡ []) × (names {N = N} (pick a Global (pick b Crate Self)) ≡ [])
+    go true b = (refl, refl, refl)
+    go false true = (refl, refl, refl)
+    go false false = (refl, refl, refl)
+
+pub map-same : (xs : List ℕ) → map (λ i. i) xs ≡ xs
+map-same [] = refl
+map-same (x ∷ xs) = ap (_∷_ x) (map-same xs)
+
+module _ {N : Type 0} (nm : ℕ → N) where
+  tokens-append : (ks js : List (Token ℕ)) → map (renamedToken nm) (ks ++ js) ≡ map (renamedToken nm) ks ++ map (renamedToken nm) js
+  tokens-append [] js = refl
+  tokens-append (k ∷ ks) js = ap (_∷_ (renamedToken nm k)) (tokens-append ks js)
+
+  names-renamed : (xs : List ℕ) → map (renamedToken nm) (map name xs) ≡ map name (map nm xs)
+  unfolding renamedToken
+  names-renamed [] = refl
+  names-renamed (x ∷ xs) = ap (_∷_ (name (nm x))) (names-renamed xs)
+
+  attribute-renamed : (a : Attribute ℕ) → map (renamedToken nm) (attributeTokens a) ≡ attributeTokens (renamedAttribute nm a)
+  unfolding attributeTokens renamedToken
+  attribute-renamed a = rw (names-renamed (a .derived), length-map (a .derived) nm)
+
+  each-renamed : (l : List (Attribute ℕ)) → map (renamedToken nm) (runs attributeTokens l) ≡ runs attributeTokens (map (renamedAttribute nm) l)
+  unfolding runs
+  each-renamed [] = refl
+  each-renamed (a ∷ l) = tokens-append (attributeTokens a) (runs attributeTokens l) ∙ rw (attribute-renamed a, each-renamed l)
+
+  attributes-renamed : (l : List (Attribute ℕ)) → map (renamedToken nm) (attributesTokens l) ≡ attributesTokens (map (renamedAttribute nm) l)
+  unfolding attributesTokens renamedToken
+  attributes-renamed l = rw (each-renamed l, length-map l (renamedAttribute nm))
+
+  title-renamed : (k d : ℕ) (l : List (Attribute ℕ)) (x n : ℕ) → map (renamedToken nm) (titleTokens k d l x n) ≡ titleTokens k (nm d) (map (renamedAttribute nm) l) (nm x) n
+  unfolding titleTokens renamedToken
+  title-renamed k d l x n = rw (tokens-append (attributesTokens l) (name x ∷ word n ∷ []), attributes-renamed l)
+
+  path-renamed : (ws : List ℕ) (p : PathAt) → map (renamedToken nm) (pathTokens (pathOf ws (λ i. i) p)) ≡ pathTokens (pathOf ws nm p)
+  unfolding pathTokens pathOf renamedToken
+  path-renamed ws p =
+      let xs = take (p .count) (drop (p .start) ws) in
+      let r = root-same {N = N} (p .root) in
+      let e : names (MSels (rootOf (p .root)) (map (λ i. i) xs)) ≡ xs = select-names (rootOf (p .root)) (map (λ i. i) xs) ∙ rw (r .1, map-same xs) in
+      let d : names (MSels (rootOf (p .root)) (map nm xs)) ≡ map nm xs = select-names (rootOf (p .root)) (map nm xs) ∙ rw (r .2) in
+      rw (e, d, names-renamed xs, length-map xs nm, select-root (rootOf (p .root)) (map (λ i. i) xs), select-root (rootOf (p .root)) (map nm xs), r .0)
+
+-- names by their numbers are as they stand
+pub tokens-same : (ks : List (Token ℕ)) → map (renamedToken (λ x. x)) ks ≡ ks
+unfolding renamedToken renamedSize
+tokens-same [] = refl
+tokens-same (word k ∷ ks) = ap (_∷_ (word k)) (tokens-same ks)
+tokens-same (name x ∷ ks) = ap (_∷_ (name x)) (tokens-same ks)
+tokens-same (size none ∷ ks) = ap (_∷_ (size none)) (tokens-same ks)
+tokens-same (size (some x) ∷ ks) = ap (_∷_ (size (some x))) (tokens-same ks)
+
+-- what is read behind x′ is what is read behind x, mapped
+pub map-on : {A B C D : Type 0} (r : A → B) (s : C → D) (x : Reading A) {x′ : Reading B} (k : A → ℕ → Reading C) (k′ : B → ℕ → Reading D)
+    → x′ ≡ mapReading r x → ((a : A) (n : ℕ) → k′ (r a) n ≡ mapReading s (k a n)) → (x′ >>= k′) ≡ mapReading s (x >>= k)
+unfolding mapReading
+map-on r s (got a n) k k′ e h = ap (λ y. y >>= k′) e ∙ h a n
+map-on r s (stop i) k k′ e h = ap (λ y. y >>= k′) e
+
+pub list-renamed : {A B : Type 0} (r : A → B) (item : ℕ → Reading A) (item′ : ℕ → Reading B) → ((p : ℕ) → item′ p ≡ mapReading r (item p)) → (n p : ℕ)
+    → readList item′ n p ≡ mapReading (map r) (readList item n p)
+unfolding readList mapReading
+list-renamed r item item′ h zero p = refl
+list-renamed r item item′ h (suc n) p =
+    map-on r (map r) (item p) _ _ (h p) λ x q. map-on (map r) (map r) (readList item n q) _ _ (list-renamed r item item′ h n q) λ xs s. refl
+
+module _ {N : Type 0} (bound : ℕ) (ws : List ℕ) (nm : ℕ → N) (ty : ℕ → Reading (Ty N)) where
+  abbrev noType : ℕ → Reading (Ty ℕ)
+  noType i = stop UnknownWord
+
+  name-read : (p : ℕ) → readName bound ws nm ty p ≡ mapReading nm (readName bound ws (λ x. x) noType p)
+  unfolding readName mapReading
+  name-read p = go (readBelow bound ws p)
+    where
+      go : (y : Reading ℕ) → (y >>= λ x q. got (nm x) q) ≡ mapReading nm (y >>= λ x q. got x q)
+      go (got x q) = refl
+      go (stop r) = refl
+
+  counted-renamed : {A B : Type 0} (r : A → B) (item : ℕ → Reading A) (item′ : ℕ → Reading B) → ((p : ℕ) → item′ p ≡ mapReading r (item p)) → (p : ℕ)
+      → readCounted ws item′ p ≡ mapReading (map r) (readCounted ws item p)
+  unfolding readCounted mapReading
+  counted-renamed r item item′ h p = map-on (λ n. n) (map r) (readWord ws p) _ _ (same (readWord ws p)) λ n q. list-renamed r item item′ h n q
+    where
+      same : (y : Reading ℕ) → y ≡ mapReading (λ n. n) y
+      same (got n q) = refl
+      same (stop r) = refl
+
+  attribute-read : (p : ℕ) → readAttribute bound ws nm ty p ≡ mapReading (renamedAttribute nm) (readOneAttribute bound ws p)
+  unfolding readAttribute mapReading
+  attribute-read p =
+      map-on nm (renamedAttribute nm) (readName bound ws (λ x. x) noType p) _ _ (name-read p) λ x q.
+      map-on (map nm) (renamedAttribute nm) (readCounted ws (readName bound ws (λ x. x) noType) q) _ _ (counted-renamed nm _ _ name-read q) λ xs r. refl
+
+  attributes-read : (p : ℕ) → readCounted ws (readAttribute bound ws nm ty) p ≡ mapReading (map (renamedAttribute nm)) (readAttributes bound ws p)
+  unfolding readAttributes
+  attributes-read p = counted-renamed (renamedAttribute nm) (readOneAttribute bound ws) (readAttribute bound ws nm ty) attribute-read p
+
+  -- a walk where nothing is due
+  abbrev pub done : Walk
+  done = record { place = 0; types = 0; parameters = 0; after = NoMore; kind = 0; fields = 0; cases = 0 }
+
+  -- behind an opening
+  abbrev pub behind : Opening → ℕ → Reading (List (Piece N))
+  behind o n = ahead (owned (map (renamedToken nm) (o .tokens))) (leftOf bound ws nm ty (opened o n))
+
+  opened-rest : (o : Opening) (n : ℕ) → leftOf bound ws nm ty (opened o n)
+      ≡ many (readParameter bound ws nm ty) parameterPieces (o .parameters) n & bodyOf bound ws nm ty done (o .after)
+  unfolding leftOf bodyOf
+  opened-rest o n = left-parameters bound ws nm ty 0 (o .parameters) _ n refl ∙ go (o .after)
+    where
+      go : (a : After) → many (readParameter bound ws nm ty) parameterPieces (o .parameters) n & bodyOf bound ws nm ty (opened o n) a
+          ≡ many (readParameter bound ws nm ty) parameterPieces (o .parameters) n & bodyOf bound ws nm ty done a
+      go FieldList = refl
+      go CaseList = refl
+      go OneType = refl
+      go NoMore = refl
+
+  -- what follows a title is last, and g gives its pieces
+  module _ {B : Type 0} (g : B → List (Piece N)) (k : ℕ) (after : After) (last : N → List (Attribute N) → N → List (TypeParamDecl N) → ℕ → Reading B)
+      (h : (d : N) (l : List (Attribute N)) (x : N) (ps : List (TypeParamDecl N)) (s : ℕ) → mapReading g (last d l x ps s) ≡ ahead (heading k d l x ps) (bodyOf bound ws nm ty done after s)) where
+    title-parameters : (d : N) (l : List (Attribute N)) (x : N) (n : ℕ) (y : Reading (List (TypeParamDecl N))) → ((ps : List (TypeParamDecl N)) (v : ℕ) → y ≡ got ps v → length ps ≡ n)
+        → mapReading g (y >>= λ ps v. last d l x ps v) ≡ ahead (owned (titleTokens k d l x n)) (mapReading (runs parameterPieces) y & bodyOf bound ws nm ty done after)
+    unfolding mapReading _&_ ahead heading
+    title-parameters d l x n (got ps v) e =
+        h d l x ps v
+        ∙ ap (λ i. ahead (owned (titleTokens k d l x i) ++ runs parameterPieces ps) (bodyOf bound ws nm ty done after v)) (e ps v refl)
+        ∙ sym (ahead-twice (owned (titleTokens k d l x n)) (runs parameterPieces ps) (bodyOf bound ws nm ty done after v))
+    title-parameters d l x n (stop r) e = refl
+
+    -- the opening of a title, read up to its number of parameters
+    abbrev titleOf : ℕ → List (Attribute ℕ) → ℕ → ℕ → Opening
+    titleOf d l x n = record { tokens = titleTokens k d l x n; parameters = n; after = after }
+
+    title-count : (d : ℕ) (l : List (Attribute ℕ)) (x n u : ℕ)
+        → mapReading g (readList (readParameter bound ws nm ty) n u >>= λ ps v. last (nm d) (map (renamedAttribute nm) l) (nm x) ps v) ≡ behind (titleOf d l x n) u
+    unfolding many
+    title-count d l x n u =
+        title-parameters (nm d) (map (renamedAttribute nm) l) (nm x) n (readList (readParameter bound ws nm ty) n u) (λ ps v e. list-length (readParameter bound ws nm ty) n u e)
+        ∙ rw (title-renamed nm k d l x n, opened-rest (titleOf d l x n) u)
+
+    title-words : (d : ℕ) (l : List (Attribute ℕ)) (x : ℕ) (y : Reading ℕ)
+        → mapReading g ((y >>= λ n u. readList (readParameter bound ws nm ty) n u) >>= λ ps v. last (nm d) (map (renamedAttribute nm) l) (nm x) ps v)
+        ≡ (y >>= λ n u. behind (titleOf d l x n) u)
+    unfolding mapReading
+    title-words d l x (got n u) = title-count d l x n u
+    title-words d l x (stop r) = refl
+
+    entry-words : (d : ℕ) (l : List (Attribute ℕ)) (r : ℕ)
+        → mapReading g (readName bound ws nm ty r >>= λ x s. readCounted ws (readParameter bound ws nm ty) s >>= λ ps v. last (nm d) (map (renamedAttribute nm) l) x ps v)
+        ≡ (readEntry bound ws r >>= λ e s. behind (titleOf d l (e .0) (e .1)) s)
+    unfolding mapReading readName readCounted readEntry
+    entry-words d l r = go (readBelow bound ws r)
+      where
+        flat : (x : ℕ) (y : Reading ℕ) → (y >>= λ n u. behind (titleOf d l x n) u) ≡ (_>>=_ {B = ℕ × ℕ} y (λ n u. got (x, n) u) >>= λ e s. behind (titleOf d l (e .0) (e .1)) s)
+        flat x (got n u) = refl
+        flat x (stop i) = refl
+
+        go : (y : Reading ℕ)
+            → mapReading g ((y >>= λ x s. got (nm x) s) >>= λ x s. (readWord ws s >>= λ n u. readList (readParameter bound ws nm ty) n u) >>= λ ps v. last (nm d) (map (renamedAttribute nm) l) x ps v)
+            ≡ (_>>=_ {B = ℕ × ℕ} y (λ x s. readWord ws s >>= λ n u. got (x, n) u) >>= λ e s. behind (titleOf d l (e .0) (e .1)) s)
+        go (got x s) = title-words d l x (readWord ws s) ∙ flat x (readWord ws s)
+        go (stop i) = refl
+
+    pub title-pieces : (p : ℕ)
+        → mapReading g (readName bound ws nm ty p >>= λ d q. readCounted ws (readAttribute bound ws nm ty) q >>= λ l r. readName bound ws nm ty r >>= λ x s. readCounted ws (readParameter bound ws nm ty) s >>= λ ps v. last d l x ps v)
+        ≡ (readTitle bound ws k after p >>= λ o n. behind o n)
+    unfolding mapReading readName readTitle
+    title-pieces p = go (readBelow bound ws p)
+      where
+        flat : (d : ℕ) (l : List (Attribute ℕ)) (y : Reading (ℕ × ℕ)) → (y >>= λ e s. behind (titleOf d l (e .0) (e .1)) s) ≡ ((y >>= λ e s. got (titleOf d l (e .0) (e .1)) s) >>= λ o n. behind o n)
+        flat d l (got e s) = refl
+        flat d l (stop i) = refl
+
+        attributes : (d : ℕ) (y : Reading (List (Attribute ℕ)))
+            → mapReading g (mapReading (map (renamedAttribute nm)) y >>= λ l r. readName bound ws nm ty r >>= λ x s. readCounted ws (readParameter bound ws nm ty) s >>= λ ps v. last (nm d) l x ps v)
+            ≡ ((y >>= λ l r. readEntry bound ws r >>= λ e s. got (titleOf d l (e .0) (e .1)) s) >>= λ o n. behind o n)
+        attributes d (got l r) = entry-words d l r ∙ flat d l (readEntry bound ws r)
+        attributes d (stop i) = refl
+
+        go : (y : Reading ℕ)
+            → mapReading g ((y >>= λ d q. got (nm d) q) >>= λ d q. readCounted ws (readAttribute bound ws nm ty) q >>= λ l r. readName bound ws nm ty r >>= λ x s. readCounted ws (readParameter bound ws nm ty) s >>= λ ps v. last d l x ps v)
+            ≡ ((y >>= λ d q. readAttributes bound ws q >>= λ l r. readEntry bound ws r >>= λ e s. got (titleOf d l (e .0) (e .1)) s) >>= λ o n. behind o n)
+        go (got d q) = rw (attributes-read q) (attributes d (readAttributes bound ws q))
+        go (stop i) = refl
+
+bind-assoc : {A B C : Type 0} (x : Reading A) (f : A → ℕ → Reading B) (g : B → ℕ → Reading C) → ((x >>= f) >>= g) ≡ (x >>= λ a n. f a n >>= g)
+bind-assoc (got a n) f g = refl
+bind-assoc (stop r) f g = refl
+
+bind-same : {A B : Type 0} (x : Reading A) (f g : A → ℕ → Reading B) → ((a : A) (n : ℕ) → f a n ≡ g a n) → (x >>= f) ≡ (x >>= g)
+bind-same (got a n) f g e = e a n
+bind-same (stop r) f g e = refl
+
+module _ {N : Type 0} (bound : ℕ) (ws : List ℕ) (nm : ℕ → N) (ty : ℕ → Reading (Ty N)) where
+  -- what a struct, an enum and a type synonym begin with, and what follows it
+  abbrev pub titleThen : {B : Type 0} → (N → List (Attribute N) → N → List (TypeParamDecl N) → ℕ → Reading B) → ℕ → Reading B
+  titleThen last p =
+      readName bound ws nm ty p >>= λ d q. readCounted ws (readAttribute bound ws nm ty) q >>= λ l r. readName bound ws nm ty r >>= λ x s.
+      readCounted ws (readParameter bound ws nm ty) s >>= λ ps v. last d l x ps v
+
+  pub title-assoc : {B C : Type 0} (last : N → List (Attribute N) → N → List (TypeParamDecl N) → ℕ → Reading B) (g : B → ℕ → Reading C) (p : ℕ)
+      → (titleThen last p >>= g) ≡ titleThen (λ d l x ps v. last d l x ps v >>= g) p
+  title-assoc last g p =
+      bind-assoc (readName bound ws nm ty p) _ g
+      ∙ bind-same (readName bound ws nm ty p) _ _ λ d q. bind-assoc (readCounted ws (readAttribute bound ws nm ty) q) _ g
+      ∙ bind-same (readCounted ws (readAttribute bound ws nm ty) q) _ _ λ l r. bind-assoc (readName bound ws nm ty r) _ g
+      ∙ bind-same (readName bound ws nm ty r) _ _ λ x s. bind-assoc (readCounted ws (readParameter bound ws nm ty) s) _ g
+
+  abbrev afterStart : Reading Opening → Reading (List (Piece N))
+  afterStart x = x >>= λ o n. behind bound ws nm ty o n
+
+  struct-pieces : (p : ℕ) → mapReading pieces (readStruct bound ws nm ty p >>= λ s q. got (StructDecl s) q) ≡ afterStart (readTitle bound ws structHead FieldList p)
+  unfolding readStruct pieces front rest ahead mapReading bodyOf
+  struct-pieces p =
+      ap (mapReading pieces) (title-assoc (λ d l x ps s. readFields bound ws nm ty s >>= λ fs t. got (record { docString = d; attributes = l; name = x; typeParams = ps; fields = fs }) t) (λ s q. got (StructDecl s) q) p)
+      ∙ title-pieces bound ws nm ty pieces structHead FieldList _ (λ d l x ps s. go d l x ps (readFields bound ws nm ty s) ∙ ap (ahead (heading structHead d l x ps)) (sym (body s))) p
+    where
+      body : (s : ℕ) → mapReading fieldsPieces (readFields bound ws nm ty s) & many (readCase bound ws nm ty) casePieces 0 ≡ mapReading fieldsPieces (readFields bound ws nm ty s)
+      body s = and-same (mapReading fieldsPieces (readFields bound ws nm ty s)) _ (λ q. got [] q) (λ q. many-none (readCase bound ws nm ty) casePieces 0 q refl) ∙ and-last (mapReading fieldsPieces (readFields bound ws nm ty s))
+
+      go : (d : N) (l : List (Attribute N)) (x : N) (ps : List (TypeParamDecl N)) (y : Reading (Fields N))
+          → mapReading pieces ((y >>= λ fs t. got (record { docString = d; attributes = l; name = x; typeParams = ps; fields = fs }) t) >>= λ s q. got (StructDecl s) q)
+          ≡ ahead (heading structHead d l x ps) (mapReading fieldsPieces y)
+      go d l x ps (got fs t) = refl
+      go d l x ps (stop r) = refl
+
+  enum-pieces : (p : ℕ) → mapReading pieces (readEnum bound ws nm ty p >>= λ e q. got (EnumDecl e) q) ≡ afterStart (readTitle bound ws enumHead CaseList p)
+  unfolding readEnum pieces front rest ahead mapReading bodyOf
+  enum-pieces p =
+      ap (mapReading pieces) (title-assoc (λ d l x ps s. readCounted ws (readCase bound ws nm ty) s >>= λ cs t. got (record { docString = d; attributes = l; name = x; typeParams = ps; variants = cs }) t) (λ e q. got (EnumDecl e) q) p)
+      ∙ title-pieces bound ws nm ty pieces enumHead CaseList _ (λ d l x ps s. go d l x ps (readCounted ws (readCase bound ws nm ty) s)) p
+    where
+      go : (d : N) (l : List (Attribute N)) (x : N) (ps : List (TypeParamDecl N)) (y : Reading (List (EnumCase N)))
+          → mapReading pieces ((y >>= λ cs t. got (record { docString = d; attributes = l; name = x; typeParams = ps; variants = cs }) t) >>= λ e q. got (EnumDecl e) q)
+          ≡ ahead (heading enumHead d l x ps) (mapReading (counted casePieces) y)
+      go d l x ps (got cs t) = refl
+      go d l x ps (stop r) = refl
+
+  synonym-pieces : (p : ℕ) → mapReading pieces (readTypeSynonym bound ws nm ty p >>= λ t q. got (TypeDecl t) q) ≡ afterStart (readTitle bound ws synonymHead OneType p)
+  unfolding readTypeSynonym pieces front rest ahead mapReading bodyOf
+  synonym-pieces p =
+      ap (mapReading pieces) (title-assoc (λ d l x ps s. ty s >>= λ t u. got (record { docString = d; attributes = l; name = x; typeParams = ps; tpe = t }) u) (λ t q. got (TypeDecl t) q) p)
+      ∙ title-pieces bound ws nm ty pieces synonymHead OneType _ (λ d l x ps s. go d l x ps (ty s)) p
+    where
+      go : (d : N) (l : List (Attribute N)) (x : N) (ps : List (TypeParamDecl N)) (y : Reading (Ty N))
+          → mapReading pieces ((y >>= λ t u. got (record { docString = d; attributes = l; name = x; typeParams = ps; tpe = t }) u) >>= λ t q. got (TypeDecl t) q)
+          ≡ ahead (heading synonymHead d l x ps) (mapReading typePiece y)
+      go d l x ps (got t u) = refl
+      go d l x ps (stop r) = refl
+
+  nothing-left : (o : Opening) (n : ℕ) → o .parameters ≡ 0 → o .after ≡ NoMore → leftOf bound ws nm ty (opened o n) ≡ got [] n
+  unfolding bodyOf
+  nothing-left o n e a =
+      rest-after bound ws nm ty (opened o n) refl e a ∙ members-cases bound ws nm ty 0 0 0 n refl ∙ many-none (readCase bound ws nm ty) casePieces 0 n refl
+
+  use-renamed : (v : ℕ) (x : PathAt) → map (renamedToken nm) (useTokens (record { visibility = visibilityOf v; path = pathOf ws (λ i. i) x })) ≡ useTokens (record { visibility = visibilityOf v; path = pathOf ws nm x })
+  unfolding useTokens renamedToken
+  use-renamed v x = rw (path-renamed nm ws x)
+
+  use-piece : (v : ℕ) (x : PathAt) (r : ℕ) → got (pieces (UseDecl (record { visibility = visibilityOf v; path = pathOf ws nm x }))) r
+      ≡ behind bound ws nm ty (record { tokens = useTokens (record { visibility = visibilityOf v; path = pathOf ws (λ i. i) x }); parameters = 0; after = NoMore }) r
+  unfolding pieces front rest ahead mapReading
+  use-piece v x r = rw (use-renamed v x, nothing-left (record { tokens = useTokens (record { visibility = visibilityOf v; path = pathOf ws (λ i. i) x }); parameters = 0; after = NoMore }) r refl refl)
+
+  use-pieces : (p : ℕ) → mapReading pieces (readUse bound ws nm ty p >>= λ u q. got (UseDecl u) q) ≡ afterStart (readUsing bound ws p)
+  unfolding readUse readVisibility readUsing mapReading
+  use-pieces p = go (readBelow 2 ws p)
+    where
+      path : (v : ℕ) (y : Reading PathAt)
+          → mapReading pieces ((y >>= λ x r. got (record { visibility = visibilityOf v; path = pathOf ws nm x }) r) >>= λ u q. got (UseDecl u) q)
+          ≡ ((y >>= λ x r. got (record { tokens = useTokens (record { visibility = visibilityOf v; path = pathOf ws (λ i. i) x }); parameters = 0; after = NoMore }) r) >>= λ o n. behind bound ws nm ty o n)
+      path v (got x r) = use-piece v x r
+      path v (stop i) = refl
+
+      go : (y : Reading ℕ)
+          → mapReading pieces (((y >>= λ v q. got (visibilityOf v) q) >>= λ v q. readPath bound ws q >>= λ x r. got (record { visibility = v; path = pathOf ws nm x }) r) >>= λ u q. got (UseDecl u) q)
+          ≡ ((y >>= λ v q. readPath bound ws q >>= λ x r. got (record { tokens = useTokens (record { visibility = visibilityOf v; path = pathOf ws (λ i. i) x }); parameters = 0; after = NoMore }) r) >>= λ o n. behind bound ws nm ty o n)
+      go (got v q) = path v (readPath bound ws q)
+      go (stop i) = refl
+
+  -- a declaration's pieces: the own words of its opening, and what is left to the walk behind it
+  pub declaration-pieces : (at : ℕ) → mapReading pieces (readDeclaration bound ws nm ty at)
+      ≡ (readOpening bound ws at >>= λ o n. ahead (owned (map (renamedToken nm) (o .tokens))) (leftOf bound ws nm ty (opened o n)))
+  unfolding readDeclaration declarationAfter readOpening openingAfter mapReading
+  declaration-pieces at = go (readWord ws at)
+    where
+      after : (w p : ℕ) (a b c d : Bool)
+          → mapReading pieces (pick a (readStruct bound ws nm ty p >>= λ s q. got (StructDecl s) q) (pick b (readEnum bound ws nm ty p >>= λ e q. got (EnumDecl e) q) (pick c (readTypeSynonym bound ws nm ty p >>= λ t q. got (TypeDecl t) q) (pick d (readUse bound ws nm ty p >>= λ u q. got (UseDecl u) q) (stop UnknownWord)))))
+          ≡ afterStart (pick a (readTitle bound ws structHead FieldList p) (pick b (readTitle bound ws enumHead CaseList p) (pick c (readTitle bound ws synonymHead OneType p) (pick d (readUsing bound ws p) (stop UnknownWord)))))
+      after w p true b c d = struct-pieces p
+      after w p false true c d = enum-pieces p
+      after w p false false true d = synonym-pieces p
+      after w p false false false true = use-pieces p
+      after w p false false false false = refl
+
+      go : (y : Reading ℕ) → mapReading pieces (y >>= λ w p. declarationAfter bound ws nm ty w p) ≡ afterStart (y >>= λ w p. openingAfter bound ws w p)
+      go (got w p) = after w p (eqb w structHead) (eqb w enumHead) (eqb w synonymHead) (eqb w useHead)
+      go (stop r) = refl

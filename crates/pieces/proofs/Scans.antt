@@ -1,0 +1,162 @@
+-- From the code's answers back to the readings, and the readings of own words by their parts.
+use Prim.Native.Nat.{ℕ, zero, suc, _-_, _<_}
+use mathlib.Core.Path.{_≡_, refl, ap, sym, _∙_}
+use mathlib.Core.List.{List, _∷_}
+use native.Mathlib.Omega.{arith}
+use native.Mathlib.Numerals.{sub-one}
+use borrow.Author.Tests.{ne-eqb}
+use Rattle.rast.specs.Declaration.{Attribute}
+use Rattle.encoding.specs.declared.Refusal.{Refusal}
+use Rattle.encoding.specs.declared.Refusal.the-variants.{UnknownWord}
+use Rattle.encoding.specs.declared.Scan.{Scan}
+use Rattle.encoding.specs.declared.Scan.the-variants.{At, Refused}
+use Rattle.encoding.specs.Reading.{Reading, got, stop, _>>=_, readWord, readBelow, readNames}
+use Rattle.encoding.specs.Scans.{ended}
+use Rattle.encoding.specs.Declarations.{readList, readCounted, readAttribute, readName, structHead, enumHead, synonymHead, useHead}
+use Rattle.encoding.proofs.Tables.{impossible}
+use Rattle.encoding.proofs.Types.{made₂-got}
+use Rattle.writing.specs.Written.{EndsAt}
+use Rattle.pieces.specs.declared.After.{After}
+use Rattle.pieces.specs.declared.Two.{Two}
+use Rattle.pieces.specs.declared.Two.the-variants.{Both, Neither}
+use Rattle.pieces.specs.Pieces.{titleTokens}
+use Rattle.pieces.specs.Walks.{readEntry, readTwo, twoScan, readOneAttribute, readAttributes, readTitle, openingAfter, startedAt, startedBehind, titled, started}
+
+pub two-got : (x : Reading (ℕ × ℕ)) {r : Two} {a b n : ℕ} → r ≡ twoScan x → r ≡ Both a b n → x ≡ got (a, b) n
+two-got (got e m) {r} {a} {b} {n} h d =
+    let i : e .0 ≡ a = cc in let j : e .1 ≡ b = cc in let k : m ≡ n = cc in rw (sym i, sym j, sym k) refl
+two-got (stop k) h d = impossible (cc)
+
+pub two-stop : (x : Reading (ℕ × ℕ)) {r : Two} {k : Refusal} → r ≡ twoScan x → r ≡ Neither k → x ≡ stop k
+two-stop (got e m) h d = impossible (cc)
+two-stop (stop k) h d = cc
+
+pub end-got : {A : Type 0} (x : Reading A) {r : Scan} {n : ℕ} → r ≡ ended x → r ≡ At n → EndsAt x n
+end-got (got a m) {r} {n} e d = let q : m ≡ n = cc in record { value = a; reads = ap (got a) q }
+end-got (stop k) e d = impossible (cc)
+
+-- ---- two readings, one behind the other
+
+pub record Pair (x : Reading ℕ) (y : ℕ → Reading ℕ) (a b n : ℕ) : Type 0 where
+  pub middle : ℕ
+  pub first : x ≡ got a middle
+  pub second : y middle ≡ got b n
+
+pub data NoPair (x : Reading ℕ) (y : ℕ → Reading ℕ) (r : Refusal) : Type 0 where
+  at-first : x ≡ stop r → NoPair x y r
+  at-second : {a m : ℕ} → x ≡ got a m → y m ≡ stop r → NoPair x y r
+
+abbrev both : Reading ℕ → (ℕ → Reading ℕ) → Reading (ℕ × ℕ)
+both x y = x >>= λ i q. y q >>= λ j s. got (i, j) s
+
+pair : (x : Reading ℕ) (y : ℕ → Reading ℕ) {a b n : ℕ} → both x y ≡ got (a, b) n → Pair x y a b n
+pair x y {a} {b} {n} e =
+    let m = made₂-got {C = ℕ × ℕ} x y (λ i j. (i, j)) e in
+    let i : m .left ≡ a = ap (λ (q : ℕ × ℕ). q .0) (sym (m .made)) in
+    let j : m .right ≡ b = ap (λ (q : ℕ × ℕ). q .1) (sym (m .made)) in
+    record { middle = m .middle; first = m .reads ∙ ap (λ k. got k (m .middle)) i; second = m .reads₂ ∙ ap (λ k. got k n) j }
+
+no-pair : (x : Reading ℕ) (y : ℕ → Reading ℕ) {r : Refusal} → both x y ≡ stop r → NoPair x y r
+no-pair (got a m) y {r} e = at-second refl (behind (y m) e)
+  where
+    behind : (z : Reading ℕ) → _>>=_ {B = ℕ × ℕ} z (λ j s. got (a, j) s) ≡ stop r → z ≡ stop r
+    behind (got b n) d = impossible (cc)
+    behind (stop k) d = cc
+no-pair (stop k) y e = at-first (cc)
+
+module _ (b : ℕ) (ws : List ℕ) (p : ℕ) where
+  pub entry : {x y n : ℕ} → readEntry b ws p ≡ got (x, y) n → Pair (readBelow b ws p) (readWord ws) x y n
+  unfolding readEntry
+  entry e = pair (readBelow b ws p) (readWord ws) e
+
+  pub no-entry : {r : Refusal} → readEntry b ws p ≡ stop r → NoPair (readBelow b ws p) (readWord ws) r
+  unfolding readEntry
+  no-entry e = no-pair (readBelow b ws p) (readWord ws) e
+
+  pub two : (c : ℕ) {x y n : ℕ} → readTwo b c ws p ≡ got (x, y) n → Pair (readBelow b ws p) (readBelow c ws) x y n
+  unfolding readTwo
+  two c e = pair (readBelow b ws p) (readBelow c ws) e
+
+  pub no-two : (c : ℕ) {r : Refusal} → readTwo b c ws p ≡ stop r → NoPair (readBelow b ws p) (readBelow c ws) r
+  unfolding readTwo
+  no-two c e = no-pair (readBelow b ws p) (readBelow c ws) e
+
+-- ---- attributes
+
+-- names read one by one end where they end read as a list
+names-ended : (b : ℕ) (ws : List ℕ) (name : ℕ → ℕ) (n p : ℕ) → ended (readNames b ws n p) ≡ ended (readList (readName b ws name (λ i. stop UnknownWord)) n p)
+unfolding readNames readList readName
+names-ended b ws name zero p = refl
+names-ended b ws name (suc n) p = go (readBelow b ws p) (names-ended b ws name n)
+  where
+    go : (x : Reading ℕ) → ((q : ℕ) → ended (readNames b ws n q) ≡ ended (readList (readName b ws name (λ i. stop UnknownWord)) n q)) → ended (x >>= λ w q. readNames b ws n q)
+        ≡ ended ((x >>= λ w q. got (name w) q) >>= λ w q. readList (readName b ws name (λ i. stop UnknownWord)) n q >>= λ ws′ r. got (w ∷ ws′) r)
+    go (got w q) ih = ih q ∙ past (readList (readName b ws name (λ i. stop UnknownWord)) n q) (name w)
+      where
+        past : (y : Reading (List ℕ)) (a : ℕ) → ended y ≡ ended (y >>= λ l r. got (a ∷ l) r)
+        past (got l r) a = refl
+        past (stop k) a = refl
+    go (stop k) ih = refl
+
+pub attribute-ended : (b : ℕ) (ws : List ℕ) (p : ℕ) {x m q : ℕ} → readEntry b ws p ≡ got (x, m) q → ended (readNames b ws m q) ≡ ended (readOneAttribute b ws p)
+unfolding readAttribute readCounted readName
+attribute-ended b ws p {x} {m} {q} e =
+    let t = entry b ws p e in
+    names-ended b ws (λ i. i) m q ∙ rw (t .first, t .second) (past (readList (readName b ws (λ i. i) (λ i. stop UnknownWord)) m q))
+  where
+    past : (y : Reading (List ℕ)) → ended y ≡ ended {A = Attribute ℕ} (y >>= λ l r. got (record { name = x; derived = l }) r)
+    past (got l r) = refl
+    past (stop k) = refl
+
+pub attribute-halts : (b : ℕ) (ws : List ℕ) (p : ℕ) {r : Refusal} → readEntry b ws p ≡ stop r → readOneAttribute b ws p ≡ stop r
+unfolding readAttribute readCounted readName
+attribute-halts b ws p {r} e = go (no-entry b ws p e)
+  where
+    go : NoPair (readBelow b ws p) (readWord ws) r → readOneAttribute b ws p ≡ stop r
+    go (at-first d) = rw d
+    go (at-second d k) = rw (d, k)
+
+-- some things, the first of which is read
+pub list-more : {A : Type 0} (item : ℕ → Reading A) (left p : ℕ) {q : ℕ} → 0 < left → EndsAt (item p) q → ended (readList item left p) ≡ ended (readList item (left - 1) q)
+unfolding readList
+list-more item zero p h e = absurd (let z : ⊥ = omega arith in z)
+list-more {A} item (suc n) p {q} h e = rw (e .reads, sub-one (suc n)) (past (readList item n q))
+  where
+    past : (y : Reading (List A)) → ended (y >>= λ l r. got (e .value ∷ l) r) ≡ ended y
+    past (got l r) = refl
+    past (stop k) = refl
+
+pub list-stops : {A : Type 0} (item : ℕ → Reading A) (left p : ℕ) {r : Refusal} → 0 < left → item p ≡ stop r → ended (readList item left p) ≡ Refused r
+unfolding readList
+list-stops item zero p h e = absurd (let z : ⊥ = omega arith in z)
+list-stops item (suc n) p h e = rw e
+
+pub list-none : {A : Type 0} (item : ℕ → Reading A) (left p : ℕ) → left ≡ 0 → ended (readList item left p) ≡ At p
+unfolding readList
+list-none item left p e = rw e
+
+-- ---- openings
+
+-- the walk behind a title does not depend on its own words
+pub title-started : (bound : ℕ) (ws : List ℕ) (k : ℕ) (after : After) (p : ℕ) → started (readTitle bound ws k after p) ≡ titled after bound ws p
+unfolding readTitle
+title-started bound ws k after p = go (readBelow bound ws p)
+  where
+    last : (d : ℕ) (l : List (Attribute ℕ)) (x : Reading (ℕ × ℕ)) → started (x >>= λ e s. got (record { tokens = titleTokens k d l (e .0) (e .1); parameters = e .1; after = after }) s) ≡ startedAt after x
+    last d l (got e s) = refl
+    last d l (stop r) = refl
+
+    behind : (d : ℕ) (x : Reading (List (Attribute ℕ))) → started (x >>= λ l r. readEntry bound ws r >>= λ e s. got (record { tokens = titleTokens k d l (e .0) (e .1); parameters = e .1; after = after }) s)
+        ≡ startedBehind x (λ r. startedAt after (readEntry bound ws r))
+    behind d (got l r) = last d l (readEntry bound ws r)
+    behind d (stop r) = refl
+
+    go : (x : Reading ℕ) → started (x >>= λ d q. readAttributes bound ws q >>= λ l r. readEntry bound ws r >>= λ e s. got (record { tokens = titleTokens k d l (e .0) (e .1); parameters = e .1; after = after }) s)
+        ≡ startedBehind x (λ q. startedBehind (readAttributes bound ws q) λ r. startedAt after (readEntry bound ws r))
+    go (got d q) = behind d (readAttributes bound ws q)
+    go (stop r) = refl
+
+pub opening-none : (bound : ℕ) (ws : List ℕ) (w p : ℕ) → (w ≡ structHead → ⊥) → (w ≡ enumHead → ⊥) → (w ≡ synonymHead → ⊥) → (w ≡ useHead → ⊥)
+    → openingAfter bound ws w p ≡ stop UnknownWord
+unfolding openingAfter
+opening-none bound ws w p a b c d = rw (ne-eqb w structHead a, ne-eqb w enumHead b, ne-eqb w synonymHead c, ne-eqb w useHead d)

@@ -1,0 +1,41 @@
+use Rattle.encoding.proofs.Reading.{word-got, word-stop}
+use Rattle.encoding.specs.Declarations.{readCounted}
+use Rattle.encoding.specs.Reading.{readWord}
+use Rattle.pieces.specs.Walks.{readAttributes}
+use mathlib.Core.Path.{_∙_}
+use borrow.Author.Needs.{needs}
+use Rattle.pieces.proofs.scan_attributes.Statement.{statement}
+use Rattle.pieces.proofs.scan_attributes.Tie as tie
+
+scan-word-requires : tie.Need-scan-word-requires
+scan-word-requires c κs = search needs
+
+enum-known-value : tie.Need-enum-known-value
+enum-known-value c = search needs
+
+scan-each-requires : tie.Need-scan-each-requires
+scan-each-requires c κs = search needs
+
+enum-known-r : tie.Need-enum-known-r
+enum-known-r c = search needs
+
+returns : tie.Need-returns
+unfolding readAttributes readCounted
+returns c =
+    c .scan-each .ensures ∙ rw (word-got (readWord (c .before .before .before .before .before .before .args .words .now) (c .before .before .before .before .before .before .args .at)) (c .before .before .before .before .scan-word .ensures) (c .before .before .value .given .1))
+
+returns-2 : tie.Need-returns-2
+unfolding readAttributes readCounted
+returns-2 c =
+    rw (word-stop (readWord (c .before .before .before .before .before .args .words .now) (c .before .before .before .before .before .args .at)) (c .before .before .before .scan-word .ensures) (c .before .r .given .1))
+
+pub scan-attributes-spec : {M : Type 1} → statement M
+scan-attributes-spec =
+    tie.close
+    (tie.spec
+    scan-word-requires
+    enum-known-value
+    scan-each-requires
+    enum-known-r
+    returns
+    returns-2)

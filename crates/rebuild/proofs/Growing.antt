@@ -1,0 +1,140 @@
+-- Laws of words laid down in a buffer.
+use Prim.Native.Nat.{ℕ, zero, suc, _+_, _-_, _*_, _≤_, _<_}
+use mathlib.Core.Path.{_≡_, refl, ap, sym, _∙_, subst}
+use mathlib.Core.List.{List, [], _∷_, _++_, append-assoc, append-nil}
+use native.Mathlib.Omega.{arith}
+use native.Mathlib.Numerals.{add-one}
+use lib.ListN.{length, take, drop, getD, set, replicate, length-append, length-drop}
+use lib.Seq.{sets, sets-eq, length-sets, take-suc, take-at, drop-at, take-take, take-add, length-take-le, getD-drop}
+use Rattle.output.proofs.Laws.{part-length}
+use Rattle.rules.specs.Table.{toWords}
+use Rattle.rebuild.specs.declared.Laying.{Laying}
+use Rattle.rebuild.specs.declared.Laying.the-variants.{To, Over}
+use Rattle.rebuild.specs.declared.Settling.the-variants.{Settled, Overfull}
+use Rattle.rebuild.specs.Laid.{Grown, Lays, laid, over, GivesTo, given, tooLong}
+
+-- ---- copying
+
+sets-append : (b c o : List ℕ) (p : ℕ) → sets (sets o p b) (p + length b) c ≡ sets o p (b ++ c)
+sets-append [] c o p = let z : p + 0 ≡ p = omega arith in ap (λ q. sets o q c) z
+sets-append (x ∷ b) c o p = let z : p + suc (length b) ≡ suc p + length b = omega arith in ap (λ q. sets (sets (set o p x) (suc p) b) q c) z ∙ sets-append b c (set o p x) (suc p)
+
+pub copy-more : (o s : List ℕ) (p start i : ℕ) → start + i < length s
+    → set (sets o p (take i (drop start s))) (p + i) (getD s (start + i) 0) ≡ sets o p (take (i + 1) (drop start s))
+copy-more o s p start i h =
+    let k : i < length (drop start s) = simp length-drop (omega arith) in
+    let b = take i (drop start s) in
+    let e : length b ≡ i = length-take-le i (drop start s) (omega arith) in
+    let j : sets (sets o p b) (p + length b) (getD s (start + i) 0 ∷ []) ≡ sets o p (b ++ (getD s (start + i) 0 ∷ [])) = sets-append b (getD s (start + i) 0 ∷ []) o p in
+    rw (add-one i, take-suc (drop start s) i 0 k, getD-drop start s i 0) (rw e at j)
+
+-- ---- what has grown
+
+pub grown-sets : (o b : List ℕ) (p q : ℕ) {o′ : List ℕ} → p + length b ≤ length o → o′ ≡ sets o p b → q ≡ p + length b → Grown o p b o′ q
+grown-sets o b p q {o′} h e d =
+    let f : sets o p b ≡ take p o ++ b ++ drop (p + length b) o = sets-eq b o p h in
+    let n : length (take p o ++ b) ≡ q = length-append (take p o) b ∙ ap (λ (x : ℕ). x + length b) (length-take-le p o (omega arith)) ∙ sym d in
+    record {
+      kept = rw e (length-sets o p b);
+      next = d;
+      room = omega arith;
+      front = rw (e, f) (take-at (take p o ++ b) (drop (p + length b) o) q n);
+    }
+
+pub grown-then : {o o′ o″ b c : List ℕ} {p p′ p″ : ℕ} → Grown o p b o′ p′ → Grown o′ p′ c o″ p″ → Grown o p (b ++ c) o″ p″
+grown-then {o} {o′} {o″} {b} {c} {p} {p′} {p″} l m = record {
+  kept = m .kept ∙ l .kept;
+  next = rw (length-append b c) (omega (arith, l .next, m .next));
+  room = omega (arith, m .room, l .kept);
+  front = m .front ∙ ap (λ (x : List ℕ). x ++ c) (l .front) ∙ append-assoc (take p o) b c;
+}
+
+pub grown-nothing : (o : List ℕ) (p : ℕ) → p ≤ length o → Grown o p [] o p
+grown-nothing o p h = record { kept = refl; next = omega arith; room = h; front = sym (append-nil (take p o)) }
+
+-- what lies below the start stays
+grown-below : {o o′ b : List ℕ} {p p′ : ℕ} → Grown o p b o′ p′ → take p o′ ≡ take p o
+grown-below {o} {o′} {b} {p} {p′} l =
+    let h : p ≤ p′ = omega (arith, l .next) in
+    let k : p ≤ length o = omega (arith, l .room) in
+    sym (take-take p p′ o′ h) ∙ ap (take p) (l .front) ∙ take-at (take p o) b p (length-take-le p o k)
+
+-- the words that were laid down
+pub grown-words : {o o′ b : List ℕ} {p p′ : ℕ} → Grown o p b o′ p′ → take (p′ - p) (drop p o′) ≡ b
+grown-words {o} {o′} {b} {p} {p′} l =
+    let k : p ≤ length o = omega (arith, l .next, l .room) in
+    let e : p′ ≡ p + (p′ - p) = omega (arith, l .next) in
+    let n : length (take p o) ≡ p = length-take-le p o k in
+    let f : take p o′ ++ take (p′ - p) (drop p o′) ≡ take p o ++ b = sym (take-add p (p′ - p) o′) ∙ ap (λ (x : ℕ). take x o′) (sym e) ∙ l .front in
+    let g : take p o ++ take (p′ - p) (drop p o′) ≡ take p o ++ b = rw (grown-below l) at f in
+    sym (drop-at (take p o) (take (p′ - p) (drop p o′)) p n) ∙ ap (drop p) g ∙ drop-at (take p o) b p n
+
+-- what was laid down from the same start, in place of what lay there
+pub grown-over : {o o′ o″ b c : List ℕ} {p p′ p″ : ℕ} → Grown o p b o′ p′ → Grown o′ p c o″ p″ → Grown o p c o″ p″
+grown-over {o} {o′} {o″} {b} {c} {p} l m = record {
+  kept = m .kept ∙ l .kept;
+  next = m .next;
+  room = omega (arith, m .room, l .kept);
+  front = m .front ∙ ap (λ (x : List ℕ). x ++ c) (grown-below l);
+}
+
+-- the words at the front of the buffer
+pub grown-front : {o o′ b : List ℕ} {p′ : ℕ} → Grown o 0 b o′ p′ → take p′ o′ ≡ b
+grown-front g = g .front
+
+-- ---- answers
+
+pub lays-to : {limit p q : ℕ} {o b o′ : List ℕ} {r : Laying} → Lays limit o p b o′ r → r ≡ To q → (q ≤ limit) × Grown o p b o′ q
+lays-to {limit} {p} {q} {o} {b} {o′} e d = go (subst (Lays limit o p b o′) d e)
+  where
+    go : Lays limit o p b o′ (To q) → (q ≤ limit) × Grown o p b o′ q
+    go (laid h l) = (h, l)
+
+pub lays-over : {limit p : ℕ} {o b o′ : List ℕ} {r : Laying} → Lays limit o p b o′ r → r ≡ Over → (limit < p + length b) × (length o′ ≡ length o)
+lays-over {limit} {p} {o} {b} {o′} e d = go (subst (Lays limit o p b o′) d e)
+  where
+    go : Lays limit o p b o′ Over → (limit < p + length b) × (length o′ ≡ length o)
+    go (over h k) = (h, k)
+
+-- a part of the words was laid down, or it was too long
+pub part-laid : {limit q : ℕ} {o′ : List ℕ} (o src : List ℕ) (p start count : ℕ) → start + count ≤ length src → p + count ≤ limit → limit ≤ length o → o′ ≡ sets o p (take count (drop start src)) → q ≡ p + count
+    → Lays limit o p (take count (drop start src)) o′ (To q)
+part-laid {limit} {q} o src p start count h k l e d =
+    let n = part-length src start count h in
+    let m : q ≤ limit = omega arith in
+    laid m (grown-sets o (take count (drop start src)) p q (omega (arith, n)) e (omega (arith, n, d)))
+
+pub part-over : {limit : ℕ} {o′ : List ℕ} (o src : List ℕ) (p start count : ℕ) → start + count ≤ length src → p ≤ limit → limit - p < count → o′ ≡ o → Lays limit o p (take count (drop start src)) o′ Over
+part-over {limit} {o′} o src p start count h k l e =
+    let n = part-length src start count h in
+    let m : limit < p + length (take count (drop start src)) = omega (arith, n) in
+    over m (ap length e)
+
+-- ---- zero words
+
+pub zero-more : (i : ℕ) → _≡_ {A = List ℕ} (replicate i 0 ++ (0 ∷ [])) (replicate (suc i) 0)
+zero-more zero = refl
+zero-more (suc i) = ap (λ l. 0 ∷ l) (zero-more i)
+
+pub take-all : (i : ℕ) (l : List ℕ) → length l ≤ i → take i l ≡ l
+take-all zero [] h = refl
+take-all zero (x ∷ l) h = absurd (let z : ⊥ = omega arith in z)
+take-all (suc i) [] h = refl
+take-all (suc i) (x ∷ l) h = ap (λ k. x ∷ k) (take-all i l (omega arith))
+
+pub take-set : (l : List ℕ) (i x : ℕ) → i < length l → take (suc i) (set l i x) ≡ take i l ++ (x ∷ [])
+take-set [] i x h = absurd (let z : ⊥ = omega arith in z)
+take-set (y ∷ l) zero x h = refl
+take-set (y ∷ l) (suc i) x h = ap (λ k. y ∷ k) (take-set l i x (omega arith))
+
+-- ---- the to of a rule in place of a finished type
+
+module _ {rules table : List ℕ} {limit start i : ℕ} {o o′ : List ℕ} {r : Laying}
+    (l : Lays limit o start (take (getD table (4 * i + 2) 0 - getD table (4 * i + 1) 0) (drop (getD table (4 * i + 1) 0) rules)) o′ r) where
+  pub gives-to : {q : ℕ} → r ≡ To q → GivesTo rules table i limit o start o′ (Settled q (getD table (4 * i + 3) 0))
+  unfolding toWords
+  gives-to d = let k = lays-to l d in given (k .0) (k .1)
+
+  pub gives-over : r ≡ Over → GivesTo rules table i limit o start o′ Overfull
+  unfolding toWords
+  gives-over d = let k = lays-over l d in tooLong (k .0) (k .1)

@@ -1,0 +1,91 @@
+use Rattle.rebuild.proofs.Growing.{gives-over, gives-to}
+use native.Mathlib.Omega.{arith}
+use borrow.Author.Needs.{needs}
+use Rattle.rebuild.proofs.give_way.Statement.{statement}
+use Rattle.rebuild.proofs.give_way.Tie as tie
+
+mul-to : tie.Need-mul-to
+mul-to c = search needs
+
+add-to : tie.Need-add-to
+add-to c = search needs
+
+mul-to-2 : tie.Need-mul-to-2
+mul-to-2 c = search needs
+
+element-copy-out-to : tie.Need-element-copy-out-to
+element-copy-out-to c = search needs
+
+mul-count : tie.Need-mul-count
+mul-count c = search needs
+
+add-count : tie.Need-add-count
+add-count c = search needs
+
+mul-count-2 : tie.Need-mul-count-2
+mul-count-2 c = search needs
+
+element-copy-out-count : tie.Need-element-copy-out-count
+element-copy-out-count c = search needs
+
+sub-count : tie.Need-sub-count
+sub-count c = omega (arith, c .before .before .before .before .pre .0 .to (c .before .before .before .before .args .i) (c .before .before .before .before .pre .1))
+
+mul-depth : tie.Need-mul-depth
+mul-depth c = search needs
+
+add-depth : tie.Need-add-depth
+add-depth c = search needs
+
+mul-depth-2 : tie.Need-mul-depth-2
+mul-depth-2 c = search needs
+
+element-copy-out-depth : tie.Need-element-copy-out-depth
+element-copy-out-depth c = search needs
+
+lay-requires : tie.Need-lay-requires
+lay-requires c κs =
+    let a = c .before .before .before .before .before .before .args in let f = c .before .before .before .before .before .before .pre .0 in (omega (arith, f .to (a .i) (c .before .before .before .before .before .before .pre .1), f .inside (a .i) (c .before .before .before .before .before .before .pre .1)), c .before .before .before .before .before .before .pre .2, c .before .before .before .before .before .before .pre .3)
+
+enum-known-pos : tie.Need-enum-known-pos
+enum-known-pos c = search needs
+
+enum-told : tie.Need-enum-told
+enum-told c = search needs
+
+same-length : tie.Need-same-length
+same-length c = search needs
+
+returns : tie.Need-returns
+returns c = gives-to (c .before .before .before .before .before .lay .ensures) (c .before .pos .given .1)
+
+same-length-2 : tie.Need-same-length-2
+same-length-2 c = search needs
+
+returns-2 : tie.Need-returns-2
+returns-2 c = gives-over (c .before .before .before .before .lay .ensures) (c .enum-told .given .1)
+
+pub give-way-spec : {M : Type 1} → statement M
+give-way-spec =
+    tie.close
+    (tie.spec
+    mul-to
+    add-to
+    mul-to-2
+    element-copy-out-to
+    mul-count
+    add-count
+    mul-count-2
+    element-copy-out-count
+    sub-count
+    mul-depth
+    add-depth
+    mul-depth-2
+    element-copy-out-depth
+    lay-requires
+    enum-known-pos
+    enum-told
+    same-length
+    returns
+    same-length-2
+    returns-2)

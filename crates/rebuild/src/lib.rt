@@ -1,0 +1,268 @@
+// Rebuilding a type by rules: words are laid down in a buffer, and a finished type that equals a rule's from gives way to its to.
+ghost use mathlib.Core.Path.{_≡_};
+ghost use Prim.Native.Nat.{min, _+_, _-_, _*_, _≤_, _<_};
+ghost use lib.ListN.{length, take, drop};
+ghost use lib.Seq.{sets};
+ghost use Rattle.encoding.specs.Refusals.{given};
+ghost use Rattle.encoding.specs.Tables.{Good, nameBytes};
+ghost use Rattle.encoding.specs.Types.{readTypes};
+ghost use Rattle.trees.specs.Numbered.{treeAt};
+ghost use Rattle.writing.specs.Written.{Readable};
+ghost use Rattle.rules.specs.Table.{Fits, foundFrom};
+ghost use Rattle.rebuild.specs.Laid.{Lays, GivesTo, Settles, Ruled, mapping, TypeRebuilds, TypesRebuild};
+ghost use Rattle.rebuild.specs.Calls.{zeros, laidDown};
+use encoding::HeadScan;
+use encoding::Refusal;
+use rules::Found;
+
+// ---- laying words down
+
+// `count` words of `src` from `start` on, copied to `out` from `pos` on.
+pub fn copy_words(src: &[u32], start: usize, count: usize, out: &mut [u32], pos: usize)
+    requires { ⌜ (start + count ≤ length (now src)) × (pos + count ≤ length (now out)) ⌝ }
+    ensures { λ r. ⌜ now (out .exit) ≡ sets (now (out .entry)) pos (take count (drop start (now (src .entry)))) ⌝ }
+{
+    let mut i = 0;
+    while i < count {
+        out[pos + i] = src[start + i];
+        i += 1;
+    }
+}
+
+// Zero words all over `out`.
+pub fn clear(out: &mut [u32])
+    ensures { λ r. ⌜ now (out .exit) ≡ zeros (now (out .entry)) ⌝ }
+{
+    let mut i = 0;
+    while i < out.len() {
+        out[i] = 0;
+        i += 1;
+    }
+}
+
+// Where words that were laid down end, or they would pass the limit.
+pub enum Laying {
+    To(usize),
+    Over,
+}
+
+pub fn lay(
+    src: &[u32],
+    start: usize,
+    count: usize,
+    out: &mut [u32],
+    pos: usize,
+    limit: usize,
+) -> Laying
+    requires { ⌜ (start + count ≤ length (now src)) × (pos ≤ limit) × (limit ≤ length (now out)) ⌝ }
+    ensures { λ r. ⌜ Lays limit (now (out .entry)) pos (take count (drop start (now (src .entry)))) (now (out .exit)) r ⌝ }
+{
+    if limit - pos < count {
+        return Laying::Over;
+    }
+    copy_words(src, start, count, out, pos);
+    Laying::To(pos + count)
+}
+
+// As many words as may lie in a buffer of `size` words, and no more than `most`.
+pub fn room_of(size: usize, most: usize) -> usize
+    ensures { λ r. ⌜ r ≡ min size most ⌝ }
+{
+    if size < most {
+        return size;
+    }
+    most
+}
+
+// ---- types
+
+// Where a finished type ends after the rules were tried, and how deep it is; or it would pass the limit.
+enum Settling {
+    Settled { pos: usize, depth: usize },
+    Overfull,
+}
+
+// What lies from `start` on gives way to the to of rule `i`.
+fn give_way(
+    rules: &[u32],
+    table: &[usize; 128],
+    k: usize,
+    i: usize,
+    out: &mut [u32],
+    start: usize,
+    limit: usize,
+) -> Settling
+    requires { ⌜ Fits (now rules) (now table) k × (i < k) × (start ≤ limit) × (limit ≤ length (now out)) ⌝ }
+    ensures { λ r. ⌜ GivesTo (now (rules .entry)) (now (table .entry)) i limit (now (out .entry)) start (now (out .exit)) r ⌝ }
+{
+    let to = table[4 * i + 1];
+    let count = table[4 * i + 2] - to;
+    let depth = table[4 * i + 3];
+    match lay(rules, to, count, out, start, limit) {
+        Laying::To(pos) => Settling::Settled { pos, depth },
+        Laying::Over => Settling::Overfull,
+    }
+}
+
+// The finished type between `start` and `end` gives way to the to of a rule whose from it equals.
+fn settle(
+    pairs: &[u32],
+    text: &[u8],
+    rules: &[u32],
+    table: &[usize; 128],
+    k: usize,
+    out: &mut [u32],
+    start: usize,
+    end: usize,
+    depth: usize,
+    limit: usize,
+) -> Settling
+    requires { ⌜ Good (now pairs) (now text) × Fits (now rules) (now table) k × (start ≤ end) × (end ≤ limit) × (limit ≤ length (now out)) ⌝ }
+    ensures { λ r. ⌜ Settles (now (rules .entry)) (now (table .entry))
+        (foundFrom (nameBytes (now (pairs .entry)) (now (text .entry))) (now (rules .entry)) (now (table .entry)) 0 k (take (end - start) (drop start (now (out .entry)))))
+        limit (now (out .entry)) start end depth (now (out .exit)) r ⌝ }
+{
+    match rules::find_rule(rules, pairs, text, table, k, out, start, end - start) {
+        Found::At(i) => give_way(rules, table, k, i, out, start, limit),
+        Found::Nothing => Settling::Settled { pos: end, depth },
+    }
+}
+
+// Where rebuilding has come to in the words and in the buffer, and how deep what was rebuilt is; or more words would lie there than the limit.
+pub enum Rebuilt {
+    Done {
+        next: usize,
+        pos: usize,
+        depth: usize,
+    },
+    Full,
+}
+
+// The accepted type at `at`, rebuilt: its own words, the types below it, and then the rules.
+pub fn rebuild_type(
+    words: &[u32],
+    pairs: &[u32],
+    text: &[u8],
+    rules: &[u32],
+    table: &[usize; 128],
+    k: usize,
+    at: usize,
+    out: &mut [u32],
+    pos: usize,
+    limit: usize,
+) -> Rebuilt
+    requires { ⌜ Good (now pairs) (now text) × Ruled (now rules) (now pairs) (now text) (now table) k × Readable (treeAt (now words) (now pairs) at)
+        × (pos ≤ limit) × (limit ≤ length (now out)) ⌝ }
+    ensures { λ r. ⌜ TypeRebuilds (mapping (now (rules .entry)) (now (pairs .entry)) (now (text .entry))) limit (now (out .entry)) pos
+        (treeAt (now (words .entry)) (now (pairs .entry)) at) (now (out .exit)) r ⌝ }
+{
+    let bound = encoding::name_count(pairs);
+    let HeadScan::Own { head, next } = encoding::scan_head(words, bound, at) else {
+        return Rebuilt::Full;
+    };
+    let Laying::To(p) = lay(words, at, next - at, out, pos, limit) else {
+        return Rebuilt::Full;
+    };
+    let kids = encoding::kids_of(head);
+    match rebuild_types(
+        words,
+        pairs,
+        text,
+        rules,
+        table,
+        k,
+        next,
+        kids,
+        out,
+        p,
+        limit,
+    ) {
+        Rebuilt::Done {
+            next: end,
+            pos: q,
+            depth: below,
+        } => match settle(pairs, text, rules, table, k, out, pos, q, below + 1, limit) {
+            Settling::Settled { pos: last, depth } => Rebuilt::Done {
+                next: end,
+                pos: last,
+                depth,
+            },
+            Settling::Overfull => Rebuilt::Full,
+        },
+        Rebuilt::Full => Rebuilt::Full,
+    }
+}
+
+// `n` accepted types, rebuilt one after the other.
+fn rebuild_types(
+    words: &[u32],
+    pairs: &[u32],
+    text: &[u8],
+    rules: &[u32],
+    table: &[usize; 128],
+    k: usize,
+    at: usize,
+    n: usize,
+    out: &mut [u32],
+    pos: usize,
+    limit: usize,
+) -> Rebuilt
+    requires { ⌜ Good (now pairs) (now text) × Ruled (now rules) (now pairs) (now text) (now table) k × (at ≤ length (now words))
+        × Readable (readTypes (treeAt (now words) (now pairs)) n at) × (pos ≤ limit) × (limit ≤ length (now out)) ⌝ }
+    ensures { λ r. ⌜ TypesRebuild (mapping (now (rules .entry)) (now (pairs .entry)) (now (text .entry))) limit (now (out .entry)) pos
+        (readTypes (treeAt (now (words .entry)) (now (pairs .entry))) n at) (now (out .exit)) r ⌝ }
+{
+    let mut place = at;
+    let mut p = pos;
+    let mut deepest = 0;
+    let mut left = n;
+    while 0 < left {
+        match rebuild_type(words, pairs, text, rules, table, k, place, out, p, limit) {
+            Rebuilt::Done {
+                next,
+                pos: q,
+                depth,
+            } => {
+                place = next;
+                p = q;
+                deepest = rules::larger(deepest, depth);
+            }
+            Rebuilt::Full => {
+                return Rebuilt::Full;
+            }
+        }
+        left -= 1;
+    }
+    Rebuilt::Done {
+        next: place,
+        pos: p,
+        depth: deepest,
+    }
+}
+
+// ---- the call
+
+// How many words fill the front of the buffer, or a refusal.
+pub enum RebuildAnswer {
+    Length(usize),
+    Refused(Refusal),
+}
+
+// A call's answer, or that there was no room for it.
+pub enum Attempt {
+    Answered(RebuildAnswer),
+    NoRoom,
+}
+
+// What was rebuilt goes to the caller's buffer, unless it is too deep.
+pub fn finish(from: &[u32], count: usize, depth: usize, out: &mut [u32]) -> RebuildAnswer
+    requires { ⌜ (count ≤ length (now from)) × (count ≤ length (now out)) × (count ≤ 8192) ⌝ }
+    ensures { λ r. ⌜ (r, now (out .exit)) ≡ laidDown (now (out .entry)) (given (record { words = take count (now (from .entry)); top = count; deep = depth })) ⌝ }
+{
+    if 64 < depth {
+        clear(out);
+        return RebuildAnswer::Refused(Refusal::TooDeep);
+    }
+    copy_words(from, 0, count, out, 0);
+    RebuildAnswer::Length(count)
+}

@@ -1,0 +1,118 @@
+-- Laws of pieces that are laid down one behind the other.
+use Prim.Native.Nat.{ℕ, suc, _+_, _≤_, max}
+use mathlib.Core.Path.{_≡_, refl, ap, sym, _∙_}
+use mathlib.Core.List.{List, [], _∷_, _++_, map, append-assoc, append-nil}
+use native.Mathlib.Omega.{arith}
+use lib.ListN.{length, length-append}
+use Rattle.rast.specs.Tree.{Ty}
+use Rattle.rast.specs.Declaration.{Declaration, StructDecl, EnumDecl, TypeDecl, UseDecl, Fields, NamedFields, NamelessFields, EnumCase}
+use Rattle.trees.specs.Encode.{Token, tokenWord, tokens, words, encode}
+use Rattle.replace.specs.Replace.{Replace}
+use Rattle.replace.specs.Laying.{depth, peak}
+use Rattle.replace.proofs.Nodes.{peak-least}
+use Rattle.pieces.specs.Pieces.{Piece, own, type, runs, owned, pieceTokens, pieces, declarationTokens, encodeDeclaration}
+use Rattle.pieces.specs.WithTypes.{fieldsWith, caseWith, withTypes, pieceWith}
+use Rattle.pieces.proofs.WithTypes.{with-pieces}
+use Rattle.rebuild_declaration.specs.Replacer.{ReplaceTypeParams, ReplaceFields, ReplaceStruct, ReplaceEnumCase, ReplaceEnum, ReplaceTypeDecl, ReplaceUse, ReplaceModDecl}
+use Rattle.rebuild_declaration.specs.Laying.{encodePieces, deepestPiece, topPieces, rebuiltWords, rebuiltDepth}
+use Rattle.rebuild_declaration.specs.Calls.{laidDeclaration}
+
+map-append : {A B : Type 0} (f : A → B) (xs ys : List A) → map f (xs ++ ys) ≡ map f xs ++ map f ys
+map-append f [] ys = refl
+map-append f (x ∷ xs) ys = ap (λ l. f x ∷ l) (map-append f xs ys)
+
+pub token-count : (xs : List (Token ℕ)) → length (map tokenWord xs) ≡ length xs
+token-count [] = refl
+token-count (x ∷ xs) = ap suc (token-count xs)
+
+runs-append : {A B : Type 0} (f : A → List B) (xs ys : List A) → runs f (xs ++ ys) ≡ runs f xs ++ runs f ys
+unfolding runs
+runs-append f [] ys = refl
+runs-append f (x ∷ xs) ys = ap (λ l. f x ++ l) (runs-append f xs ys) ∙ sym (append-assoc (f x) (runs f xs) (runs f ys))
+
+encode-append : (ps qs : List (Piece ℕ)) → encodePieces (ps ++ qs) ≡ encodePieces ps ++ encodePieces qs
+unfolding encodePieces
+encode-append ps qs = ap (map tokenWord) (runs-append pieceTokens ps qs) ∙ map-append tokenWord (runs pieceTokens ps) (runs pieceTokens qs)
+
+deepest-append : (ps qs : List (Piece ℕ)) → deepestPiece (ps ++ qs) ≡ max (deepestPiece ps) (deepestPiece qs)
+unfolding deepestPiece
+deepest-append [] qs = omega arith
+deepest-append (own k ∷ ps) qs = deepest-append ps qs
+deepest-append (type t ∷ ps) qs = let k = deepest-append ps qs in omega (arith, k)
+
+pub encode-none : length (encodePieces []) ≡ 0
+unfolding encodePieces runs
+encode-none = refl
+
+pub encode-own : (k : Token ℕ) (ps : List (Piece ℕ)) → length (encodePieces (own k ∷ ps)) ≡ suc (length (encodePieces ps))
+unfolding encodePieces runs pieceTokens
+encode-own k ps = refl
+
+pub encode-type : (t : Ty ℕ) (ps : List (Piece ℕ)) → length (encodePieces (type t ∷ ps)) ≡ words t + length (encodePieces ps)
+unfolding encodePieces runs pieceTokens words
+encode-type t ps =
+    ap length (map-append tokenWord (tokens t) (runs pieceTokens ps)) ∙ length-append (map tokenWord (tokens t)) (map tokenWord (runs pieceTokens ps))
+    ∙ ap (λ n. n + length (map tokenWord (runs pieceTokens ps))) (token-count (tokens t))
+
+module _ (m : Ty ℕ → Ty ℕ) where
+  pub words-append : (ps qs : List (Piece ℕ)) → rebuiltWords m (ps ++ qs) ≡ rebuiltWords m ps ++ rebuiltWords m qs
+  words-append ps qs = ap encodePieces (map-append (pieceWith (Replace m)) ps qs) ∙ encode-append (map (pieceWith (Replace m)) ps) (map (pieceWith (Replace m)) qs)
+
+  pub depth-append : (ps qs : List (Piece ℕ)) → rebuiltDepth m (ps ++ qs) ≡ max (rebuiltDepth m ps) (rebuiltDepth m qs)
+  depth-append ps qs = ap deepestPiece (map-append (pieceWith (Replace m)) ps qs) ∙ deepest-append (map (pieceWith (Replace m)) ps) (map (pieceWith (Replace m)) qs)
+
+  -- no fewer words lie there than are left
+  pub top-least : (ps : List (Piece ℕ)) → length (rebuiltWords m ps) ≤ topPieces m ps
+  unfolding topPieces pieceWith
+  top-least [] = omega (arith, encode-none)
+  top-least (own k ∷ ps) = let h = top-least ps in omega (arith, h, encode-own k (map (pieceWith (Replace m)) ps))
+  top-least (type t ∷ ps) = let h = top-least ps in omega (arith, h, encode-type (Replace m t) (map (pieceWith (Replace m)) ps))
+
+  pub top-append : (ps qs : List (Piece ℕ)) → topPieces m (ps ++ qs) ≡ max (topPieces m ps) (length (rebuiltWords m ps) + topPieces m qs)
+  unfolding topPieces pieceWith
+  top-append [] qs = omega (arith, encode-none)
+  top-append (own k ∷ ps) qs = let h = top-append ps qs in omega (arith, h, encode-own k (map (pieceWith (Replace m)) ps))
+  top-append (type t ∷ ps) qs = let h = top-append ps qs in omega (arith, h, encode-type (Replace m t) (map (pieceWith (Replace m)) ps))
+
+  -- own words alone
+  pub own-words : (ks : List (Token ℕ)) → (rebuiltWords m (owned ks) ≡ map tokenWord ks) × (topPieces m (owned ks) ≡ length ks) × (rebuiltDepth m (owned ks) ≡ 0)
+  unfolding encodePieces runs pieceTokens pieceWith topPieces deepestPiece
+  own-words [] = (refl, refl, refl)
+  own-words (k ∷ ks) = let h = own-words ks in let e : topPieces m (own k ∷ owned ks) ≡ suc (length ks) = omega (arith, h .1) in (ap (λ l. tokenWord k ∷ l) (h .0), e, h .2)
+
+  -- one type alone
+  pub one-type : (t : Ty ℕ) → (rebuiltWords m (type t ∷ []) ≡ encode (Replace m t)) × (topPieces m (type t ∷ []) ≡ peak m t) × (rebuiltDepth m (type t ∷ []) ≡ depth (Replace m t))
+  unfolding encodePieces runs pieceTokens pieceWith topPieces deepestPiece encode
+  one-type t = (ap (map tokenWord) (append-nil (tokens (Replace m t))), omega (arith, peak-least m t), omega arith)
+
+  -- ---- declarations
+
+  same-map : {A B : Type 0} (f g : A → B) → ((x : A) → f x ≡ g x) → (xs : List A) → map f xs ≡ map g xs
+  same-map f g h [] = refl
+  same-map f g h (x ∷ xs) = ap (λ y. y ∷ map f xs) (h x) ∙ ap (λ l. g x ∷ l) (same-map f g h xs)
+
+  fields-with : (f : Fields ℕ) → ReplaceFields m f ≡ fieldsWith (Replace m) f
+  unfolding ReplaceFields fieldsWith
+  fields-with (NamedFields xs) = refl
+  fields-with (NamelessFields xs) = refl
+
+  case-with : (c : EnumCase ℕ) → ReplaceEnumCase m c ≡ caseWith (Replace m) c
+  unfolding ReplaceEnumCase
+  case-with c = ap (λ (f : Fields ℕ). record { docString = c .docString; name = c .name; fields = f }) (fields-with (c .fields))
+
+  replaced-with : (d : Declaration ℕ) → ReplaceModDecl m d ≡ withTypes (Replace m) d
+  unfolding ReplaceModDecl ReplaceStruct ReplaceEnum ReplaceTypeDecl ReplaceUse ReplaceTypeParams withTypes
+  replaced-with (StructDecl s) = ap (λ (f : Fields ℕ). StructDecl (record { docString = s .docString; attributes = s .attributes; name = s .name; typeParams = ReplaceTypeParams m (s .typeParams); fields = f })) (fields-with (s .fields))
+  replaced-with (EnumDecl e) =
+      ap (λ (cs : List (EnumCase ℕ)). EnumDecl (record { docString = e .docString; attributes = e .attributes; name = e .name; typeParams = ReplaceTypeParams m (e .typeParams); variants = cs }))
+      (same-map (ReplaceEnumCase m) (caseWith (Replace m)) case-with (e .variants))
+  replaced-with (TypeDecl t) = refl
+  replaced-with (UseDecl u) = refl
+
+  -- a rebuilt declaration is its pieces, rebuilt
+  pub declaration-words : (d : Declaration ℕ) → laidDeclaration m d .words ≡ rebuiltWords m (pieces d)
+  unfolding encodeDeclaration declarationTokens encodePieces
+  declaration-words d = ap (λ (e : Declaration ℕ). map tokenWord (runs pieceTokens (pieces e))) (replaced-with d) ∙ ap (λ ps. map tokenWord (runs pieceTokens ps)) (with-pieces (Replace m) d)
+
+  pub declaration-depth : (d : Declaration ℕ) → laidDeclaration m d .deep ≡ rebuiltDepth m (pieces d)
+  declaration-depth d = ap (λ (e : Declaration ℕ). deepestPiece (pieces e)) (replaced-with d) ∙ ap deepestPiece (with-pieces (Replace m) d)

@@ -1,0 +1,36 @@
+-- What the call that rebuilds a declaration gives.
+use Prim.Native.Nat.{ℕ}
+use mathlib.Core.List.{List}
+use lib.ListN.{length}
+use Rattle.rast.specs.Bytes.{Bytes}
+use Rattle.rast.specs.Tree.{Ty}
+use Rattle.rast.specs.Declaration.{Declaration}
+use Rattle.encoding.specs.Refusals.{Answer, unless}
+use Rattle.encoding.specs.Reading.{Reading, whole}
+use Rattle.encoding.specs.Tables.{nameCount}
+use Rattle.encoding.specs.Declarations.{readDeclaration}
+use Rattle.trees.specs.Numbered.{treeAt}
+use Rattle.replace.specs.Rules.{checkAll, rulesOf, mappingOf}
+use Rattle.pieces.specs.Pieces.{pieces, encodeDeclaration}
+use Rattle.rebuild.specs.declared.Rebuilt.{Rebuilt}
+use Rattle.rebuild.specs.Laid.{Rebuilds}
+use Rattle.rebuild.specs.Calls.{Laid, ruledBy}
+use Rattle.rebuild_declaration.specs.Replacer.{ReplaceModDecl}
+use Rattle.rebuild_declaration.specs.Laying.{deepestPiece, topPieces}
+
+-- the declaration that begins the words, by name numbers
+abbrev pub declarationIn : List ℕ → List ℕ → Reading (Declaration ℕ)
+declarationIn ws pairs = readDeclaration (nameCount pairs) ws (λ x. x) (treeAt ws pairs) 0
+
+-- a declaration rebuilt by a mapping
+abbrev pub laidDeclaration : (Ty ℕ → Ty ℕ) → Declaration ℕ → Laid
+laidDeclaration m d = record { words = encodeDeclaration (ReplaceModDecl m d); top = topPieces m (pieces d); deep = deepestPiece (pieces (ReplaceModDecl m d)) }
+
+-- the declaration that an encoding holds, rebuilt by the rules of a list
+unfoldable pub declarationRebuilt : List ℕ → List ℕ → Bytes → List ℕ → Answer Laid
+declarationRebuilt words pairs text rules =
+    unless (checkAll words rules pairs text)
+    (ruledBy (λ rs. laidDeclaration (mappingOf pairs text rs)) (whole (length words) (declarationIn words pairs)) (rulesOf rules pairs text))
+
+abbrev pub DeclarationRebuilds : (Ty ℕ → Ty ℕ) → ℕ → List ℕ → Reading (Declaration ℕ) → List ℕ → Rebuilt → Type 0
+DeclarationRebuilds m limit o x o′ r = Rebuilds (λ d. laidDeclaration m d .words) (λ d. laidDeclaration m d .top) (λ d. laidDeclaration m d .deep) limit o 0 x o′ r

@@ -1,0 +1,3 @@
+pub mod Replacer
+pub mod Laying
+pub mod Calls

@@ -1,0 +1,155 @@
+// A declaration rebuilt by rules: its own words are kept, and each of its types is rebuilt.
+ghost use Prim.Native.Nat.{_≤_};
+ghost use lib.ListN.{length};
+ghost use Rattle.encoding.specs.Tables.{Good};
+ghost use Rattle.writing.specs.Written.{Readable};
+ghost use Rattle.rebuild.specs.Laid.{Ruled, mapping};
+ghost use Rattle.rebuild_declaration.specs.Laying.{leftIn, Advanced, PiecesRebuild};
+ghost use Rattle.rebuild_declaration.specs.Calls.{declarationIn, DeclarationRebuilds};
+use pieces::Next;
+use pieces::Start;
+use pieces::Walk;
+use rebuild::Laying;
+use rebuild::Rebuilt;
+
+// One step of a walk that rebuilds: some own words or a type were laid down, and how deep the type is; or nothing was left; or more words would lie there
+// than the limit.
+pub enum Advance {
+    Further {
+        walk: Walk,
+        pos: usize,
+        depth: usize,
+    },
+    Finished,
+    NoSpace,
+}
+
+// One step of the walk over an accepted declaration.
+fn lay_next(
+    words: &[u32],
+    pairs: &[u32],
+    text: &[u8],
+    rules: &[u32],
+    table: &[usize; 128],
+    k: usize,
+    walk: Walk,
+    out: &mut [u32],
+    pos: usize,
+    limit: usize,
+) -> Advance
+    requires { ⌜ Good (now pairs) (now text) × Ruled (now rules) (now pairs) (now text) (now table) k × Readable (leftIn (now words) (now pairs) walk)
+        × (walk .place ≤ length (now words)) × (pos ≤ limit) × (limit ≤ length (now out)) ⌝ }
+    ensures { λ r. ⌜ Advanced (mapping (now (rules .entry)) (now (pairs .entry)) (now (text .entry))) (now (words .entry)) (now (pairs .entry)) walk limit
+        (now (out .entry)) pos (now (out .exit)) r ⌝ }
+{
+    let place = walk.place;
+    match pieces::next_piece(words, encoding::name_count(pairs), walk) {
+        Next::OwnWords(next) => {
+            let count = next.place - place;
+            match rebuild::lay(words, place, count, out, pos, limit) {
+                Laying::To(p) => Advance::Further {
+                    walk: next,
+                    pos: p,
+                    depth: 0,
+                },
+                Laying::Over => Advance::NoSpace,
+            }
+        }
+        Next::TypeDue(next) => match rebuild::rebuild_type(
+            words,
+            pairs,
+            text,
+            rules,
+            table,
+            k,
+            place,
+            out,
+            pos,
+            limit,
+        ) {
+            Rebuilt::Done {
+                next: end,
+                pos: p,
+                depth,
+            } => Advance::Further {
+                walk: pieces::move_to(next, end),
+                pos: p,
+                depth,
+            },
+            Rebuilt::Full => Advance::NoSpace,
+        },
+        Next::Ended => Advance::Finished,
+        Next::Halted(_) => Advance::Finished,
+    }
+}
+
+// What is left of an accepted declaration to a walk, rebuilt.
+fn rebuild_rest(
+    words: &[u32],
+    pairs: &[u32],
+    text: &[u8],
+    rules: &[u32],
+    table: &[usize; 128],
+    k: usize,
+    walk: Walk,
+    out: &mut [u32],
+    pos: usize,
+    limit: usize,
+) -> Rebuilt
+    requires { ⌜ Good (now pairs) (now text) × Ruled (now rules) (now pairs) (now text) (now table) k × Readable (leftIn (now words) (now pairs) walk)
+        × (walk .place ≤ length (now words)) × (pos ≤ limit) × (limit ≤ length (now out)) ⌝ }
+    ensures { λ r. ⌜ PiecesRebuild (mapping (now (rules .entry)) (now (pairs .entry)) (now (text .entry))) limit (now (out .entry)) pos
+        (leftIn (now (words .entry)) (now (pairs .entry)) walk) (now (out .exit)) r ⌝ }
+{
+    let mut w = walk;
+    let mut p = pos;
+    let mut deepest = 0;
+    loop {
+        match lay_next(words, pairs, text, rules, table, k, w, out, p, limit) {
+            Advance::Further {
+                walk: next,
+                pos: q,
+                depth,
+            } => {
+                w = next;
+                p = q;
+                deepest = rules::larger(deepest, depth);
+            }
+            Advance::Finished => {
+                return Rebuilt::Done {
+                    next: w.place,
+                    pos: p,
+                    depth: deepest,
+                };
+            }
+            Advance::NoSpace => {
+                return Rebuilt::Full;
+            }
+        }
+    }
+}
+
+// The accepted declaration at the front of the words, rebuilt to the front of `out`.
+pub fn rebuild_declaration(
+    words: &[u32],
+    pairs: &[u32],
+    text: &[u8],
+    rules: &[u32],
+    table: &[usize; 128],
+    k: usize,
+    out: &mut [u32],
+    limit: usize,
+) -> Rebuilt
+    requires { ⌜ Good (now pairs) (now text) × Ruled (now rules) (now pairs) (now text) (now table) k × Readable (declarationIn (now words) (now pairs))
+        × (limit ≤ length (now out)) ⌝ }
+    ensures { λ r. ⌜ DeclarationRebuilds (mapping (now (rules .entry)) (now (pairs .entry)) (now (text .entry))) limit (now (out .entry))
+        (declarationIn (now (words .entry)) (now (pairs .entry))) (now (out .exit)) r ⌝ }
+{
+    let Start::Begun(walk) = pieces::start_walk(words, encoding::name_count(pairs), 0) else {
+        return Rebuilt::Full;
+    };
+    match rebuild::lay(words, 0, walk.place, out, 0, limit) {
+        Laying::To(p) => rebuild_rest(words, pairs, text, rules, table, k, walk, out, p, limit),
+        Laying::Over => Rebuilt::Full,
+    }
+}

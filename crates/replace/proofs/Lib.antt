@@ -1,0 +1,4 @@
+pub mod Nodes
+pub mod NoRules
+pub mod Equality
+pub mod Examples

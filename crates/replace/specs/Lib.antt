@@ -1,0 +1,4 @@
+pub mod Same
+pub mod Replace
+pub mod Laying
+pub mod Rules

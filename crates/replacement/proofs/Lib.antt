@@ -1,0 +1,3 @@
+pub mod Wholes
+pub mod NoRules
+pub mod Examples

@@ -1,0 +1,52 @@
+use Rattle.rebuild.proofs.Calls.{attempt-answered, attempt-over}
+use native.Mathlib.Omega.{arith}
+use borrow.Author.Needs.{needs}
+use Rattle.replacement.proofs.fill_large.Statement.{statement}
+use Rattle.replacement.proofs.fill_large.Tie as tie
+
+room-of-requires : tie.Need-room-of-requires
+room-of-requires c κs = search needs
+
+slice-aggregate-attempt : tie.Need-slice-aggregate-attempt
+slice-aggregate-attempt c = search needs
+
+attempt-requires : tie.Need-attempt-requires
+attempt-requires c κs =
+    (c .before .before .before .before .before .before .before .before .pre .0, c .before .before .before .before .before .before .before .before .pre .1, c .before .before .before .before .before .before .before .before .pre .2, omega (arith, c .before .before .room-of .ensures), omega (arith, c .before .before .room-of .ensures))
+
+enum-known-answer : tie.Need-enum-known-answer
+enum-known-answer c = search needs
+
+enum-told : tie.Need-enum-told
+enum-told c = search needs
+
+clear-requires : tie.Need-clear-requires
+clear-requires c κs = search needs
+
+same-length : tie.Need-same-length
+same-length c = search needs
+
+returns : tie.Need-returns
+returns c = attempt-answered (c .before .before .before .before .before .before .attempt .ensures) (c .before .answer .given .1)
+
+same-length-2 : tie.Need-same-length-2
+same-length-2 c = search needs
+
+returns-2 : tie.Need-returns-2
+returns-2 c =
+    attempt-over (c .before .before .before .before .before .before .before .before .before .attempt .ensures) (c .before .before .before .before .enum-told .given .1) (c .before .before .before .before .before .before .before .before .before .before .before .before .room-of .ensures) (c .before .before .clear .ensures)
+
+pub fill-large-spec : {M : Type 1} → statement M
+fill-large-spec =
+    tie.close
+    (tie.spec
+    room-of-requires
+    slice-aggregate-attempt
+    attempt-requires
+    enum-known-answer
+    enum-told
+    clear-requires
+    same-length
+    returns
+    same-length-2
+    returns-2)

@@ -1,0 +1,70 @@
+use Rattle.rebuild.proofs.Calls.{ruled-of, rules-given, rules-refused}
+use Rattle.rebuild.specs.Laid.{mapping}
+use Rattle.replacement.proofs.Wholes.{whole-answered, whole-over, whole-readable, whole-refused, whole-stops}
+use mathlib.Core.Path.{_∙_, sym}
+use borrow.Author.Needs.{needs}
+use Rattle.replacement.proofs.read_and_fill.Statement.{statement}
+use Rattle.replacement.proofs.read_and_fill.Tie as tie
+
+accept-requires : tie.Need-accept-requires
+accept-requires c κs = search needs
+
+enum-known-end : tie.Need-enum-known-end
+enum-known-end c = search needs
+
+returns : tie.Need-returns
+returns c =
+    let a = c .before .before .before .before .before .before .before .before .before .before .args in
+    whole-over (a .words .now) (a .pairs .now) (a .text .now) (a .rules .now) (a .out .now) (a .what) (λ t. t) (sym (c .before .before .before .before .accept .ensures) ∙ c .before .before .end .given .1) (c .if1 .taken)
+
+read-rules-requires : tie.Need-read-rules-requires
+read-rules-requires c κs = search needs
+
+enum-known-k : tie.Need-enum-known-k
+enum-known-k c = search needs
+
+fill-requires : tie.Need-fill-requires
+fill-requires c κs =
+    let a = c .before .before .before .before .before .before .before .before .before .before .before .before .before .before .before .before .before .args in
+    (c .before .before .before .before .before .before .before .before .before .before .before .before .before .before .before .before .before .pre .0, ruled-of (c .before .before .before .before .before .read-rules .ensures) (c .before .before .before .k .given .1), whole-readable (a .words .now) (a .pairs .now) (a .text .now) (a .rules .now) (a .out .now) (a .what) (λ t. t) (mapping (a .rules .now) (a .pairs .now) (a .text .now)) (sym (c .before .before .before .before .before .before .before .before .before .before .before .accept .ensures) ∙ c .before .before .before .before .before .before .before .before .before .end .given .1))
+
+enum-known-r : tie.Need-enum-known-r
+enum-known-r c = search needs
+
+enum-known-r-2 : tie.Need-enum-known-r-2
+enum-known-r-2 c = search needs
+
+same-length : tie.Need-same-length
+same-length c = search needs
+
+returns-2 : tie.Need-returns-2
+returns-2 c =
+    let a = c .before .before .before .before .before .before .before .before .before .before .before .before .before .before .before .before .before .before .before .before .args in
+    whole-answered (a .words .now) (a .pairs .now) (a .text .now) (a .rules .now) (a .out .now) (a .what) (λ t. t) (sym (c .before .before .before .before .before .before .before .before .before .before .before .before .before .before .accept .ensures) ∙ c .before .before .before .before .before .before .before .before .before .before .before .before .end .given .1) (c .before .before .before .before .before .before .before .before .before .before .if1 .left) (rules-given (c .before .before .before .before .before .before .before .before .read-rules .ensures) (c .before .before .before .before .before .before .k .given .1)) (c .before .before .fill .ensures)
+
+returns-3 : tie.Need-returns-3
+returns-3 c =
+    let a = c .before .before .before .before .before .before .before .before .before .before .before .before .before .before .before .args in
+    whole-refused (a .words .now) (a .pairs .now) (a .text .now) (a .rules .now) (a .out .now) (a .what) (λ t. t) (sym (c .before .before .before .before .before .before .before .before .before .accept .ensures) ∙ c .before .before .before .before .before .before .before .end .given .1) (c .before .before .before .before .before .if1 .left) (rules-refused (c .before .before .before .read-rules .ensures) (c .before .r .given .1))
+
+returns-4 : tie.Need-returns-4
+returns-4 c =
+    let a = c .before .before .before .before .before .before .before .before .before .args in
+    whole-stops (a .words .now) (a .pairs .now) (a .text .now) (a .rules .now) (a .out .now) (a .what) (λ t. t) (sym (c .before .before .before .accept .ensures) ∙ c .before .r2 .given .1)
+
+pub read-and-fill-spec : {M : Type 1} → statement M
+read-and-fill-spec =
+    tie.close
+    (tie.spec
+    accept-requires
+    enum-known-end
+    returns
+    read-rules-requires
+    enum-known-k
+    fill-requires
+    enum-known-r
+    enum-known-r-2
+    same-length
+    returns-2
+    returns-3
+    returns-4)

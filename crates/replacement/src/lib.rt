@@ -1,0 +1,228 @@
+// A type and a declaration rebuilt by rules, into a lent buffer of words.
+ghost use mathlib.Core.Path.{_≡_};
+ghost use Prim.Native.Nat.{_≤_};
+ghost use lib.ListN.{length};
+ghost use Rattle.encoding.specs.Scans.{ended};
+ghost use Rattle.encoding.specs.Tables.{Good};
+ghost use Rattle.writing.specs.Written.{Readable};
+ghost use Rattle.rebuild.specs.Laid.{Ruled, mapping};
+ghost use Rattle.rebuild.specs.Calls.{roomOf, laidDown, typeRebuilt, LaidRebuilds, Attempted, Fills};
+ghost use Rattle.rebuild_declaration.specs.Calls.{declarationRebuilt};
+ghost use Rattle.replacement.specs.Wholes.{laidBy, wholeRebuilt};
+use encoding::Check;
+use encoding::Refusal;
+use encoding::Scan;
+use measure::Measure;
+use rebuild::Attempt;
+use rebuild::RebuildAnswer;
+use rebuild::Rebuilt;
+use rules::RulesAnswer;
+
+// What an encoding holds.
+pub enum Whole {
+    AType,
+    ADeclaration,
+}
+
+// Where the type or the declaration at the front of the words ends, or the refusal that is met first.
+fn accept(what: Whole, words: &[u32], pairs: &[u32], text: &[u8]) -> Scan
+    requires { ⌜ Good (now pairs) (now text) × (length (now words) ≤ 8192) ⌝ }
+    ensures { λ r. ⌜ r ≡ ended (laidBy what (now (words .entry)) (now (pairs .entry)) (λ t. t)) ⌝ }
+{
+    match what {
+        Whole::AType => match measure::measure_type(words, pairs, text, 0) {
+            Measure::Measured { next, bytes: _ } => Scan::At(next),
+            Measure::Stopped(r) => Scan::Refused(r),
+        },
+        Whole::ADeclaration => pieces::accept_declaration(words, pairs, text),
+    }
+}
+
+// The accepted type or declaration, rebuilt to the front of `out`.
+fn rebuild_whole(
+    what: Whole,
+    words: &[u32],
+    pairs: &[u32],
+    text: &[u8],
+    rules: &[u32],
+    table: &[usize; 128],
+    k: usize,
+    out: &mut [u32],
+    limit: usize,
+) -> Rebuilt
+    requires { ⌜ Good (now pairs) (now text) × Ruled (now rules) (now pairs) (now text) (now table) k
+        × Readable (laidBy what (now words) (now pairs) (mapping (now rules) (now pairs) (now text))) × (limit ≤ length (now out)) ⌝ }
+    ensures { λ r. ⌜ LaidRebuilds limit (now (out .entry))
+        (laidBy what (now (words .entry)) (now (pairs .entry)) (mapping (now (rules .entry)) (now (pairs .entry)) (now (text .entry)))) (now (out .exit)) r ⌝ }
+{
+    match what {
+        Whole::AType => {
+            rebuild::rebuild_type(words, pairs, text, rules, table, k, 0, out, 0, limit)
+        }
+        Whole::ADeclaration => rebuild_declaration::rebuild_declaration(
+            words,
+            pairs,
+            text,
+            rules,
+            table,
+            k,
+            out,
+            limit,
+        ),
+    }
+}
+
+// The tree is rebuilt in `scratch`, since the rest of the caller's buffer must stay as it was, and more words may lie there on the way than are left at the end.
+fn attempt(
+    what: Whole,
+    words: &[u32],
+    pairs: &[u32],
+    text: &[u8],
+    rules: &[u32],
+    table: &[usize; 128],
+    k: usize,
+    scratch: &mut [u32],
+    limit: usize,
+    out: &mut [u32],
+) -> Attempt
+    requires { ⌜ Good (now pairs) (now text) × Ruled (now rules) (now pairs) (now text) (now table) k × Readable (laidBy what (now words) (now pairs) (mapping (now rules) (now pairs) (now text)))
+        × (limit ≤ length (now scratch)) × (limit ≤ roomOf (now out)) ⌝ }
+    ensures { λ r. ⌜ Attempted limit (laidBy what (now (words .entry)) (now (pairs .entry)) (mapping (now (rules .entry)) (now (pairs .entry)) (now (text .entry)))) (now (out .entry)) (now (out .exit)) r ⌝ }
+{
+    match rebuild_whole(what, words, pairs, text, rules, table, k, scratch, limit) {
+        Rebuilt::Done {
+            next: _,
+            pos,
+            depth,
+        } => Attempt::Answered(rebuild::finish(scratch, pos, depth, out)),
+        Rebuilt::Full => Attempt::NoRoom,
+    }
+}
+
+// With as much scratch as any tree may take.
+fn fill_large(
+    what: Whole,
+    words: &[u32],
+    pairs: &[u32],
+    text: &[u8],
+    rules: &[u32],
+    table: &[usize; 128],
+    k: usize,
+    out: &mut [u32],
+) -> RebuildAnswer
+    requires { ⌜ Good (now pairs) (now text) × Ruled (now rules) (now pairs) (now text) (now table) k × Readable (laidBy what (now words) (now pairs) (mapping (now rules) (now pairs) (now text))) ⌝ }
+    ensures { λ r. ⌜ Fills (laidBy what (now (words .entry)) (now (pairs .entry)) (mapping (now (rules .entry)) (now (pairs .entry)) (now (text .entry)))) (now (out .entry)) (now (out .exit)) r ⌝ }
+{
+    let mut scratch = [0u32; 8192];
+    let limit = rebuild::room_of(out.len(), 8192);
+    match attempt(
+        what,
+        words,
+        pairs,
+        text,
+        rules,
+        table,
+        k,
+        &mut scratch,
+        limit,
+        out,
+    ) {
+        Attempt::Answered(answer) => answer,
+        Attempt::NoRoom => {
+            rebuild::clear(out);
+            RebuildAnswer::Refused(Refusal::BufferTooShort)
+        }
+    }
+}
+
+// Most trees are small: a little scratch is tried first, since a large one must be cleared before use.
+fn fill(
+    what: Whole,
+    words: &[u32],
+    pairs: &[u32],
+    text: &[u8],
+    rules: &[u32],
+    table: &[usize; 128],
+    k: usize,
+    out: &mut [u32],
+) -> RebuildAnswer
+    requires { ⌜ Good (now pairs) (now text) × Ruled (now rules) (now pairs) (now text) (now table) k × Readable (laidBy what (now words) (now pairs) (mapping (now rules) (now pairs) (now text))) ⌝ }
+    ensures { λ r. ⌜ Fills (laidBy what (now (words .entry)) (now (pairs .entry)) (mapping (now (rules .entry)) (now (pairs .entry)) (now (text .entry)))) (now (out .entry)) (now (out .exit)) r ⌝ }
+{
+    let mut scratch = [0u32; 128];
+    let limit = rebuild::room_of(out.len(), 128);
+    match attempt(
+        what,
+        words,
+        pairs,
+        text,
+        rules,
+        table,
+        k,
+        &mut scratch,
+        limit,
+        out,
+    ) {
+        Attempt::Answered(answer) => answer,
+        Attempt::NoRoom => { fill_large(what, words, pairs, text, rules, table, k, out) },
+    }
+}
+
+// The tables hold: the tree is read, then the rules, and then the tree is rebuilt.
+fn read_and_fill(
+    what: Whole,
+    words: &[u32],
+    pairs: &[u32],
+    text: &[u8],
+    rules: &[u32],
+    out: &mut [u32],
+) -> RebuildAnswer
+    requires { ⌜ Good (now pairs) (now text) × (length (now words) ≤ 8192) × (length (now rules) ≤ 8192) ⌝ }
+    ensures { λ r. ⌜ (r, now (out .exit)) ≡ laidDown (now (out .entry)) (wholeRebuilt what (now (words .entry)) (now (pairs .entry)) (now (text .entry)) (now (rules .entry))) ⌝ }
+{
+    match accept(what, words, pairs, text) {
+        Scan::At(end) => {
+            if end != words.len() {
+                return RebuildAnswer::Refused(Refusal::LeftOver);
+            }
+            let mut table = [0usize; 128];
+            match rules::read_rules(rules, pairs, text, &mut table) {
+                RulesAnswer::Rules(k) => fill(what, words, pairs, text, rules, &table, k, out),
+                RulesAnswer::NoRules(r) => RebuildAnswer::Refused(r),
+            }
+        }
+        Scan::Refused(r) => RebuildAnswer::Refused(r),
+    }
+}
+
+// The type that an encoding holds, rebuilt by the rules of a list: `ReplaceMap`. Its words fill the front of `out`.
+pub fn type_rebuild(
+    words: &[u32],
+    pairs: &[u32],
+    text: &[u8],
+    rules: &[u32],
+    out: &mut [u32],
+) -> RebuildAnswer
+    ensures { λ r. ⌜ (r, now (out .exit)) ≡ laidDown (now (out .entry)) (typeRebuilt (now (words .entry)) (now (pairs .entry)) (now (text .entry)) (now (rules .entry))) ⌝ }
+{
+    match rules::check_all(words, rules, pairs, text) {
+        Check::Passed => read_and_fill(Whole::AType, words, pairs, text, rules, out),
+        Check::Failed(r) => RebuildAnswer::Refused(r),
+    }
+}
+
+// The declaration that an encoding holds, each of its types rebuilt: `RASTBottomUpReplacer`. Its words fill the front of `out`.
+pub fn declaration_rebuild(
+    words: &[u32],
+    pairs: &[u32],
+    text: &[u8],
+    rules: &[u32],
+    out: &mut [u32],
+) -> RebuildAnswer
+    ensures { λ r. ⌜ (r, now (out .exit)) ≡ laidDown (now (out .entry)) (declarationRebuilt (now (words .entry)) (now (pairs .entry)) (now (text .entry)) (now (rules .entry))) ⌝ }
+{
+    match rules::check_all(words, rules, pairs, text) {
+        Check::Passed => read_and_fill(Whole::ADeclaration, words, pairs, text, rules, out),
+        Check::Failed(r) => RebuildAnswer::Refused(r),
+    }
+}

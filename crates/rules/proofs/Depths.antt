@@ -1,0 +1,111 @@
+-- Laws of the pass that finds how deep some types are.
+use Prim.Native.Nat.{ℕ, _+_, _-_, _≤_, _<_, max}
+use mathlib.Core.Path.{_≡_, ap, sym, _∙_}
+use mathlib.Core.List.{List}
+use native.Mathlib.Omega.{arith}
+use lib.ListN.{length}
+use Rattle.rast.specs.Tree.{Ty, Tys, nil, cons}
+use Rattle.encoding.specs.declared.Refusal.{Refusal}
+use Rattle.encoding.specs.declared.Head.{Head}
+use Rattle.encoding.specs.Tables.{nameCount}
+use Rattle.encoding.specs.Reading.{Reading, got, stop}
+use Rattle.encoding.specs.Heads.{readHead, kids}
+use Rattle.encoding.specs.Types.{readTypes}
+use Rattle.encoding.proofs.Tables.{impossible}
+use Rattle.encoding.proofs.Inside.{head-lies}
+use Rattle.trees.specs.Numbered.{treeAt}
+use Rattle.trees.proofs.Nodes.{first-type}
+use Rattle.trees.proofs.Heads.{tree-head, tree-below}
+use Rattle.trees.proofs.Renaming.{tree-run, encode-words}
+use Rattle.writing.specs.Written.{Readable}
+use Rattle.replace.specs.Laying.{depth, deepest}
+use Rattle.replace.proofs.Nodes.{depth-node, depth-words}
+use Rattle.rules.specs.declared.Deep.{Deep}
+use Rattle.rules.specs.Scans.{Deepens}
+
+-- a pass over the types of x: those from `place` on are left, and those before it are `found` deep
+pub record Deepening (ws pairs : List ℕ) (x : Reading (Tys ℕ)) (place found left : ℕ) : Type 0 where
+  pub types : Tys ℕ
+  pub end : ℕ
+  pub whole : x ≡ got types end
+  pub rest : Tys ℕ
+  pub reads : readTypes (treeAt ws pairs) left place ≡ got rest end
+  pub same : max found (deepest rest) ≡ deepest types
+  pub inside : place ≤ length ws
+  pub small : found ≤ length ws
+
+module _ (ws pairs : List ℕ) (at n : ℕ) where
+  pub deepening-starts : at ≤ length ws → Readable (readTypes (treeAt ws pairs) n at) → Deepening ws pairs (readTypes (treeAt ws pairs) n at) at 0 n
+  deepening-starts h r = record {
+    types = r .value;
+    end = r .end;
+    whole = r .reads;
+    rest = r .value;
+    reads = r .reads;
+    same = omega arith;
+    inside = h;
+    small = omega arith;
+  }
+
+  pub deepening-ends : {place found left : ℕ} → left ≡ 0 → Deepening ws pairs (readTypes (treeAt ws pairs) n at) place found left
+      → Deepens (readTypes (treeAt ws pairs) n at) (length ws) (record { next = place; depth = found })
+  unfolding readTypes deepest
+  deepening-ends {place} {found} {left} z d =
+      let e : got nil place ≡ got (d .rest) (d .end) = rw z at (d .reads) in
+      let i : nil ≡ d .rest = cc in
+      let j : place ≡ d .end = cc in
+      let s : max found 0 ≡ deepest (d .types) = rw (sym i) at (d .same) in
+      record { types = d .types; reads = d .whole ∙ ap (got (d .types)) (sym j); depth = omega (arith, s); small = d .small }
+
+module _ {ws pairs : List ℕ} {x : Reading (Tys ℕ)} {place found left : ℕ} (h : 0 < left) (d : Deepening ws pairs x place found left) where
+  -- there is a head where a type is due
+  pub head-due : {k : Refusal} → readHead (nameCount pairs) ws place ≡ stop k → ⊥
+  head-due e =
+      let f = first-type (treeAt ws pairs) left place h (d .reads) in
+      let t = tree-head ws pairs place (f .first) in
+      impossible (let r = t .reads in cc)
+
+  -- the types below the head that is due
+  pub record Inner (q : ℕ) (hd : Head) : Type 0 where
+    pub inside : q ≤ length ws
+    pub readable : Readable (readTypes (treeAt ws pairs) (kids hd) q)
+    pub ahead : place < q
+    pub small : (r : Deep) → Deepens (readTypes (treeAt ws pairs) (kids hd) q) (length ws) r → r .depth + 1 ≤ length ws
+    pub past : (r : Deep) → Deepens (readTypes (treeAt ws pairs) (kids hd) q) (length ws) r → place ≤ r .next
+    pub next : (r : Deep) (m : ℕ) → Deepens (readTypes (treeAt ws pairs) (kids hd) q) (length ws) r → m ≡ max found (r .depth + 1) → Deepening ws pairs x (r .next) m (left - 1)
+
+  pub inner : {q : ℕ} {hd : Head} → readHead (nameCount pairs) ws place ≡ got hd q → Inner q hd
+  unfolding deepest
+  inner {q} {hd} e =
+      let f = first-type (treeAt ws pairs) left place h (d .reads) in
+      let b = tree-below ws pairs place (f .first) e in
+      let l = head-lies (nameCount pairs) ws place e in
+      let w = tree-run ws pairs place (d .inside) (f .first) in
+      let fits : f .middle ≤ length ws = omega (arith, w .1, w .0 .ends, encode-words (f .type)) in
+      let deep : (r : Deep) → Deepens (readTypes (treeAt ws pairs) (kids hd) q) (length ws) r → (r .depth + 1 ≡ depth (f .type)) × (r .next ≡ f .middle) =
+      λ r k. deep-same (readTypes (treeAt ws pairs) (kids hd) q) r k (b .types) (b .reads) (f .type) (depth-node (b .node)) in
+      record {
+        inside = l .ends;
+        readable = record { value = b .types; end = f .middle; reads = b .reads };
+        ahead = l .starts;
+        small = λ r k. omega (arith, deep r k .0, depth-words (f .type), w .1, w .0 .ends, encode-words (f .type));
+        past = λ r k. omega (arith, deep r k .1, w .1);
+        next = λ r m k g. record {
+          types = d .types;
+          end = d .end;
+          whole = d .whole;
+          rest = f .more;
+          reads = rw (deep r k .1) (f .others);
+          same =
+              let s : max found (deepest (cons (f .type) (f .more))) ≡ deepest (d .types) = rw (f .made) at (d .same) in
+              omega (arith, s, g, deep r k .0);
+          inside = rw (deep r k .1) fits;
+          small = omega (arith, g, deep r k .0, depth-words (f .type), w .1, w .0 .ends, encode-words (f .type), d .small);
+        };
+      }
+    where
+      deep-same : (y : Reading (Tys ℕ)) {n m : ℕ} (r : Deep) → Deepens y n r → (ts : Tys ℕ) → y ≡ got ts m → (t : Ty ℕ) → depth t ≡ 1 + deepest ts → (r .depth + 1 ≡ depth t) × (r .next ≡ m)
+      deep-same y {m = m} r k ts e t c =
+          let i : k .types ≡ ts = (let g = k .reads in cc) in
+          let j : r .next ≡ m = (let g = k .reads in cc) in
+          (omega (arith, c, k .depth, ap deepest i), j)

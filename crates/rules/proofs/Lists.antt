@@ -1,0 +1,255 @@
+-- Laws of reading a list of rules into a table.
+use Prim.Native.Nat.{ℕ, suc, _+_, _-_, _≤_, _<_}
+use mathlib.Core.Path.{_≡_, refl, ap, sym, _∙_, subst}
+use mathlib.Core.Bool.{Bool, true, false}
+use mathlib.Core.List.{List, [], _∷_, _++_, append-assoc, append-nil}
+use native.Mathlib.Omega.{arith}
+use native.Mathlib.Decide.{decLt}
+use borrow.Author.Tests.{eq-eqb, ne-eqb, lt-ltb, le-ltb}
+use lib.ListN.{length, length-append}
+use Rattle.rast.specs.Bytes.{Bytes, _or_}
+use Rattle.rast.specs.Tree.{Ty, nil, cons}
+use Rattle.encoding.specs.declared.Refusal.{Refusal}
+use Rattle.encoding.specs.declared.Refusal.the-variants.{Overlong, BadPair, LeftOver, RepeatedRule}
+use Rattle.encoding.specs.declared.Check.the-variants.{Passed, Failed}
+use Rattle.encoding.specs.declared.Scan.{Scan}
+use Rattle.encoding.specs.declared.Scan.the-variants.{At, Refused}
+use Rattle.encoding.specs.Refusals.{pick, given, refused}
+use Rattle.encoding.specs.Reading.{Reading, got, stop, _>>=_, mapReading, readBelow, whole}
+use Rattle.encoding.specs.Tables.{overlong, goodPairs, checkTables, nameBytes, Good}
+use Rattle.encoding.specs.Types.{readTypes, typeAt}
+use Rattle.encoding.specs.Declarations.{readList}
+use Rattle.encoding.proofs.Tables.{impossible, tables-passed}
+use Rattle.measure.specs.declared.Measure.{Measure}
+use Rattle.measure.specs.declared.Measure.the-variants.{Measured, Stopped}
+use Rattle.measure.specs.Lengths.{measureOf}
+use Rattle.trees.specs.Renamed.{renamed}
+use Rattle.trees.specs.Numbered.{treeAt}
+use Rattle.trees.specs.Encode.{encode}
+use Rattle.trees.proofs.Renaming.{spelled, numbered, tree-run, encode-words}
+use Rattle.writing.specs.Written.{Readable}
+use Rattle.replace.specs.Same.{sameBy}
+use Rattle.replace.specs.Laying.{depth, deepest}
+use Rattle.replace.specs.Rules.{Rule, readRule, readRules, repeated, distinct, checkAll, rulesOf}
+use Rattle.rules.specs.declared.Deep.{Deep}
+use Rattle.rules.specs.declared.RuleScan.{RuleScan}
+use Rattle.rules.specs.declared.RuleScan.the-variants.{OneRule, NoRule}
+use Rattle.rules.specs.declared.RulesAnswer.the-variants.{Rules, NoRules}
+use Rattle.rules.specs.Table.{entered, repeatedFrom, RuleAt, Tabled}
+use Rattle.rules.specs.Scans.{Deepens, RuleRead, rule, none, Listed, listed, unlisted, RulesRead, read, unread}
+use Rattle.rules.proofs.Tables.{entered-length, tabled-kept, tabled-more, rule-entered, tabled-fits, repeated-trees}
+
+-- ---- from the measure of a type to its tree
+
+pub measured-tree : (ws pairs : List ℕ) (text : Bytes) (at : ℕ) {r : Measure} {n b : ℕ} → r ≡ measureOf (typeAt ws pairs text at) → r ≡ Measured n b → (t : Ty ℕ) × (treeAt ws pairs at ≡ got t n)
+measured-tree ws pairs text at {r} {n} {b} e d = go (typeAt ws pairs text at) refl e
+  where
+    go : (x : Reading (Ty Bytes)) → typeAt ws pairs text at ≡ x → r ≡ measureOf x → (t : Ty ℕ) × (treeAt ws pairs at ≡ got t n)
+    go (got t m) k e = let i : m ≡ n = cc in let u = numbered ws pairs text at k in (u .tree, u .reads ∙ ap (got (u .tree)) i)
+    go (stop q) k e = impossible (cc)
+
+pub measured-stop : (ws pairs : List ℕ) (text : Bytes) (at : ℕ) {r : Measure} {k : Refusal} → r ≡ measureOf (typeAt ws pairs text at) → r ≡ Stopped k → treeAt ws pairs at ≡ stop k
+unfolding mapReading
+measured-stop ws pairs text at {r} {k} e d = go (treeAt ws pairs at) (ap measureOf (spelled ws pairs text at))
+  where
+    go : (x : Reading (Ty ℕ)) → measureOf (typeAt ws pairs text at) ≡ measureOf (mapReading (renamed (nameBytes pairs text)) x) → x ≡ stop k
+    go (got t m) g = impossible (cc)
+    go (stop q) g = cc
+
+-- ---- one rule
+
+pub one-type : (ws pairs : List ℕ) (at : ℕ) {t : Ty ℕ} {n : ℕ} → treeAt ws pairs at ≡ got t n → Readable (readTypes (treeAt ws pairs) 1 at)
+unfolding readTypes
+one-type ws pairs at {t} {n} e = record { value = cons t nil; end = n; reads = rw e refl }
+
+pub one-deep : (ws pairs : List ℕ) (at : ℕ) {t : Ty ℕ} {n size : ℕ} (r : Deep) → treeAt ws pairs at ≡ got t n → Deepens (readTypes (treeAt ws pairs) 1 at) size r → r .depth ≡ depth t
+unfolding readTypes deepest
+one-deep ws pairs at {t} {n} r e d =
+    let k : got (cons t nil) n ≡ got (d .types) (r .next) = rw e at (d .reads) in
+    let i : cons t nil ≡ d .types = cc in
+    let s : r .depth ≡ deepest (cons t nil) = d .depth ∙ ap deepest (sym i) in
+    omega (arith, s)
+
+rule-got : (f : ℕ → Reading (Ty ℕ)) (at : ℕ) {from to : Ty ℕ} {m n : ℕ} → f at ≡ got from m → f m ≡ got to n → readRule f at ≡ got (from, to) n
+unfolding readRule
+rule-got f at e d = rw (e, d) refl
+
+pub from-stops : (f : ℕ → Reading (Ty ℕ)) (at : ℕ) {k : Refusal} → f at ≡ stop k → readRule f at ≡ stop k
+unfolding readRule
+from-stops f at e = rw e refl
+
+pub to-stops : (f : ℕ → Reading (Ty ℕ)) (at : ℕ) {from : Ty ℕ} {m : ℕ} {k : Refusal} → f at ≡ got from m → f m ≡ stop k → readRule f at ≡ stop k
+unfolding readRule
+to-stops f at e d = rw (e, d) refl
+
+-- ---- a list of rules
+
+module _ (rules pairs : List ℕ) (n at : ℕ) where
+  abbrev item : ℕ → Reading Rule
+  item = readRule (treeAt rules pairs)
+
+  -- i rules were read, up to `place`, and entered
+  pub record Filling (table : List ℕ) (place i : ℕ) : Type 0 where
+    pub done : List Rule
+    pub tabled : Tabled rules table 0 done
+    pub many : length done ≡ i
+    pub rest : readList item n at ≡ mapReading (λ rs. done ++ rs) (readList item (n - i) place)
+    pub size : length table ≡ 128
+    pub inside : place ≤ length rules
+    pub within : i ≤ n
+
+  map-none : (x : Reading (List Rule)) → mapReading (λ rs. [] ++ rs) x ≡ x
+  unfolding mapReading
+  map-none (got rs m) = refl
+  map-none (stop k) = refl
+
+  pub filling-starts : (table : List ℕ) → length table ≡ 128 → at ≤ length rules → Filling table at 0
+  filling-starts table l h = let z : n - 0 ≡ n = omega arith in record {
+    done = [];
+    tabled = tt;
+    many = refl;
+    rest = rw z (sym (map-none (readList item n at)));
+    size = l;
+    inside = h;
+    within = omega arith;
+  }
+
+  more : (i : ℕ) → i < n → n - i ≡ suc (n - (i + 1))
+  more i h = omega arith
+
+  pub filling-stops : {table table′ : List ℕ} {place i : ℕ} {k : Refusal} → i < n → Filling table place i → item place ≡ stop k → Listed rules pairs n at table′ (Refused k)
+  unfolding readList mapReading
+  filling-stops {place = place} {i = i} {k = k} h f e = let d : readList item n at ≡ stop k = f .rest ∙ rw (more i h, e) refl in unlisted d
+
+  step : (done : List Rule) (place m k : ℕ) (r : Rule) → item place ≡ got r m → mapReading (λ rs. done ++ rs) (readList item (suc k) place) ≡ mapReading (λ rs. (done ++ (r ∷ [])) ++ rs) (readList item k m)
+  unfolding readList mapReading
+  step done place m k r e = rw e (go (readList item k m))
+    where
+      go : (x : Reading (List Rule)) → mapReading (λ rs. done ++ rs) (x >>= λ rs q. got (r ∷ rs) q) ≡ mapReading (λ rs. (done ++ (r ∷ [])) ++ rs) x
+      go (got rs q) = ap (λ l. got l q) (sym (append-assoc done (r ∷ []) rs))
+      go (stop k) = refl
+
+  pub filling-more : {table : List ℕ} {place i m q d : ℕ} → i < n → n ≤ 32 → Filling table place i → RuleRead rules pairs place (OneRule m q d) → Filling (entered table i place m q d) q (i + 1)
+  filling-more {table} {place} {i} {m} {q} {d} h few f (rule {from = from} {to = to} a b c l) =
+      let w = tree-run rules pairs place (f .inside) a in
+      let hm : m ≤ length rules = omega (arith, w .1, w .0 .ends, encode-words from) in
+      let v = tree-run rules pairs m hm b in
+      let e₁ : m ≡ place + length (encode from) = omega (arith, w .1, encode-words from) in
+      let e₂ : q ≡ m + length (encode to) = omega (arith, v .1, encode-words to) in
+      let at-i = rule-entered rules table i place m q d (from, to) (omega (arith, f .size)) (w .0) e₁ (v .0) e₂ c in
+      let z : i ≡ 0 + length (f .done) = omega (arith, f .many) in
+      record {
+        done = f .done ++ ((from, to) ∷ []);
+        tabled = tabled-more rules (entered table i place m q d) 0 (f .done) (tabled-kept rules table i place m q d 0 (f .done) (omega (arith, f .many)) (f .tabled)) (subst (λ j. RuleAt rules (entered table i place m q d) j (from, to)) z at-i);
+        many = omega (arith, f .many, length-append (f .done) ((from, to) ∷ []));
+        rest = f .rest ∙ rw (more i h) (step (f .done) place q (n - (i + 1)) (from, to) (rule-got (treeAt rules pairs) place a b));
+        size = entered-length table i place m q d ∙ f .size;
+        inside = omega (arith, e₂, v .0 .ends);
+        within = omega arith;
+      }
+
+  pub filling-ends : {table : List ℕ} {place i : ℕ} → n ≤ i → Filling table place i → Listed rules pairs n at table (At place)
+  unfolding readList mapReading
+  filling-ends {table} {place} {i} h f =
+      let z : n - i ≡ 0 = omega arith in
+      let y : i ≡ n = omega (arith, f .within) in
+      let d : readList item n at ≡ got (f .done) place = f .rest ∙ rw (z, append-nil (f .done)) refl in
+      listed d (f .tabled) (f .many ∙ y) (f .size)
+
+-- ---- the whole list
+
+pub listed-got : {rules pairs table : List ℕ} {n at m : ℕ} {r : Scan} → Listed rules pairs n at table r → r ≡ At m
+    → (rs : List Rule) × (readList (readRule (treeAt rules pairs)) n at ≡ got rs m) × Tabled rules table 0 rs × (length rs ≡ n) × (length table ≡ 128)
+listed-got {rules} {pairs} {table} {n} {at} {m} l e = go (subst (Listed rules pairs n at table) e l)
+  where
+    go : Listed rules pairs n at table (At m) → (rs : List Rule) × (readList (readRule (treeAt rules pairs)) n at ≡ got rs m) × Tabled rules table 0 rs × (length rs ≡ n) × (length table ≡ 128)
+    go (listed {rs = rs} a b c d) = (rs, a, b, c, d)
+
+pub listed-stop : {rules pairs table : List ℕ} {n at : ℕ} {r : Scan} {k : Refusal} → Listed rules pairs n at table r → r ≡ Refused k → readList (readRule (treeAt rules pairs)) n at ≡ stop k
+listed-stop {rules} {pairs} {table} {n} {at} {k = k} l e = go (subst (Listed rules pairs n at table) e l)
+  where
+    go : Listed rules pairs n at table (Refused k) → readList (readRule (treeAt rules pairs)) n at ≡ stop k
+    go (unlisted a) = a
+
+module _ (rules pairs : List ℕ) (text : Bytes) {k p : ℕ} (b : readBelow 33 rules 0 ≡ got k p) where
+  pub rules-stop : {q : Refusal} → readList (readRule (treeAt rules pairs)) k p ≡ stop q → rulesOf rules pairs text ≡ refused q
+  unfolding rulesOf readRules whole distinct
+  rules-stop e = rw (b, e) refl
+
+  pub rules-over : {rs : List Rule} {m : ℕ} → readList (readRule (treeAt rules pairs)) k p ≡ got rs m → (m ≡ length rules → ⊥) → rulesOf rules pairs text ≡ refused LeftOver
+  unfolding rulesOf readRules whole distinct
+  rules-over {m = m} e d = rw (b, e, ne-eqb m (length rules) d) refl
+
+  rules-whole : {rs : List Rule} {m : ℕ} → readList (readRule (treeAt rules pairs)) k p ≡ got rs m → m ≡ length rules
+      → rulesOf rules pairs text ≡ pick (repeated (sameBy (nameBytes pairs text)) rs) (refused RepeatedRule) (given rs)
+  unfolding rulesOf readRules whole distinct
+  rules-whole {m = m} e d = rw (b, e, eq-eqb m (length rules) d) refl
+
+  pub rules-repeated : {rs : List Rule} {m : ℕ} (table : List ℕ) → readList (readRule (treeAt rules pairs)) k p ≡ got rs m → m ≡ length rules → Tabled rules table 0 rs → length rs ≡ k
+      → repeatedFrom (nameBytes pairs text) rules table 0 k ≡ true → rulesOf rules pairs text ≡ refused RepeatedRule
+  rules-repeated {rs = rs} table e d t c r =
+      let s : repeated (sameBy (nameBytes pairs text)) rs ≡ true = sym (repeated-trees (nameBytes pairs text) rules table 0 rs t) ∙ rw c r in
+      rules-whole e d ∙ rw s refl
+
+  pub rules-distinct : {rs : List Rule} {m : ℕ} (table : List ℕ) → readList (readRule (treeAt rules pairs)) k p ≡ got rs m → m ≡ length rules → Tabled rules table 0 rs → length rs ≡ k
+      → repeatedFrom (nameBytes pairs text) rules table 0 k ≡ false → rulesOf rules pairs text ≡ given rs
+  rules-distinct {rs = rs} table e d t c r =
+      let s : repeated (sameBy (nameBytes pairs text)) rs ≡ false = sym (repeated-trees (nameBytes pairs text) rules table 0 rs t) ∙ rw c r in
+      rules-whole e d ∙ rw s refl
+
+pub first-stops : (rules pairs : List ℕ) (text : Bytes) {q : Refusal} → readBelow 33 rules 0 ≡ stop q → rulesOf rules pairs text ≡ refused q
+unfolding rulesOf readRules whole distinct
+first-stops rules pairs text e = rw e refl
+
+-- ---- the answers of the scan of one rule
+
+pub rule-read : (rules pairs : List ℕ) (at : ℕ) {m n : ℕ} → (t : Ty ℕ) × (treeAt rules pairs at ≡ got t m) → (t : Ty ℕ) × (treeAt rules pairs m ≡ got t n)
+    → (r : Deep) → Deepens (readTypes (treeAt rules pairs) 1 m) (length rules) r → RuleRead rules pairs at (OneRule m n (r .depth))
+rule-read rules pairs at {m} f t r d = rule (f .1) (t .1) (one-deep rules pairs m r (t .1) d) (d .small)
+
+pub rule-stops : {rules pairs : List ℕ} {at : ℕ} {k : Refusal} → readRule (treeAt rules pairs) at ≡ stop k → RuleRead rules pairs at (NoRule k)
+rule-stops e = none e
+
+pub rule-found : {rules pairs : List ℕ} {at m n d : ℕ} {r : RuleScan} → RuleRead rules pairs at r → r ≡ OneRule m n d → RuleRead rules pairs at (OneRule m n d)
+rule-found {rules} {pairs} {at} k e = subst (RuleRead rules pairs at) e k
+
+pub rule-stop : {rules pairs : List ℕ} {at : ℕ} {r : RuleScan} {k : Refusal} → RuleRead rules pairs at r → r ≡ NoRule k → readRule (treeAt rules pairs) at ≡ stop k
+rule-stop {rules} {pairs} {at} {k = k} l e = go (subst (RuleRead rules pairs at) e l)
+  where
+    go : RuleRead rules pairs at (NoRule k) → readRule (treeAt rules pairs) at ≡ stop k
+    go (none a) = a
+
+-- ---- the answers of the scan of a list
+
+pub rules-none : {rules pairs table : List ℕ} {text : Bytes} {k : Refusal} → rulesOf rules pairs text ≡ refused k → RulesRead rules pairs text table (NoRules k)
+rules-none e = unread e
+
+pub rules-some : {rules pairs table : List ℕ} {text : Bytes} {rs : List Rule} {n : ℕ} → rulesOf rules pairs text ≡ given rs → Tabled rules table 0 rs → length rs ≡ n → n ≤ 32 → length table ≡ 128
+    → RulesRead rules pairs text table (Rules n)
+rules-some {rules} {pairs} {table} {text} {rs} {n} e t c h l =
+    subst (λ k. RulesRead rules pairs text table (Rules k)) c (read e t (tabled-fits rules table rs (length rs) refl (omega (arith, c)) l t))
+
+-- ---- the tests before reading
+
+pub check-overlong : (words rules pairs : List ℕ) (text : Bytes) → 8192 < length rules → checkAll words rules pairs text ≡ Failed Overlong
+unfolding checkAll
+check-overlong words rules pairs text h = rw (lt-ltb 8192 (length rules) h) (go (overlong words pairs text))
+  where
+    go : (t : Bool) → pick (t or true) (Failed Overlong) (pick (goodPairs pairs 0 (length text)) Passed (Failed BadPair)) ≡ Failed Overlong
+    go true = refl
+    go false = refl
+
+pub check-tables : (words rules pairs : List ℕ) (text : Bytes) → length rules ≤ 8192 → checkAll words rules pairs text ≡ checkTables words pairs text
+unfolding checkAll checkTables
+check-tables words rules pairs text h = rw (le-ltb 8192 (length rules) h) (go (overlong words pairs text))
+  where
+    go : (t : Bool) → pick (t or false) (Failed Overlong) (pick (goodPairs pairs 0 (length text)) Passed (Failed BadPair)) ≡ pick t (Failed Overlong) (pick (goodPairs pairs 0 (length text)) Passed (Failed BadPair))
+    go true = refl
+    go false = refl
+
+pub all-passed : (words rules pairs : List ℕ) (text : Bytes) → checkAll words rules pairs text ≡ Passed → Good pairs text × (length words ≤ 8192) × (length rules ≤ 8192)
+all-passed words rules pairs text e = go (decLt 8192 (length rules))
+  where
+    go : Dec (8192 < length rules) → Good pairs text × (length words ≤ 8192) × (length rules ≤ 8192)
+    go (yes h) = impossible (let d = check-overlong words rules pairs text h in cc)
+    go (no h) = let t = tables-passed words pairs text (sym (check-tables words rules pairs text (omega arith)) ∙ e) in (t .good, t .few, omega arith)

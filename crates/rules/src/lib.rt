@@ -1,0 +1,271 @@
+// Lists of rules: reading them into a table, and finding the rule whose from a type equals.
+ghost use mathlib.Core.Path.{_≡_};
+ghost use Prim.Native.Nat.{max, _+_, _-_, _*_, _≤_, _<_};
+ghost use lib.ListN.{length, take, drop};
+ghost use Rattle.encoding.specs.Tables.{Good, nameBytes};
+ghost use Rattle.encoding.specs.Types.{readTypes};
+ghost use Rattle.trees.specs.Numbered.{treeAt};
+ghost use Rattle.replace.specs.Rules.{checkAll};
+ghost use Rattle.comparison.specs.declared.Due.the-variants.{Kind};
+ghost use Rattle.comparison.specs.Runs.{sameRuns};
+ghost use Rattle.writing.specs.Written.{Readable};
+ghost use Rattle.rules.specs.Table.{entered, fromWords, foundFrom, amongFrom, repeatedFrom, Fits};
+ghost use Rattle.rules.specs.Scans.{Deepens, RuleRead, Listed, RulesRead};
+use encoding::Check;
+use encoding::HeadScan;
+use encoding::Refusal;
+use encoding::Scan;
+use encoding::WordScan;
+use measure::Measure;
+
+// The limits, those on the rules' words with those on the tree's; then the pairs.
+pub fn check_all(words: &[u32], rules: &[u32], pairs: &[u32], text: &[u8]) -> Check
+    ensures { λ r. ⌜ r ≡ checkAll (now (words .entry)) (now (rules .entry)) (now (pairs .entry)) (now (text .entry)) ⌝ }
+{
+    if 8192 < rules.len() {
+        return Check::Failed(Refusal::Overlong);
+    }
+    encoding::check_tables(words, pairs, text)
+}
+
+// Where some types end, and how deep the deepest of them is.
+pub struct Deep {
+    pub next: usize,
+    pub depth: usize,
+}
+
+pub fn larger(a: usize, b: usize) -> usize
+    ensures { λ r. ⌜ r ≡ max a b ⌝ }
+{
+    if a < b {
+        return b;
+    }
+    a
+}
+
+// How deep the deepest of `n` accepted types is.
+pub fn deepest(words: &[u32], pairs: &[u32], at: usize, n: usize) -> Deep
+    requires { ⌜ (at ≤ length (now words)) × Readable (readTypes (treeAt (now words) (now pairs)) n at) ⌝ }
+    ensures { λ r. ⌜ Deepens (readTypes (treeAt (now (words .entry)) (now (pairs .entry))) n at) (length (now (words .entry))) r ⌝ }
+{
+    let bound = encoding::name_count(pairs);
+    let mut place = at;
+    let mut depth = 0;
+    let mut left = n;
+    while 0 < left {
+        let HeadScan::Own { head, next } = encoding::scan_head(words, bound, place) else {
+            return Deep { next: place, depth };
+        };
+        let below = deepest(words, pairs, next, encoding::kids_of(head));
+        depth = larger(depth, below.depth + 1);
+        place = below.next;
+        left -= 1;
+    }
+    Deep { next: place, depth }
+}
+
+// A rule that was read: where its to begins and ends, and how deep it is.
+enum RuleScan {
+    OneRule {
+        middle: usize,
+        end: usize,
+        depth: usize,
+    },
+    NoRule(Refusal),
+}
+
+fn scan_rule(rules: &[u32], pairs: &[u32], text: &[u8], at: usize) -> RuleScan
+    requires { ⌜ Good (now pairs) (now text) × (length (now rules) ≤ 8192) ⌝ }
+    ensures { λ r. ⌜ RuleRead (now (rules .entry)) (now (pairs .entry)) at r ⌝ }
+{
+    match measure::measure_type(rules, pairs, text, at) {
+        Measure::Measured {
+            next: middle,
+            bytes: _,
+        } => match measure::measure_type(rules, pairs, text, middle) {
+            Measure::Measured {
+                next: end,
+                bytes: _,
+            } => {
+                let to = deepest(rules, pairs, middle, 1);
+                RuleScan::OneRule {
+                    middle,
+                    end,
+                    depth: to.depth,
+                }
+            }
+            Measure::Stopped(r) => RuleScan::NoRule(r),
+        },
+        Measure::Stopped(r) => RuleScan::NoRule(r),
+    }
+}
+
+// Rule `i` of the table: where its from begins, where its to begins and ends, and how deep its to is.
+fn enter_rule(table: &mut [usize; 128], i: usize, from: usize, to: usize, end: usize, depth: usize)
+    requires { ⌜ i < 32 ⌝ }
+    ensures { λ r. ⌜ now (table .exit) ≡ entered (now (table .entry)) i from to end depth ⌝ }
+{
+    table[4 * i] = from;
+    table[4 * i + 1] = to;
+    table[4 * i + 2] = end;
+    table[4 * i + 3] = depth;
+}
+
+// `n` rules from `at` on, entered in the table.
+fn scan_list(
+    rules: &[u32],
+    pairs: &[u32],
+    text: &[u8],
+    n: usize,
+    at: usize,
+    table: &mut [usize; 128],
+) -> Scan
+    requires { ⌜ Good (now pairs) (now text) × (length (now rules) ≤ 8192) × (n ≤ 32) × (at ≤ length (now rules)) × (length (now table) ≡ 128) ⌝ }
+    ensures { λ r. ⌜ Listed (now (rules .entry)) (now (pairs .entry)) n at (now (table .exit)) r ⌝ }
+{
+    let mut place = at;
+    let mut i = 0;
+    while i < n {
+        match scan_rule(rules, pairs, text, place) {
+            RuleScan::OneRule { middle, end, depth } => {
+                enter_rule(table, i, place, middle, end, depth);
+                place = end;
+            }
+            RuleScan::NoRule(r) => {
+                return Scan::Refused(r);
+            }
+        }
+        i += 1;
+    }
+    Scan::At(place)
+}
+
+// Whether the from of rule `i` is the same type as `count` words of `out`. Lengths are compared before words.
+fn is_from(
+    rules: &[u32],
+    pairs: &[u32],
+    text: &[u8],
+    table: &[usize; 128],
+    k: usize,
+    i: usize,
+    out: &[u32],
+    start: usize,
+    count: usize,
+) -> bool
+    requires { ⌜ Good (now pairs) (now text) × Fits (now rules) (now table) k × (i < k) × (start + count ≤ length (now out)) ⌝ }
+    ensures { λ r. ⌜ r ≡ sameRuns (nameBytes (now (pairs .entry)) (now (text .entry))) Kind
+        (take count (drop start (now (out .entry)))) (fromWords (now (rules .entry)) (now (table .entry)) i) ⌝ }
+{
+    let from = table[4 * i];
+    if table[4 * i + 1] - from != count {
+        return false;
+    }
+    comparison::same_words(pairs, text, out, start, rules, from, count)
+}
+
+// A rule, or none.
+pub enum Found {
+    At(usize),
+    Nothing,
+}
+
+// The first of `k` rules whose from is the same type as `count` words of `out`.
+pub fn find_rule(
+    rules: &[u32],
+    pairs: &[u32],
+    text: &[u8],
+    table: &[usize; 128],
+    k: usize,
+    out: &[u32],
+    start: usize,
+    count: usize,
+) -> Found
+    requires { ⌜ Good (now pairs) (now text) × Fits (now rules) (now table) k × (start + count ≤ length (now out)) ⌝ }
+    ensures { λ r. ⌜ r ≡ foundFrom (nameBytes (now (pairs .entry)) (now (text .entry))) (now (rules .entry)) (now (table .entry)) 0 k
+        (take count (drop start (now (out .entry)))) ⌝ }
+{
+    let mut i = 0;
+    while i < k {
+        if is_from(rules, pairs, text, table, k, i, out, start, count) {
+            return Found::At(i);
+        }
+        i += 1;
+    }
+    Found::Nothing
+}
+
+// Whether the from of rule `i` is that of a rule behind it.
+fn is_among(
+    rules: &[u32],
+    pairs: &[u32],
+    text: &[u8],
+    table: &[usize; 128],
+    k: usize,
+    i: usize,
+) -> bool
+    requires { ⌜ Good (now pairs) (now text) × Fits (now rules) (now table) k × (i < k) ⌝ }
+    ensures { λ r. ⌜ r ≡ amongFrom (nameBytes (now (pairs .entry)) (now (text .entry))) (now (rules .entry)) (now (table .entry)) (i + 1) (k - i - 1)
+        (fromWords (now (rules .entry)) (now (table .entry)) i) ⌝ }
+{
+    let start = table[4 * i];
+    let count = table[4 * i + 1] - start;
+    let mut j = i + 1;
+    while j < k {
+        if is_from(rules, pairs, text, table, k, j, rules, start, count) {
+            return true;
+        }
+        j += 1;
+    }
+    false
+}
+
+// Whether two of `k` rules have the same from.
+fn are_repeated(rules: &[u32], pairs: &[u32], text: &[u8], table: &[usize; 128], k: usize) -> bool
+    requires { ⌜ Good (now pairs) (now text) × Fits (now rules) (now table) k ⌝ }
+    ensures { λ r. ⌜ r ≡ repeatedFrom (nameBytes (now (pairs .entry)) (now (text .entry))) (now (rules .entry)) (now (table .entry)) 0 k ⌝ }
+{
+    let mut i = 0;
+    while i < k {
+        if is_among(rules, pairs, text, table, k, i) {
+            return true;
+        }
+        i += 1;
+    }
+    false
+}
+
+// How many rules a list has, or the refusal.
+pub enum RulesAnswer {
+    Rules(usize),
+    NoRules(Refusal),
+}
+
+// The rules of a list, entered in the table.
+pub fn read_rules(
+    rules: &[u32],
+    pairs: &[u32],
+    text: &[u8],
+    table: &mut [usize; 128],
+) -> RulesAnswer
+    requires { ⌜ Good (now pairs) (now text) × (length (now rules) ≤ 8192) × (length (now table) ≡ 128) ⌝ }
+    ensures { λ r. ⌜ RulesRead (now (rules .entry)) (now (pairs .entry)) (now (text .entry)) (now (table .exit)) r ⌝ }
+{
+    match encoding::scan_below(rules, 33, 0) {
+        WordScan::Word { value, next } => {
+            let k = value as usize;
+            match scan_list(rules, pairs, text, k, next, table) {
+                Scan::At(end) => {
+                    if end != rules.len() {
+                        return RulesAnswer::NoRules(Refusal::LeftOver);
+                    }
+                    if are_repeated(rules, pairs, text, table, k) {
+                        return RulesAnswer::NoRules(Refusal::RepeatedRule);
+                    }
+                    RulesAnswer::Rules(k)
+                }
+                Scan::Refused(r) => RulesAnswer::NoRules(r),
+            }
+        }
+        WordScan::NoWord(r) => RulesAnswer::NoRules(r),
+    }
+}

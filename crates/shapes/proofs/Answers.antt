@@ -1,0 +1,130 @@
+-- Accept, then ask: the public answers by what is asked of the accepted type.
+use Prim.Native.Nat.{ℕ, _≤_}
+use mathlib.Core.Path.{_≡_, refl, sym, _∙_}
+use mathlib.Core.Bool.{Bool, true, false}
+use mathlib.Core.List.{List}
+use borrow.Author.Tests.{eq-eqb, ne-eqb, eqb-true}
+use lib.Dec.{eqb}
+use lib.ListN.{length}
+use Rattle.rast.specs.Bytes.{Bytes}
+use Rattle.rast.specs.Tree.{Ty}
+use Rattle.encoding.specs.declared.Refusal.{Refusal}
+use Rattle.encoding.specs.declared.Refusal.the-variants.{LeftOver}
+use Rattle.encoding.specs.declared.Check.{Check}
+use Rattle.encoding.specs.declared.Check.the-variants.{Passed, Failed}
+use Rattle.encoding.specs.Refusals.{pick, Answer, given, refused, mapAnswer, unless}
+use Rattle.encoding.specs.Tables.{Good, checkTables}
+use Rattle.encoding.specs.Reading.{Reading, got, stop, whole}
+use Rattle.encoding.specs.Types.{typeAt, typeOf}
+use Rattle.encoding.proofs.Tables.{impossible, tables-passed}
+use Rattle.measure.specs.declared.Measure.{Measure}
+use Rattle.measure.specs.declared.Measure.the-variants.{Measured, Stopped}
+use Rattle.measure.specs.Lengths.{measureOf}
+use Rattle.writing.specs.Written.{Readable}
+use Rattle.classes.specs.Asked.{Judges}
+use Rattle.shapes.specs.declared.ShapeAnswer.the-variants.{Yes, No, Refused}
+use Rattle.shapes.specs.Asked.{shapeAnswer, acceptance}
+
+-- ---- accepting
+
+module _ (size : ℕ) where
+  pub whole-left : (x : Reading (Ty Bytes)) {m : Measure} {n b : ℕ} → m ≡ measureOf x → m ≡ Measured n b → (n ≡ size → ⊥) → Failed LeftOver ≡ acceptance (whole size x)
+  unfolding whole
+  whole-left (got t k) {m} {n} {b} e d h =
+      let q : k ≡ n = cc in
+      rw (ne-eqb k size (λ i. h (sym q ∙ i))) refl
+  whole-left (stop r) e d h = impossible (cc)
+
+  pub whole-passed : (x : Reading (Ty Bytes)) {m : Measure} {n b : ℕ} → m ≡ measureOf x → m ≡ Measured n b → n ≡ size → Passed ≡ acceptance (whole size x)
+  unfolding whole
+  whole-passed (got t k) {m} {n} {b} e d h =
+      let q : k ≡ n = cc in
+      rw (eq-eqb k size (q ∙ h)) refl
+  whole-passed (stop r) e d h = impossible (cc)
+
+  pub whole-stopped : (x : Reading (Ty Bytes)) {m : Measure} {r : Refusal} → m ≡ measureOf x → m ≡ Stopped r → Failed r ≡ acceptance (whole size x)
+  unfolding whole
+  whole-stopped (got t k) e d = impossible (cc)
+  whole-stopped (stop r) e d = cc
+
+  whole-given : (x : Reading (Ty Bytes)) (t : Ty Bytes) → whole size x ≡ given t → x ≡ got t size
+  unfolding whole
+  whole-given (got u k) t e = go (eqb k size) (eqb-true k size) e
+    where
+      go : (b : Bool) → (b ≡ true → k ≡ size) → pick b (given u) (refused LeftOver) ≡ given t → got u k ≡ got t size
+      go true h d = let q = h refl in let i : u ≡ t = cc in cc
+      go false h d = impossible (cc)
+  whole-given (stop r) t e = impossible (cc)
+
+unless-failed : {A : Type 0} (c : Check) (a : Answer A) {r : Refusal} → c ≡ Failed r → unless c a ≡ refused r
+unfolding unless
+unless-failed Passed a e = impossible (cc)
+unless-failed (Failed k) a e = cc
+
+unless-passed : {A : Type 0} (c : Check) (a : Answer A) → c ≡ Passed → unless c a ≡ a
+unfolding unless
+unless-passed Passed a e = refl
+unless-passed (Failed k) a e = impossible (cc)
+
+unless-given : {A : Type 0} (c : Check) (a : Answer A) {b : A} → unless c a ≡ given b → (c ≡ Passed) × (a ≡ given b)
+unfolding unless
+unless-given Passed a e = (refl, e)
+unless-given (Failed k) a e = impossible (cc)
+
+answer-given : {A : Type 0} (a : Answer A) {c : Check} → c ≡ acceptance a → c ≡ Passed → (B : Type 0) → ((t : A) → a ≡ given t → B) → B
+answer-given (given t) e d B k = k t refl
+answer-given (refused r) e d B k = impossible (cc)
+
+answer-refused : {A : Type 0} (a : Answer A) {c : Check} {r : Refusal} → c ≡ acceptance a → c ≡ Failed r → a ≡ refused r
+answer-refused (given t) e d = impossible (cc)
+answer-refused (refused r) e d = cc
+
+-- the encoding holds a type
+pub record Accepted (ws pairs : List ℕ) (text : Bytes) : Type 0 where
+  pub type : Ty Bytes
+  pub good : Good pairs text
+  pub few : length ws ≤ 8192
+  pub reads : typeAt ws pairs text 0 ≡ got type (length ws)
+  pub is : typeOf ws pairs text ≡ given type
+
+module _ (ws pairs : List ℕ) (text : Bytes) where
+  pub tables-failed : {c : Check} {r : Refusal} → c ≡ checkTables ws pairs text → c ≡ Failed r → Failed r ≡ acceptance (typeOf ws pairs text)
+  unfolding typeOf
+  tables-failed {c} {r} e d = rw (unless-failed (checkTables ws pairs text) (whole (length ws) (typeAt ws pairs text 0)) (sym e ∙ d)) refl
+
+  pub tables-whole : {c a : Check} → c ≡ checkTables ws pairs text → c ≡ Passed → a ≡ acceptance (whole (length ws) (typeAt ws pairs text 0)) → a ≡ acceptance (typeOf ws pairs text)
+  unfolding typeOf
+  tables-whole e d k = rw (unless-passed (checkTables ws pairs text) (whole (length ws) (typeAt ws pairs text 0)) (sym e ∙ d)) k
+
+  pub accepted : {c : Check} → c ≡ acceptance (typeOf ws pairs text) → c ≡ Passed → Accepted ws pairs text
+  unfolding typeOf
+  accepted e d =
+      answer-given (typeOf ws pairs text) e d (Accepted ws pairs text) λ t i.
+      let u = unless-given (checkTables ws pairs text) (whole (length ws) (typeAt ws pairs text 0)) i in
+      let k = tables-passed ws pairs text (u .0) in
+      record { type = t; good = k .good; few = k .few; reads = whole-given (length ws) (typeAt ws pairs text 0) t (u .1); is = i }
+
+  pub accepted-readable : Accepted ws pairs text → Readable (typeAt ws pairs text 0)
+  accepted-readable a = record { value = a .type; end = length ws; reads = a .reads }
+
+  pub not-accepted : {c : Check} {r : Refusal} → c ≡ acceptance (typeOf ws pairs text) → c ≡ Failed r → typeOf ws pairs text ≡ refused r
+  not-accepted e d = answer-refused (typeOf ws pairs text) e d
+
+  -- ---- shapes
+
+  module _ (g : Ty Bytes → Bool) where
+    pub shape-yes : {b : Bool} → Accepted ws pairs text → Judges g (typeAt ws pairs text 0) b → b ≡ true → Yes ≡ shapeAnswer (mapAnswer g (typeOf ws pairs text))
+    unfolding mapAnswer
+    shape-yes a j k =
+        let y : g (a .type) ≡ true = sym (j .says (a .type) (length ws) (a .reads)) ∙ k in
+        rw (a .is, y) refl
+
+    pub shape-no : {b : Bool} → Accepted ws pairs text → Judges g (typeAt ws pairs text 0) b → b ≡ false → No ≡ shapeAnswer (mapAnswer g (typeOf ws pairs text))
+    unfolding mapAnswer
+    shape-no a j k =
+        let y : g (a .type) ≡ false = sym (j .says (a .type) (length ws) (a .reads)) ∙ k in
+        rw (a .is, y) refl
+
+    pub shape-refused : {r : Refusal} → typeOf ws pairs text ≡ refused r → Refused r ≡ shapeAnswer (mapAnswer g (typeOf ws pairs text))
+    unfolding mapAnswer
+    shape-refused e = rw e refl

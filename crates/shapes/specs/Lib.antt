@@ -1,0 +1,4 @@
+pub mod Shapes
+pub mod Parts
+pub mod Asked
+pub mod Initialization

@@ -1,0 +1,503 @@
+// Shapes of the type that an encoding holds: RAST's yes-or-no answers, and where the parts that they speak of stand.
+ghost use mathlib.Core.Path.{_≡_};
+ghost use Prim.Native.Nat.{_≤_};
+ghost use lib.ListN.{length};
+ghost use Rattle.rast.specs.Bytes.{_or_};
+ghost use Rattle.encoding.specs.Refusals.{mapAnswer};
+ghost use Rattle.encoding.specs.Reading.{whole};
+ghost use Rattle.encoding.specs.Tables.{Good};
+ghost use Rattle.encoding.specs.Types.{typeAt, typeOf};
+ghost use Rattle.writing.specs.Written.{Readable};
+ghost use Rattle.classes.specs.Asked.{Judges, Finds};
+ghost use Rattle.classes.specs.Matches.{unsized};
+ghost use Rattle.shapes.specs.Asked.{ExpandsAt, nameStep, nameKind, shapeOf, shapeAnswer, acceptance};
+ghost use Rattle.shapes.specs.Parts.{removedAt, ownedAt, BoxDynUnderlying, MultiArrayUnderlying, ObjectOrPointerUnderlying, GetBuiltinCollectionElement, uninitElement, ExtractMaybeUninitArrayElement};
+ghost use Rattle.shapes.specs.Shapes.{EndsWithNameThatCanAcceptGenerics, IsAutoSize, CanReadWithoutClone, IsRcOrBorrowedRc, IsMultiArray, IsMaybeUninit, IsUninitArray, IsBox, NeedsAsRefForBorrow, IsObject, IsPointer, IsObjectOrPointer, IsBuiltinCollection, IsRc, IsBoxDyn, uninitCases};
+use classes::Class;
+use classes::Found;
+use encoding::Check;
+use encoding::Refusal;
+use measure::Measure;
+
+// A shape answer: yes, no, or the refusal.
+pub enum ShapeAnswer {
+    Yes,
+    No,
+    Refused(Refusal),
+}
+
+// The shape answers, each named after its call.
+enum Shape {
+    EndsWithName,
+    AutoSize,
+    CanRead,
+    RcOrBorrowed,
+    MultiArray,
+    MaybeUninit,
+    UninitArray,
+    BoxOf,
+    NeedsAsRef,
+    ObjectOf,
+    PointerOf,
+    ObjectOrPointer,
+    BuiltinCollection,
+    RcOf,
+    BoxDyn,
+}
+
+// ---- on an accepted type: wrappers
+
+// Where the type that `Expand` gives stands: behind every wrapper, a synonym's base being followed.
+pub fn expand(words: &[u32], pairs: &[u32], text: &[u8], at: usize) -> usize
+    requires { ⌜ Readable (typeAt (now words) (now pairs) (now text) at) ⌝ }
+    ensures { λ r. ⌜ ExpandsAt (typeAt (now (words .entry)) (now (pairs .entry)) (now (text .entry))) at r ⌝ }
+{
+    let mut place = at;
+    loop {
+        let w = words[place];
+        if w == 23 {
+            place = writing::skip_type(words, pairs, text, place + 1);
+        } else if w == 24 {
+            place += 2;
+        } else {
+            return place;
+        }
+    }
+}
+
+// Where the type that `RemoveSynonyms` gives stands: behind every wrapper, a synonym's display being followed.
+pub fn remove_wrappers(words: &[u32], pairs: &[u32], text: &[u8], at: usize) -> usize
+    requires { ⌜ Readable (typeAt (now words) (now pairs) (now text) at) ⌝ }
+    ensures { λ r. ⌜ Judges (λ t. removedAt at t .at) (typeAt (now (words .entry)) (now (pairs .entry)) (now (text .entry)) at) r ⌝ }
+{
+    let mut place = at;
+    loop {
+        let w = words[place];
+        if w == 23 {
+            place += 1;
+        } else if w == 24 {
+            place += 2;
+        } else {
+            return place;
+        }
+    }
+}
+
+// Where the type that `ToOwned` gives stands.
+pub fn owned(words: &[u32], pairs: &[u32], text: &[u8], at: usize) -> usize
+    requires { ⌜ Readable (typeAt (now words) (now pairs) (now text) at) ⌝ }
+    ensures { λ r. ⌜ Judges (λ t. ownedAt at t .at) (typeAt (now (words .entry)) (now (pairs .entry)) (now (text .entry)) at) r ⌝ }
+{
+    let w = words[at];
+    if w == 15 {
+        return at + 1;
+    }
+    if w == 16 {
+        return at + 1;
+    }
+    at
+}
+
+// ---- on an accepted type: parts
+
+// `MultiArrayUnderlying`
+pub fn multi_array_part(words: &[u32], pairs: &[u32], text: &[u8], at: usize) -> Found
+    requires { ⌜ Good (now pairs) (now text) × Readable (typeAt (now words) (now pairs) (now text) at) ⌝ }
+    ensures { λ r. ⌜ Finds MultiArrayUnderlying (typeAt (now (words .entry)) (now (pairs .entry)) (now (text .entry))) at r ⌝ }
+{
+    classes::first_argument(
+        words,
+        pairs,
+        text,
+        Class::ArrayClass,
+        expand(words, pairs, text, at),
+    )
+}
+
+// `ObjectOrPointerUnderlying`
+pub fn object_or_pointer_part(words: &[u32], pairs: &[u32], text: &[u8], at: usize) -> Found
+    requires { ⌜ Good (now pairs) (now text) × Readable (typeAt (now words) (now pairs) (now text) at) ⌝ }
+    ensures { λ r. ⌜ Finds ObjectOrPointerUnderlying (typeAt (now (words .entry)) (now (pairs .entry)) (now (text .entry))) at r ⌝ }
+{
+    let place = expand(words, pairs, text, at);
+    let Found::At(part) = classes::first_argument(words, pairs, text, Class::PtrClass, place) else {
+        return classes::first_argument(words, pairs, text, Class::ObjectClass, place);
+    };
+    Found::At(part)
+}
+
+// `GetBuiltinCollectionElement`: of a Map the second argument
+pub fn collection_part(words: &[u32], pairs: &[u32], text: &[u8], at: usize) -> Found
+    requires { ⌜ Good (now pairs) (now text) × Readable (typeAt (now words) (now pairs) (now text) at) ⌝ }
+    ensures { λ r. ⌜ Finds GetBuiltinCollectionElement (typeAt (now (words .entry)) (now (pairs .entry)) (now (text .entry))) at r ⌝ }
+{
+    let place = expand(words, pairs, text, at);
+    let Found::At(key) = classes::first_argument(words, pairs, text, Class::MapClass, place) else {
+        return classes::first_argument(words, pairs, text, Class::Collection, place);
+    };
+    Found::At(writing::skip_type(words, pairs, text, key))
+}
+
+// `BoxDynUnderlying`
+pub fn box_dyn_part(words: &[u32], pairs: &[u32], text: &[u8], at: usize) -> Found
+    requires { ⌜ Good (now pairs) (now text) × Readable (typeAt (now words) (now pairs) (now text) at) ⌝ }
+    ensures { λ r. ⌜ Finds BoxDynUnderlying (typeAt (now (words .entry)) (now (pairs .entry)) (now (text .entry))) at r ⌝ }
+{
+    let Found::At(place) = classes::first_argument(words, pairs, text, Class::Boxed, at) else {
+        return Found::NoPart;
+    };
+    if words[place] == 18 {
+        return Found::At(place + 1);
+    }
+    Found::NoPart
+}
+
+// The element of an array, or of a `MultiArray`, if it is `MaybeUninit`: what that holds.
+fn uninit_part(words: &[u32], pairs: &[u32], text: &[u8], at: usize) -> Found
+    requires { ⌜ Good (now pairs) (now text) × Readable (typeAt (now words) (now pairs) (now text) at) ⌝ }
+    ensures { λ r. ⌜ Finds uninitElement (typeAt (now (words .entry)) (now (pairs .entry)) (now (text .entry))) at r ⌝ }
+{
+    if words[at] == 22 {
+        return classes::first_argument(words, pairs, text, Class::Uninit, at + 2);
+    }
+    let Found::At(place) = multi_array_part(words, pairs, text, at) else {
+        return Found::NoPart;
+    };
+    classes::first_argument(words, pairs, text, Class::Uninit, place)
+}
+
+// `ExtractMaybeUninitArrayElement`
+pub fn uninit_array_part(words: &[u32], pairs: &[u32], text: &[u8], at: usize) -> Found
+    requires { ⌜ Good (now pairs) (now text) × Readable (typeAt (now words) (now pairs) (now text) at) ⌝ }
+    ensures { λ r. ⌜ Finds ExtractMaybeUninitArrayElement (typeAt (now (words .entry)) (now (pairs .entry)) (now (text .entry))) at r ⌝ }
+{
+    let Found::At(place) = object_or_pointer_part(words, pairs, text, at) else {
+        return Found::NoPart;
+    };
+    uninit_part(words, pairs, text, place)
+}
+
+// ---- on an accepted type: shapes
+
+// Whether an expanded type is an array without a size, or a `MultiArray`, of `MaybeUninit`.
+fn holds_uninit(words: &[u32], pairs: &[u32], text: &[u8], at: usize) -> bool
+    requires { ⌜ Good (now pairs) (now text) × Readable (typeAt (now words) (now pairs) (now text) at) ⌝ }
+    ensures { λ r. ⌜ Judges (λ s. uninitCases (unsized s) s) (typeAt (now (words .entry)) (now (pairs .entry)) (now (text .entry)) at) r ⌝ }
+{
+    if words[at] == 22 {
+        if words[at + 1] == 0 {
+            return classes::is_of(words, pairs, text, Class::Uninit, at + 2);
+        }
+        return false;
+    }
+    let Found::At(place) = classes::first_argument(words, pairs, text, Class::ArrayClass, at) else {
+        return false;
+    };
+    classes::is_of(words, pairs, text, Class::Uninit, place)
+}
+
+// `IsUninitArray`
+fn is_uninit_array_at(words: &[u32], pairs: &[u32], text: &[u8], at: usize) -> bool
+    requires { ⌜ Good (now pairs) (now text) × Readable (typeAt (now words) (now pairs) (now text) at) ⌝ }
+    ensures { λ r. ⌜ Judges IsUninitArray (typeAt (now (words .entry)) (now (pairs .entry)) (now (text .entry)) at) r ⌝ }
+{
+    let Found::At(place) = object_or_pointer_part(words, pairs, text, at) else {
+        return false;
+    };
+    holds_uninit(words, pairs, text, expand(words, pairs, text, place))
+}
+
+// `IsRcOrBorrowedRc`: through shared borrows and synonyms' bases
+fn is_rc_or_borrowed_at(words: &[u32], pairs: &[u32], text: &[u8], at: usize) -> bool
+    requires { ⌜ Good (now pairs) (now text) × Readable (typeAt (now words) (now pairs) (now text) at) ⌝ }
+    ensures { λ r. ⌜ Judges IsRcOrBorrowedRc (typeAt (now (words .entry)) (now (pairs .entry)) (now (text .entry)) at) r ⌝ }
+{
+    let mut place = at;
+    loop {
+        let w = words[place];
+        if w == 15 {
+            place += 1;
+        } else if w == 23 {
+            place = writing::skip_type(words, pairs, text, place + 1);
+        } else {
+            return classes::is_of(words, pairs, text, Class::Counted, place);
+        }
+    }
+}
+
+// `CanReadWithoutClone`: through metadata and synonyms' bases; a primitive or a `Ptr`, or metadata that says so
+fn can_read_at(words: &[u32], pairs: &[u32], text: &[u8], at: usize) -> bool
+    requires { ⌜ Good (now pairs) (now text) × Readable (typeAt (now words) (now pairs) (now text) at) ⌝ }
+    ensures { λ r. ⌜ Judges CanReadWithoutClone (typeAt (now (words .entry)) (now (pairs .entry)) (now (text .entry)) at) r ⌝ }
+{
+    let mut place = at;
+    loop {
+        let w = words[place];
+        if w < 12 {
+            return true;
+        }
+        if w == 23 {
+            place = writing::skip_type(words, pairs, text, place + 1);
+        } else if w == 24 {
+            if words[place + 1] % 2 == 1 {
+                return true;
+            }
+            place += 2;
+        } else {
+            return classes::is_of(words, pairs, text, Class::PtrClass, place);
+        }
+    }
+}
+
+// How many own words stand before the type that `EndsWithNameThatCanAcceptGenerics` goes on to: 0 where it goes on to none. An intersection's left type comes before its right one.
+fn name_step(kind: u32) -> usize
+    ensures { λ r. ⌜ r ≡ nameStep kind ⌝ }
+{
+    match kind {
+        15 => 1,
+        16 => 1,
+        17 => 1,
+        18 => 1,
+        23 => 1,
+        24 => 2,
+        _ => 0,
+    }
+}
+
+// A type of this kind is a name itself, or a number of fixed size.
+fn is_name_kind(kind: u32) -> bool
+    ensures { λ r. ⌜ r ≡ nameKind kind ⌝ }
+{
+    if kind < 10 {
+        return true;
+    }
+    if kind == 12 {
+        return true;
+    }
+    kind == 13
+}
+
+// `EndsWithNameThatCanAcceptGenerics`
+fn ends_with_name_at(words: &[u32], pairs: &[u32], text: &[u8], at: usize) -> bool
+    requires { ⌜ Readable (typeAt (now words) (now pairs) (now text) at) ⌝ }
+    ensures { λ r. ⌜ Judges EndsWithNameThatCanAcceptGenerics (typeAt (now (words .entry)) (now (pairs .entry)) (now (text .entry)) at) r ⌝ }
+{
+    let mut place = at;
+    loop {
+        let w = words[place];
+        if w == 21 {
+            place = writing::skip_type(words, pairs, text, place + 1);
+        } else {
+            let own = name_step(w);
+            if own == 0 {
+                return is_name_kind(w);
+            }
+            place += own;
+        }
+    }
+}
+
+// `IsAutoSize`
+fn is_auto_size_at(words: &[u32], pairs: &[u32], text: &[u8], at: usize) -> bool
+    requires { ⌜ Readable (typeAt (now words) (now pairs) (now text) at) ⌝ }
+    ensures { λ r. ⌜ Judges IsAutoSize (typeAt (now (words .entry)) (now (pairs .entry)) (now (text .entry)) at) r ⌝ }
+{
+    words[expand(words, pairs, text, at)] < 11
+}
+
+fn is_box_or_rc(words: &[u32], pairs: &[u32], text: &[u8], at: usize) -> bool
+    requires { ⌜ Good (now pairs) (now text) × Readable (typeAt (now words) (now pairs) (now text) at) ⌝ }
+    ensures { λ r. ⌜ Judges (λ t. IsBox t or IsRc t) (typeAt (now (words .entry)) (now (pairs .entry)) (now (text .entry)) at) r ⌝ }
+{
+    if classes::is_of(words, pairs, text, Class::Boxed, at) {
+        return true;
+    }
+    classes::is_of(words, pairs, text, Class::Counted, at)
+}
+
+// `NeedsAsRefForBorrow`
+fn needs_as_ref_at(words: &[u32], pairs: &[u32], text: &[u8], at: usize) -> bool
+    requires { ⌜ Good (now pairs) (now text) × Readable (typeAt (now words) (now pairs) (now text) at) ⌝ }
+    ensures { λ r. ⌜ Judges NeedsAsRefForBorrow (typeAt (now (words .entry)) (now (pairs .entry)) (now (text .entry)) at) r ⌝ }
+{
+    if words[at] == 15 {
+        return is_box_or_rc(words, pairs, text, at + 1);
+    }
+    is_box_or_rc(words, pairs, text, at)
+}
+
+// A shape answer about an accepted type.
+fn shape_at(words: &[u32], pairs: &[u32], text: &[u8], shape: Shape, at: usize) -> bool
+    requires { ⌜ Good (now pairs) (now text) × Readable (typeAt (now words) (now pairs) (now text) at) ⌝ }
+    ensures { λ r. ⌜ Judges (shapeOf shape) (typeAt (now (words .entry)) (now (pairs .entry)) (now (text .entry)) at) r ⌝ }
+{
+    match shape {
+        Shape::EndsWithName => ends_with_name_at(words, pairs, text, at),
+        Shape::AutoSize => is_auto_size_at(words, pairs, text, at),
+        Shape::CanRead => can_read_at(words, pairs, text, at),
+        Shape::RcOrBorrowed => is_rc_or_borrowed_at(words, pairs, text, at),
+        Shape::MultiArray => classes::is_found(multi_array_part(words, pairs, text, at)),
+        Shape::MaybeUninit => classes::is_of(words, pairs, text, Class::Uninit, at),
+        Shape::UninitArray => is_uninit_array_at(words, pairs, text, at),
+        Shape::BoxOf => classes::is_of(words, pairs, text, Class::Boxed, at),
+        Shape::NeedsAsRef => needs_as_ref_at(words, pairs, text, at),
+        Shape::ObjectOf => classes::is_of(words, pairs, text, Class::ObjectClass, at),
+        Shape::PointerOf => classes::is_of(words, pairs, text, Class::PtrClass, at),
+        Shape::ObjectOrPointer => classes::is_found(object_or_pointer_part(words, pairs, text, at)),
+        Shape::BuiltinCollection => classes::is_found(collection_part(words, pairs, text, at)),
+        Shape::RcOf => classes::is_of(words, pairs, text, Class::Counted, at),
+        Shape::BoxDyn => classes::is_found(box_dyn_part(words, pairs, text, at)),
+    }
+}
+
+// ---- the public calls
+
+// Whether a type fills the words.
+fn accept_words(words: &[u32], pairs: &[u32], text: &[u8]) -> Check
+    requires { ⌜ Good (now pairs) (now text) × (length (now words) ≤ 8192) ⌝ }
+    ensures { λ r. ⌜ r ≡ acceptance (whole (length (now (words .entry))) (typeAt (now (words .entry)) (now (pairs .entry)) (now (text .entry)) 0)) ⌝ }
+{
+    match measure::measure_type(words, pairs, text, 0) {
+        Measure::Measured { next, bytes: _ } => {
+            if next != words.len() {
+                return Check::Failed(Refusal::LeftOver);
+            }
+            Check::Passed
+        }
+        Measure::Stopped(r) => Check::Failed(r),
+    }
+}
+
+// Whether the encoding holds a type, or the refusal.
+pub fn accept(words: &[u32], pairs: &[u32], text: &[u8]) -> Check
+    ensures { λ r. ⌜ r ≡ acceptance (typeOf (now (words .entry)) (now (pairs .entry)) (now (text .entry))) ⌝ }
+{
+    match encoding::check_tables(words, pairs, text) {
+        Check::Passed => accept_words(words, pairs, text),
+        Check::Failed(r) => Check::Failed(r),
+    }
+}
+
+// A shape answer about the type that the encoding holds.
+fn shape_in(words: &[u32], pairs: &[u32], text: &[u8], shape: Shape) -> ShapeAnswer
+    ensures { λ r. ⌜ r ≡ shapeAnswer (mapAnswer (shapeOf shape) (typeOf (now (words .entry)) (now (pairs .entry)) (now (text .entry)))) ⌝ }
+{
+    match accept(words, pairs, text) {
+        Check::Passed => {
+            if shape_at(words, pairs, text, shape, 0) {
+                return ShapeAnswer::Yes;
+            }
+            ShapeAnswer::No
+        }
+        Check::Failed(r) => ShapeAnswer::Refused(r),
+    }
+}
+
+// `EndsWithNameThatCanAcceptGenerics`
+pub fn ends_with_name_that_can_accept_generics(
+    words: &[u32],
+    pairs: &[u32],
+    text: &[u8],
+) -> ShapeAnswer
+    ensures { λ r. ⌜ r ≡ shapeAnswer (mapAnswer EndsWithNameThatCanAcceptGenerics (typeOf (now (words .entry)) (now (pairs .entry)) (now (text .entry)))) ⌝ }
+{
+    shape_in(words, pairs, text, Shape::EndsWithName)
+}
+
+// `IsAutoSize`
+pub fn is_auto_size(words: &[u32], pairs: &[u32], text: &[u8]) -> ShapeAnswer
+    ensures { λ r. ⌜ r ≡ shapeAnswer (mapAnswer IsAutoSize (typeOf (now (words .entry)) (now (pairs .entry)) (now (text .entry)))) ⌝ }
+{
+    shape_in(words, pairs, text, Shape::AutoSize)
+}
+
+// `CanReadWithoutClone`
+pub fn can_read_without_clone(words: &[u32], pairs: &[u32], text: &[u8]) -> ShapeAnswer
+    ensures { λ r. ⌜ r ≡ shapeAnswer (mapAnswer CanReadWithoutClone (typeOf (now (words .entry)) (now (pairs .entry)) (now (text .entry)))) ⌝ }
+{
+    shape_in(words, pairs, text, Shape::CanRead)
+}
+
+// `IsRcOrBorrowedRc`
+pub fn is_rc_or_borrowed_rc(words: &[u32], pairs: &[u32], text: &[u8]) -> ShapeAnswer
+    ensures { λ r. ⌜ r ≡ shapeAnswer (mapAnswer IsRcOrBorrowedRc (typeOf (now (words .entry)) (now (pairs .entry)) (now (text .entry)))) ⌝ }
+{
+    shape_in(words, pairs, text, Shape::RcOrBorrowed)
+}
+
+// `IsMultiArray`
+pub fn is_multi_array(words: &[u32], pairs: &[u32], text: &[u8]) -> ShapeAnswer
+    ensures { λ r. ⌜ r ≡ shapeAnswer (mapAnswer IsMultiArray (typeOf (now (words .entry)) (now (pairs .entry)) (now (text .entry)))) ⌝ }
+{
+    shape_in(words, pairs, text, Shape::MultiArray)
+}
+
+// `IsMaybeUninit`
+pub fn is_maybe_uninit(words: &[u32], pairs: &[u32], text: &[u8]) -> ShapeAnswer
+    ensures { λ r. ⌜ r ≡ shapeAnswer (mapAnswer IsMaybeUninit (typeOf (now (words .entry)) (now (pairs .entry)) (now (text .entry)))) ⌝ }
+{
+    shape_in(words, pairs, text, Shape::MaybeUninit)
+}
+
+// `IsUninitArray`
+pub fn is_uninit_array(words: &[u32], pairs: &[u32], text: &[u8]) -> ShapeAnswer
+    ensures { λ r. ⌜ r ≡ shapeAnswer (mapAnswer IsUninitArray (typeOf (now (words .entry)) (now (pairs .entry)) (now (text .entry)))) ⌝ }
+{
+    shape_in(words, pairs, text, Shape::UninitArray)
+}
+
+// `IsBox`
+pub fn is_box(words: &[u32], pairs: &[u32], text: &[u8]) -> ShapeAnswer
+    ensures { λ r. ⌜ r ≡ shapeAnswer (mapAnswer IsBox (typeOf (now (words .entry)) (now (pairs .entry)) (now (text .entry)))) ⌝ }
+{
+    shape_in(words, pairs, text, Shape::BoxOf)
+}
+
+// `NeedsAsRefForBorrow`
+pub fn needs_as_ref_for_borrow(words: &[u32], pairs: &[u32], text: &[u8]) -> ShapeAnswer
+    ensures { λ r. ⌜ r ≡ shapeAnswer (mapAnswer NeedsAsRefForBorrow (typeOf (now (words .entry)) (now (pairs .entry)) (now (text .entry)))) ⌝ }
+{
+    shape_in(words, pairs, text, Shape::NeedsAsRef)
+}
+
+// `IsObject`
+pub fn is_object(words: &[u32], pairs: &[u32], text: &[u8]) -> ShapeAnswer
+    ensures { λ r. ⌜ r ≡ shapeAnswer (mapAnswer IsObject (typeOf (now (words .entry)) (now (pairs .entry)) (now (text .entry)))) ⌝ }
+{
+    shape_in(words, pairs, text, Shape::ObjectOf)
+}
+
+// `IsPointer`
+pub fn is_pointer(words: &[u32], pairs: &[u32], text: &[u8]) -> ShapeAnswer
+    ensures { λ r. ⌜ r ≡ shapeAnswer (mapAnswer IsPointer (typeOf (now (words .entry)) (now (pairs .entry)) (now (text .entry)))) ⌝ }
+{
+    shape_in(words, pairs, text, Shape::PointerOf)
+}
+
+// `IsObjectOrPointer`
+pub fn is_object_or_pointer(words: &[u32], pairs: &[u32], text: &[u8]) -> ShapeAnswer
+    ensures { λ r. ⌜ r ≡ shapeAnswer (mapAnswer IsObjectOrPointer (typeOf (now (words .entry)) (now (pairs .entry)) (now (text .entry)))) ⌝ }
+{
+    shape_in(words, pairs, text, Shape::ObjectOrPointer)
+}
+
+// `IsBuiltinCollection`
+pub fn is_builtin_collection(words: &[u32], pairs: &[u32], text: &[u8]) -> ShapeAnswer
+    ensures { λ r. ⌜ r ≡ shapeAnswer (mapAnswer IsBuiltinCollection (typeOf (now (words .entry)) (now (pairs .entry)) (now (text .entry)))) ⌝ }
+{
+    shape_in(words, pairs, text, Shape::BuiltinCollection)
+}
+
+// `IsRc`
+pub fn is_rc(words: &[u32], pairs: &[u32], text: &[u8]) -> ShapeAnswer
+    ensures { λ r. ⌜ r ≡ shapeAnswer (mapAnswer IsRc (typeOf (now (words .entry)) (now (pairs .entry)) (now (text .entry)))) ⌝ }
+{
+    shape_in(words, pairs, text, Shape::RcOf)
+}
+
+// `IsBoxDyn`
+pub fn is_box_dyn(words: &[u32], pairs: &[u32], text: &[u8]) -> ShapeAnswer
+    ensures { λ r. ⌜ r ≡ shapeAnswer (mapAnswer IsBoxDyn (typeOf (now (words .entry)) (now (pairs .entry)) (now (text .entry)))) ⌝ }
+{
+    shape_in(words, pairs, text, Shape::BoxDyn)
+}

@@ -1,0 +1,34 @@
+-- A tree that stands at a position, by its head and the trees below it.
+use Prim.Native.Nat.{ℕ, _<_}
+use mathlib.Core.Path.{_≡_}
+use mathlib.Core.List.{List}
+use native.Mathlib.Omega.{arith}
+use lib.ListN.{length}
+use Rattle.rast.specs.Tree.{Ty}
+use Rattle.encoding.specs.declared.Head.{Head}
+use Rattle.encoding.specs.Tables.{nameCount}
+use Rattle.encoding.specs.Reading.{got}
+use Rattle.encoding.specs.Heads.{readHead}
+use Rattle.encoding.specs.Types.{readType}
+use Rattle.encoding.proofs.Inside.{head-lies}
+use Rattle.encoding.proofs.Types.{bind-got, node-parts}
+use Rattle.trees.specs.Numbered.{treeAt}
+use Rattle.trees.proofs.Nodes.{Below, node-below}
+
+module _ (ws pairs : List ℕ) (at : ℕ) {t : Ty ℕ} {n : ℕ} (e : treeAt ws pairs at ≡ got t n) where
+  pub record Headed : Type 0 where
+    pub head : Head
+    pub own : ℕ
+    pub reads : readHead (nameCount pairs) ws at ≡ got head own
+
+  -- a tree begins with a head
+  pub tree-head : Headed
+  unfolding readType
+  tree-head = let d = bind-got (readHead (nameCount pairs) ws at) _ e in record { head = d .value; own = d .end; reads = d .first }
+
+  pub tree-here : at < length ws
+  tree-here = let l = head-lies (nameCount pairs) ws at (tree-head .reads) in omega (arith, l .starts, l .ends)
+
+  -- the trees below the head are read like the tree itself
+  pub tree-below : {h : Head} {q : ℕ} → readHead (nameCount pairs) ws at ≡ got h q → Below ws (λ x. x) (treeAt ws pairs) h q t n
+  tree-below {h} {q} d = node-below ws (λ x. x) (treeAt ws pairs) h q (node-parts (nameCount pairs) ws (λ x. x) 63 at e d)

@@ -1,0 +1,5 @@
+pub mod Nodes
+pub mod Runs
+pub mod Spans
+pub mod Renaming
+pub mod Heads

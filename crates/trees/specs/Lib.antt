@@ -1,0 +1,5 @@
+pub mod Renamed
+pub mod Encode
+pub mod Places
+pub mod Numbered
+pub mod Runs

@@ -1,0 +1,71 @@
+use Rattle.encoding.specs.Types.{typeAt}
+use Rattle.pieces.proofs.Measured.{measured-end, measured-stop}
+use Rattle.visits.proofs.Answers.{visits-done, visits-left, visits-short, visits-stop, whole-due, whole-visited}
+use Rattle.visits.specs.Calls.{visitsOf}
+use lib.ListN.{length}
+use native.Mathlib.Omega.{arith}
+use borrow.Author.Needs.{needs}
+use Rattle.visits.proofs.fill_type.Statement.{statement}
+use Rattle.visits.proofs.fill_type.Tie as tie
+
+measure-type-requires : tie.Need-measure-type-requires
+measure-type-requires c κs = c .before .before .before .before .pre
+
+enum-known-next : tie.Need-enum-known-next
+enum-known-next c = search needs
+
+returns : tie.Need-returns
+returns c =
+    let m = measured-end (typeAt (c .before .before .before .before .before .before .before .before .before .args .words .now) (c .before .before .before .before .before .before .before .before .before .args .pairs .now) (c .before .before .before .before .before .before .before .before .before .args .text .now) 0) (c .before .before .before .before .measure-type .ensures) (c .before .before .next .given .1) in
+    visits-left visitsOf (length (c .before .before .before .before .before .before .before .before .before .args .words .now)) (c .before .before .before .before .before .before .before .before .before .args .out .now) (typeAt (c .before .before .before .before .before .before .before .before .before .args .words .now) (c .before .before .before .before .before .before .before .before .before .args .pairs .now) (c .before .before .before .before .before .before .before .before .before .args .text .now) 0) (m .reads) (c .if1 .taken)
+
+slice-aggregate-visit-types : tie.Need-slice-aggregate-visit-types
+slice-aggregate-visit-types c = search needs
+
+visit-types-requires : tie.Need-visit-types-requires
+visit-types-requires c κs =
+    let m = measured-end (typeAt (c .before .before .before .before .before .before .before .before .before .before .args .words .now) (c .before .before .before .before .before .before .before .before .before .before .args .pairs .now) (c .before .before .before .before .before .before .before .before .before .before .args .text .now) 0) (c .before .before .before .before .before .measure-type .ensures) (c .before .before .before .next .given .1) in
+    whole-due (c .before .before .before .before .before .before .before .before .before .before .args .words .now) (c .before .before .before .before .before .before .before .before .before .before .args .pairs .now) (c .before .before .before .before .before .before .before .before .before .before .args .text .now) (m .reads) (c .before .before .before .before .before .before .before .before .before .before .pre .1)
+
+returns-2 : tie.Need-returns-2
+returns-2 c =
+    let m = measured-end (typeAt (c .before .before .before .before .before .before .before .before .before .before .before .before .before .before .args .words .now) (c .before .before .before .before .before .before .before .before .before .before .before .before .before .before .args .pairs .now) (c .before .before .before .before .before .before .before .before .before .before .before .before .before .before .args .text .now) 0) (c .before .before .before .before .before .before .before .before .before .measure-type .ensures) (c .before .before .before .before .before .before .before .next .given .1) in
+    let w = whole-visited (c .before .before .before .before .before .before .before .before .before .before .before .before .before .before .args .words .now) (c .before .before .before .before .before .before .before .before .before .before .before .before .before .before .args .pairs .now) (c .before .before .before .before .before .before .before .before .before .before .before .before .before .before .args .text .now) (m .reads) (c .before .before .before .visit-types .ensures) in
+    visits-short visitsOf (length (c .before .before .before .before .before .before .before .before .before .before .before .before .before .before .args .words .now)) (c .before .before .before .before .before .before .before .before .before .before .before .before .before .before .args .out .now) (typeAt (c .before .before .before .before .before .before .before .before .before .before .before .before .before .before .args .words .now) (c .before .before .before .before .before .before .before .before .before .before .before .before .before .before .args .pairs .now) (c .before .before .before .before .before .before .before .before .before .before .before .before .before .before .args .text .now) 0) (m .reads) (c .before .before .before .before .before .if1 .left) (omega (arith, c .if2 .taken, w .next))
+
+visit-types-requires-2 : tie.Need-visit-types-requires-2
+visit-types-requires-2 c κs =
+    let m = measured-end (typeAt (c .before .before .before .before .before .before .before .before .before .before .before .before .before .before .before .args .words .now) (c .before .before .before .before .before .before .before .before .before .before .before .before .before .before .before .args .pairs .now) (c .before .before .before .before .before .before .before .before .before .before .before .before .before .before .before .args .text .now) 0) (c .before .before .before .before .before .before .before .before .before .before .measure-type .ensures) (c .before .before .before .before .before .before .before .before .next .given .1) in
+    whole-due (c .before .before .before .before .before .before .before .before .before .before .before .before .before .before .before .args .words .now) (c .before .before .before .before .before .before .before .before .before .before .before .before .before .before .before .args .pairs .now) (c .before .before .before .before .before .before .before .before .before .before .before .before .before .before .before .args .text .now) (m .reads) (c .before .before .before .before .before .before .before .before .before .before .before .before .before .before .before .pre .1)
+
+enum-known-r : tie.Need-enum-known-r
+enum-known-r c = search needs
+
+same-length : tie.Need-same-length
+same-length c = search needs
+
+returns-3 : tie.Need-returns-3
+returns-3 c =
+    let m = measured-end (typeAt (c .before .before .before .before .before .before .before .before .before .before .before .before .before .before .before .before .before .before .args .words .now) (c .before .before .before .before .before .before .before .before .before .before .before .before .before .before .before .before .before .before .args .pairs .now) (c .before .before .before .before .before .before .before .before .before .before .before .before .before .before .before .before .before .before .args .text .now) 0) (c .before .before .before .before .before .before .before .before .before .before .before .before .before .measure-type .ensures) (c .before .before .before .before .before .before .before .before .before .before .before .next .given .1) in
+    let w = whole-visited (c .before .before .before .before .before .before .before .before .before .before .before .before .before .before .before .before .before .before .args .words .now) (c .before .before .before .before .before .before .before .before .before .before .before .before .before .before .before .before .before .before .args .pairs .now) (c .before .before .before .before .before .before .before .before .before .before .before .before .before .before .before .before .before .before .args .text .now) (m .reads) (c .before .before .before .before .before .before .before .visit-types .ensures) in
+    visits-done visitsOf (length (c .before .before .before .before .before .before .before .before .before .before .before .before .before .before .before .before .before .before .args .words .now)) (c .before .before .before .before .before .before .before .before .before .before .before .before .before .before .before .before .before .before .args .out .now) (typeAt (c .before .before .before .before .before .before .before .before .before .before .before .before .before .before .before .before .before .before .args .words .now) (c .before .before .before .before .before .before .before .before .before .before .before .before .before .before .before .before .before .before .args .pairs .now) (c .before .before .before .before .before .before .before .before .before .before .before .before .before .before .before .before .before .before .args .text .now) 0) (m .reads) (c .before .before .before .before .before .before .before .before .before .if1 .left) (omega (arith, c .before .before .before .before .if2 .left, w .next)) (whole-visited (c .before .before .before .before .before .before .before .before .before .before .before .before .before .before .before .before .before .before .args .words .now) (c .before .before .before .before .before .before .before .before .before .before .before .before .before .before .before .before .before .before .args .pairs .now) (c .before .before .before .before .before .before .before .before .before .before .before .before .before .before .before .before .before .before .args .text .now) (m .reads) (c .before .before .visit-types2 .ensures))
+
+returns-4 : tie.Need-returns-4
+returns-4 c =
+    visits-stop visitsOf (length (c .before .before .before .before .before .before .before .before .args .words .now)) (c .before .before .before .before .before .before .before .before .args .out .now) (typeAt (c .before .before .before .before .before .before .before .before .args .words .now) (c .before .before .before .before .before .before .before .before .args .pairs .now) (c .before .before .before .before .before .before .before .before .args .text .now) 0) (measured-stop (typeAt (c .before .before .before .before .before .before .before .before .args .words .now) (c .before .before .before .before .before .before .before .before .args .pairs .now) (c .before .before .before .before .before .before .before .before .args .text .now) 0) (c .before .before .before .measure-type .ensures) (c .before .r .given .1))
+
+pub fill-type-spec : {M : Type 1} → statement M
+fill-type-spec =
+    tie.close
+    (tie.spec
+    measure-type-requires
+    enum-known-next
+    returns
+    slice-aggregate-visit-types
+    visit-types-requires
+    returns-2
+    visit-types-requires-2
+    enum-known-r
+    same-length
+    returns-3
+    returns-4)

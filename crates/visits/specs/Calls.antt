@@ -1,0 +1,90 @@
+-- What the visit calls give, and what a pass over accepted types needs and does.
+use Prim.Native.Nat.{ℕ, _≤_}
+use mathlib.Core.Path.{_≡_}
+use mathlib.Core.List.{List, _++_}
+use lib.Dec.{leb}
+use lib.ListN.{length, drop}
+use Rattle.rast.specs.Bytes.{Bytes}
+use Rattle.rast.specs.Tree.{Ty, Tys}
+use Rattle.rast.specs.Declaration.{Declaration}
+use Rattle.output.specs.Wrote.{Wrote}
+use Rattle.encoding.specs.declared.Refusal.the-variants.{BufferTooShort}
+use Rattle.encoding.specs.Refusals.{pick, Answer, given, refused, mapAnswer}
+use Rattle.encoding.specs.Reading.{got, whole}
+use Rattle.encoding.specs.Types.{readTypes, typeAt}
+use Rattle.encoding.specs.Declarations.{declarationAt}
+use Rattle.writing.specs.declared.Spot.{Spot}
+use Rattle.writing.specs.Written.{Readable}
+use Rattle.trees.specs.Places.{place}
+use Rattle.pieces.specs.declared.After.{After}
+use Rattle.pieces.specs.declared.After.the-variants.{FieldList, CaseList, OneType, NoMore}
+use Rattle.pieces.specs.declared.Walk.{Walk}
+use Rattle.pieces.specs.Pieces.{Piece}
+use Rattle.pieces.specs.Walks.{leftAt}
+use Rattle.visits.specs.declared.VisitAnswer.{VisitAnswer}
+use Rattle.visits.specs.declared.VisitAnswer.the-variants.{Count, Refused}
+use Rattle.visits.specs.Visited.{visited, visitedAll, visitedPieces, visitedDeclaration, positions}
+
+-- a list fills the front of the buffer, and the rest is unchanged; a refusal leaves all of it, and 8 comes after every other
+unfoldable pub filled : List ℕ → Answer (List ℕ) → VisitAnswer × List ℕ
+filled o (given b) = pick (leb (length b) (length o)) (Count (length b), b ++ drop (length b) o) (Refused BufferTooShort, o)
+filled o (refused r) = (Refused r, o)
+
+-- the visit list of a type, where the tables are tested already
+abbrev pub visitsOf : Ty Bytes → List ℕ
+visitsOf t = positions (visited (place 0 t))
+
+abbrev pub wholeTypeVisits : List ℕ → List ℕ → Bytes → Answer (List ℕ)
+wholeTypeVisits words pairs text = mapAnswer visitsOf (whole (length words) (typeAt words pairs text 0))
+
+-- `due` types stand at `at`, and no more positions were laid down than words passed
+pub record Due (ws pairs : List ℕ) (text : Bytes) (at due pos : ℕ) : Type 0 where
+  pub few : length ws ≤ 8192
+  pub inside : at ≤ length ws
+  pub counted : pos ≤ at
+  pub there : Readable (readTypes (typeAt ws pairs text) due at)
+
+-- they were read to where the pass has come, and their list laid down as far as the buffer goes
+pub record Visited (ws pairs : List ℕ) (text : Bytes) (at due : ℕ) (o : List ℕ) (pos : ℕ) (o′ : List ℕ) (s : Spot) : Type 0 where
+  pub types : Tys Bytes
+  pub reads : readTypes (typeAt ws pairs text) due at ≡ got types (s .next)
+  pub wrote : Wrote o pos (positions (visitedAll at types)) o′ (s .pos)
+  pub counted : s .pos ≤ s .next
+
+-- ---- declarations
+
+abbrev pub declarationVisitsOf : Declaration Bytes → List ℕ
+declarationVisitsOf d = positions (visitedDeclaration d)
+
+abbrev pub wholeDeclarationVisits : List ℕ → List ℕ → Bytes → Answer (List ℕ)
+wholeDeclarationVisits words pairs text = mapAnswer declarationVisitsOf (whole (length words) (declarationAt words pairs text 0))
+
+-- a walk that ends where the visitor does: a struct's fields are not entered
+abbrev pub enteredAfter : After → After
+enteredAfter FieldList = NoMore
+enteredAfter CaseList = CaseList
+enteredAfter OneType = OneType
+enteredAfter NoMore = NoMore
+
+abbrev pub enteredWalk : Walk → Walk
+enteredWalk w = record { place = w .place; types = w .types; parameters = w .parameters; after = enteredAfter (w .after); kind = w .kind; fields = w .fields; cases = w .cases }
+
+-- what is left to the walk w was accepted
+pub record Ahead (ws pairs : List ℕ) (text : Bytes) (w : Walk) : Type 0 where
+  pub few : length ws ≤ 8192
+  pub inside : w .place ≤ length ws
+  pub there : Readable (leftAt ws pairs text w)
+
+-- its list was laid down
+pub record Entered (ws pairs : List ℕ) (text : Bytes) (w : Walk) (o o′ : List ℕ) (p : ℕ) : Type 0 where
+  pub pieces : List (Piece Bytes)
+  pub end : ℕ
+  pub reads : leftAt ws pairs text w ≡ got pieces end
+  pub wrote : Wrote o 0 (positions (visitedPieces (w .place) pieces)) o′ p
+
+-- the declaration's list was laid down
+pub record AllVisited (ws pairs : List ℕ) (text : Bytes) (o o′ : List ℕ) (p : ℕ) : Type 0 where
+  pub value : Declaration Bytes
+  pub end : ℕ
+  pub reads : declarationAt ws pairs text 0 ≡ got value end
+  pub wrote : Wrote o 0 (declarationVisitsOf value) o′ p

@@ -1,0 +1,223 @@
+// Visit lists: the positions of the types that `Type.Fold` and the visitor of declarations go through, in their order.
+ghost use mathlib.Core.Path.{_≡_};
+ghost use mathlib.Core.List.{[], _∷_};
+ghost use Prim.Native.Nat.{_≤_, _<_, _^_};
+ghost use lib.ListN.{length};
+ghost use Rattle.output.specs.Wrote.{Wrote};
+ghost use Rattle.encoding.specs.Tables.{Good, nameCount};
+ghost use Rattle.encoding.specs.Declarations.{declarationAt};
+ghost use Rattle.writing.specs.Written.{Readable};
+ghost use Rattle.visits.specs.Visited.{typeVisits, declarationVisits};
+ghost use Rattle.visits.specs.Calls.{filled, wholeTypeVisits, Due, Visited, wholeDeclarationVisits, enteredAfter, enteredWalk, Ahead, Entered, AllVisited};
+use encoding::Check;
+use encoding::HeadScan;
+use encoding::Refusal;
+use encoding::Scan;
+use measure::Measure;
+use pieces::After;
+use pieces::Next;
+use pieces::Start;
+use pieces::Walk;
+use writing::Spot;
+
+// The length of the list that fills the front of the buffer, or a refusal: then the buffer is as it was.
+pub enum VisitAnswer {
+    Count(usize),
+    Refused(Refusal),
+}
+
+// A synonym's kind.
+const SYNONYM: u32 = 23;
+
+// One position, if the buffer goes so far. It counts either way.
+fn put_place(place: usize, out: &mut [u32], pos: usize) -> usize
+    requires { ⌜ (place < 2 ^ 32) × (pos < 2 ^ 63) ⌝ }
+    ensures { λ r. ⌜ Wrote (now (out .entry)) pos (place ∷ []) (now (out .exit)) r ⌝ }
+{
+    if pos < out.len() {
+        out[pos] = place as u32;
+        return pos + 1;
+    }
+    pos + 1
+}
+
+// The `due` types at `at`, which were accepted. Each head leaves as many types due as follow it, but for a synonym's base: that is passed over.
+fn visit_types(
+    words: &[u32],
+    pairs: &[u32],
+    text: &[u8],
+    at: usize,
+    due: usize,
+    out: &mut [u32],
+    pos: usize,
+) -> Spot
+    requires { ⌜ Due (now words) (now pairs) (now text) at due pos ⌝ }
+    ensures { λ r. ⌜ Visited (now (words .entry)) (now (pairs .entry)) (now (text .entry)) at due (now (out .entry)) pos (now (out .exit)) r ⌝ }
+{
+    let bound = encoding::name_count(pairs);
+    let mut place = at;
+    let mut left = due;
+    let mut p = pos;
+    while 0 < left {
+        p = put_place(place, out, p);
+        if words[place] == SYNONYM {
+            let shown = visit_types(words, pairs, text, place + 1, 1, out, p);
+            place = writing::skip_type(words, pairs, text, shown.next);
+            left -= 1;
+            p = shown.pos;
+            continue;
+        }
+        let HeadScan::Own { head, next } = encoding::scan_head(words, bound, place) else {
+            return Spot {
+                next: place,
+                pos: p,
+            };
+        };
+        left = left - 1 + encoding::kids_of(head);
+        place = next;
+    }
+    Spot {
+        next: place,
+        pos: p,
+    }
+}
+
+// A type is accepted, and its list counted, before a position is written, since a refusal leaves the buffer unchanged.
+fn fill_type(words: &[u32], pairs: &[u32], text: &[u8], out: &mut [u32]) -> VisitAnswer
+    requires { ⌜ Good (now pairs) (now text) × (length (now words) ≤ 8192) ⌝ }
+    ensures { λ r. ⌜ (r, now (out .exit)) ≡ filled (now (out .entry)) (wholeTypeVisits (now (words .entry)) (now (pairs .entry)) (now (text .entry))) ⌝ }
+{
+    match measure::measure_type(words, pairs, text, 0) {
+        Measure::Measured { next, bytes: _ } => {
+            if next != words.len() {
+                return VisitAnswer::Refused(Refusal::LeftOver);
+            }
+            let mut none = [0u32; 0];
+            let count = visit_types(words, pairs, text, 0, 1, &mut none, 0);
+            if out.len() < count.pos {
+                return VisitAnswer::Refused(Refusal::BufferTooShort);
+            }
+            let end = visit_types(words, pairs, text, 0, 1, out, 0);
+            VisitAnswer::Count(end.pos)
+        }
+        Measure::Stopped(r) => VisitAnswer::Refused(r),
+    }
+}
+
+// The visit list of the type that an encoding holds, in the front of `out`.
+pub fn type_visit(words: &[u32], pairs: &[u32], text: &[u8], out: &mut [u32]) -> VisitAnswer
+    ensures { λ r. ⌜ (r, now (out .exit)) ≡ filled (now (out .entry)) (typeVisits (now (words .entry)) (now (pairs .entry)) (now (text .entry))) ⌝ }
+{
+    match encoding::check_tables(words, pairs, text) {
+        Check::Passed => fill_type(words, pairs, text, out),
+        Check::Failed(r) => VisitAnswer::Refused(r),
+    }
+}
+
+// ---- declarations
+
+// What follows the parameters, as far as the visitor goes.
+fn entered_after(after: After) -> After
+    ensures { λ r. ⌜ r ≡ enteredAfter after ⌝ }
+{
+    match after {
+        After::FieldList => After::NoMore,
+        After::CaseList => After::CaseList,
+        After::OneType => After::OneType,
+        After::NoMore => After::NoMore,
+    }
+}
+
+// The walk that ends where the visitor does.
+fn entered_walk(walk: Walk) -> Walk
+    ensures { λ r. ⌜ r ≡ enteredWalk walk ⌝ }
+{
+    let own = walk.after;
+    let after = entered_after(own);
+    Walk {
+        place: walk.place,
+        types: walk.types,
+        parameters: walk.parameters,
+        after,
+        kind: walk.kind,
+        fields: walk.fields,
+        cases: walk.cases,
+    }
+}
+
+// The types that a walk comes to, which were accepted. The answer is how many positions there are.
+fn visit_walk(
+    words: &[u32],
+    pairs: &[u32],
+    text: &[u8],
+    bound: usize,
+    walk: Walk,
+    out: &mut [u32],
+) -> usize
+    requires { ⌜ (bound ≡ nameCount (now pairs)) × Ahead (now words) (now pairs) (now text) walk ⌝ }
+    ensures { λ r. ⌜ Entered (now (words .entry)) (now (pairs .entry)) (now (text .entry)) walk (now (out .entry)) (now (out .exit)) r ⌝ }
+{
+    let mut w = walk;
+    let mut p = 0;
+    loop {
+        match pieces::next_piece(words, bound, w) {
+            Next::OwnWords(next) => {
+                w = next;
+                continue;
+            }
+            Next::TypeDue(next) => {
+                let spot = visit_types(words, pairs, text, w.place, 1, out, p);
+                w = pieces::move_to(next, spot.next);
+                p = spot.pos;
+            }
+            Next::Ended => {
+                return p;
+            }
+            Next::Halted(_) => {
+                return p;
+            }
+        }
+    }
+}
+
+// The declaration at 0, which was accepted.
+fn visit_declaration(words: &[u32], pairs: &[u32], text: &[u8], out: &mut [u32]) -> usize
+    requires { ⌜ (length (now words) ≤ 8192) × Readable (declarationAt (now words) (now pairs) (now text) 0) ⌝ }
+    ensures { λ r. ⌜ AllVisited (now (words .entry)) (now (pairs .entry)) (now (text .entry)) (now (out .entry)) (now (out .exit)) r ⌝ }
+{
+    let bound = encoding::name_count(pairs);
+    match pieces::start_walk(words, bound, 0) {
+        Start::Begun(walk) => visit_walk(words, pairs, text, bound, entered_walk(walk), out),
+        Start::NotBegun(_) => 0,
+    }
+}
+
+// As `fill_type`.
+fn fill_declaration(words: &[u32], pairs: &[u32], text: &[u8], out: &mut [u32]) -> VisitAnswer
+    requires { ⌜ Good (now pairs) (now text) × (length (now words) ≤ 8192) ⌝ }
+    ensures { λ r. ⌜ (r, now (out .exit)) ≡ filled (now (out .entry)) (wholeDeclarationVisits (now (words .entry)) (now (pairs .entry)) (now (text .entry))) ⌝ }
+{
+    match pieces::accept_declaration(words, pairs, text) {
+        Scan::At(end) => {
+            if end != words.len() {
+                return VisitAnswer::Refused(Refusal::LeftOver);
+            }
+            let mut none = [0u32; 0];
+            if out.len() < visit_declaration(words, pairs, text, &mut none) {
+                return VisitAnswer::Refused(Refusal::BufferTooShort);
+            }
+            VisitAnswer::Count(visit_declaration(words, pairs, text, out))
+        }
+        Scan::Refused(r) => VisitAnswer::Refused(r),
+    }
+}
+
+// The visit list of the declaration that an encoding holds, in the front of `out`.
+pub fn declaration_visit(words: &[u32], pairs: &[u32], text: &[u8], out: &mut [u32]) -> VisitAnswer
+    ensures { λ r. ⌜ (r, now (out .exit)) ≡ filled (now (out .entry)) (declarationVisits (now (words .entry)) (now (pairs .entry)) (now (text .entry))) ⌝ }
+{
+    match encoding::check_tables(words, pairs, text) {
+        Check::Passed => fill_declaration(words, pairs, text, out),
+        Check::Failed(r) => VisitAnswer::Refused(r),
+    }
+}
