@@ -1,7 +1,7 @@
 // The exported calls, for C and Rust. Each calls one proved function and turns its answer into a number.
 ghost use mathlib.Core.Path.{_≡_};
 ghost use Rattle.text.specs.Calls.{filled, typeText, pathText};
-ghost use Rattle.declaration.specs.Calls.{declarationText};
+ghost use Rattle.declaration_call.specs.Calls.{declarationText};
 ghost use Rattle.soundness.specs.Calls.{typeIsSound};
 ghost use Rattle.encoding.specs.Refusals.{mapAnswer};
 ghost use Rattle.encoding.specs.Types.{typeOf};
@@ -13,79 +13,7 @@ ghost use Rattle.parts.specs.Answers.{partOf};
 ghost use Rattle.initialization.specs.Initialized.{typeInitialized};
 ghost use Rattle.visits.specs.Visited.{typeVisits, declarationVisits};
 ghost use Rattle.visits.specs.Calls.{filled as listed};
-ghost use Rattle.capi.specs.Numbers.{refusedNumber, textNumber, textCall, soundNumber, soundCall, rebuildNumber, rebuildCall, shapeNumber, shapeCall, partNumber, partCall, visitNumber, visitCall, Small};
-use encoding::Refusal;
-use parts::PartAnswer;
-use rebuild::RebuildAnswer;
-use shapes::ShapeAnswer;
-use soundness::SoundAnswer;
-use text::TextAnswer;
-use visits::VisitAnswer;
-
-// 2^63 and the refusal's number.
-fn refused(r: Refusal) -> u64
-    ensures { λ n. ⌜ n ≡ refusedNumber r ⌝ }
-{
-    9223372036854775808 + encoding::refusal_number(r) as u64
-}
-
-fn text_number(answer: TextAnswer) -> u64
-    ensures { λ n. ⌜ n ≡ textNumber answer ⌝ }
-{
-    match answer {
-        TextAnswer::Length(n) => n as u64,
-        TextAnswer::Refused(r) => refused(r),
-    }
-}
-
-fn sound_number(answer: SoundAnswer) -> u64
-    ensures { λ n. ⌜ n ≡ soundNumber answer ⌝ }
-{
-    match answer {
-        SoundAnswer::Sound => 1,
-        SoundAnswer::Unsound => 0,
-        SoundAnswer::Refused(r) => refused(r),
-    }
-}
-
-fn rebuild_number(answer: RebuildAnswer) -> u64
-    ensures { λ n. ⌜ n ≡ rebuildNumber answer ⌝ }
-{
-    match answer {
-        RebuildAnswer::Length(n) => n as u64,
-        RebuildAnswer::Refused(r) => refused(r),
-    }
-}
-
-fn visit_number(answer: VisitAnswer) -> u64
-    ensures { λ n. ⌜ n ≡ visitNumber answer ⌝ }
-{
-    match answer {
-        VisitAnswer::Count(n) => n as u64,
-        VisitAnswer::Refused(r) => refused(r),
-    }
-}
-
-fn shape_number(answer: ShapeAnswer) -> u64
-    ensures { λ n. ⌜ n ≡ shapeNumber answer ⌝ }
-{
-    match answer {
-        ShapeAnswer::Yes => 1,
-        ShapeAnswer::No => 0,
-        ShapeAnswer::Refused(r) => refused(r),
-    }
-}
-
-// A part lies within 8192 words, so its start and its length fit in one number.
-fn part_number(answer: PartAnswer) -> u64
-    requires { ⌜ Small answer ⌝ }
-    ensures { λ n. ⌜ n ≡ partNumber answer ⌝ }
-{
-    match answer {
-        PartAnswer::Part { start, length } => start as u64 * 65536 + length as u64,
-        PartAnswer::Refused(r) => refused(r),
-    }
-}
+ghost use Rattle.answer_numbers.specs.Numbers.{textCall, soundCall, rebuildCall, visitCall, shapeCall, partCall};
 
 // ---- texts and soundness
 
@@ -99,7 +27,7 @@ pub extern "C" fn tillercoral_type_text(
 ) -> u64
     ensures { λ n. ⌜ (n, now (out .exit)) ≡ textCall (filled (now (out .entry)) (typeText (now (words .entry)) (now (pairs .entry)) (now (text .entry)) level)) ⌝ }
 {
-    text_number(text::type_text(words, pairs, text, level, out))
+    answer_numbers::text_number(text::type_text(words, pairs, text, level, out))
 }
 
 #[no_mangle]
@@ -112,7 +40,7 @@ pub extern "C" fn tillercoral_path_text(
 ) -> u64
     ensures { λ n. ⌜ (n, now (out .exit)) ≡ textCall (filled (now (out .entry)) (pathText (now (words .entry)) (now (pairs .entry)) (now (text .entry)) level)) ⌝ }
 {
-    text_number(text::path_text(words, pairs, text, level, out))
+    answer_numbers::text_number(text::path_text(words, pairs, text, level, out))
 }
 
 #[no_mangle]
@@ -125,14 +53,14 @@ pub extern "C" fn tillercoral_declaration_text(
 ) -> u64
     ensures { λ n. ⌜ (n, now (out .exit)) ≡ textCall (filled (now (out .entry)) (declarationText (now (words .entry)) (now (pairs .entry)) (now (text .entry)) level)) ⌝ }
 {
-    text_number(declaration::declaration_text(words, pairs, text, level, out))
+    answer_numbers::text_number(declaration_call::declaration_text(words, pairs, text, level, out))
 }
 
 #[no_mangle]
 pub extern "C" fn tillercoral_type_is_sound(words: &[u32], pairs: &[u32], text: &[u8]) -> u64
     ensures { λ n. ⌜ n ≡ soundCall (typeIsSound (now (words .entry)) (now (pairs .entry)) (now (text .entry))) ⌝ }
 {
-    sound_number(soundness::type_is_sound(words, pairs, text))
+    answer_numbers::sound_number(soundness::type_is_sound(words, pairs, text))
 }
 
 // ---- rebuilt trees
@@ -147,7 +75,7 @@ pub extern "C" fn tillercoral_type_rebuild(
 ) -> u64
     ensures { λ n. ⌜ (n, now (out .exit)) ≡ rebuildCall (laidDown (now (out .entry)) (typeRebuilt (now (words .entry)) (now (pairs .entry)) (now (text .entry)) (now (rules .entry)))) ⌝ }
 {
-    rebuild_number(replacement::type_rebuild(words, pairs, text, rules, out))
+    answer_numbers::rebuild_number(replacement::type_rebuild(words, pairs, text, rules, out))
 }
 
 #[no_mangle]
@@ -160,7 +88,7 @@ pub extern "C" fn tillercoral_declaration_rebuild(
 ) -> u64
     ensures { λ n. ⌜ (n, now (out .exit)) ≡ rebuildCall (laidDown (now (out .entry)) (declarationRebuilt (now (words .entry)) (now (pairs .entry)) (now (text .entry)) (now (rules .entry)))) ⌝ }
 {
-    rebuild_number(replacement::declaration_rebuild(words, pairs, text, rules, out))
+    answer_numbers::rebuild_number(replacement::declaration_rebuild(words, pairs, text, rules, out))
 }
 
 #[no_mangle]
@@ -172,7 +100,7 @@ pub extern "C" fn tillercoral_type_at_initialization(
 ) -> u64
     ensures { λ n. ⌜ (n, now (out .exit)) ≡ rebuildCall (laidDown (now (out .entry)) (typeInitialized (now (words .entry)) (now (pairs .entry)) (now (text .entry)))) ⌝ }
 {
-    rebuild_number(initialization::type_at_initialization(words, pairs, text, out))
+    answer_numbers::rebuild_number(initialization::type_at_initialization(words, pairs, text, out))
 }
 
 // ---- visit lists
@@ -186,7 +114,7 @@ pub extern "C" fn tillercoral_type_visit(
 ) -> u64
     ensures { λ n. ⌜ (n, now (out .exit)) ≡ visitCall (listed (now (out .entry)) (typeVisits (now (words .entry)) (now (pairs .entry)) (now (text .entry)))) ⌝ }
 {
-    visit_number(visits::type_visit(words, pairs, text, out))
+    answer_numbers::visit_number(visits::type_visit(words, pairs, text, out))
 }
 
 #[no_mangle]
@@ -198,7 +126,7 @@ pub extern "C" fn tillercoral_declaration_visit(
 ) -> u64
     ensures { λ n. ⌜ (n, now (out .exit)) ≡ visitCall (listed (now (out .entry)) (declarationVisits (now (words .entry)) (now (pairs .entry)) (now (text .entry)))) ⌝ }
 {
-    visit_number(visits::declaration_visit(words, pairs, text, out))
+    answer_numbers::visit_number(visits::declaration_visit(words, pairs, text, out))
 }
 
 // ---- shapes
@@ -211,14 +139,18 @@ pub extern "C" fn tillercoral_ends_with_name_that_can_accept_generics(
 ) -> u64
     ensures { λ n. ⌜ n ≡ shapeCall (mapAnswer EndsWithNameThatCanAcceptGenerics (typeOf (now (words .entry)) (now (pairs .entry)) (now (text .entry)))) ⌝ }
 {
-    shape_number(shapes::ends_with_name_that_can_accept_generics(words, pairs, text))
+    answer_numbers::shape_number(shapes::ends_with_name_that_can_accept_generics(
+        words,
+        pairs,
+        text,
+    ))
 }
 
 #[no_mangle]
 pub extern "C" fn tillercoral_is_auto_size(words: &[u32], pairs: &[u32], text: &[u8]) -> u64
     ensures { λ n. ⌜ n ≡ shapeCall (mapAnswer IsAutoSize (typeOf (now (words .entry)) (now (pairs .entry)) (now (text .entry)))) ⌝ }
 {
-    shape_number(shapes::is_auto_size(words, pairs, text))
+    answer_numbers::shape_number(shapes::is_auto_size(words, pairs, text))
 }
 
 #[no_mangle]
@@ -229,42 +161,42 @@ pub extern "C" fn tillercoral_can_read_without_clone(
 ) -> u64
     ensures { λ n. ⌜ n ≡ shapeCall (mapAnswer CanReadWithoutClone (typeOf (now (words .entry)) (now (pairs .entry)) (now (text .entry)))) ⌝ }
 {
-    shape_number(shapes::can_read_without_clone(words, pairs, text))
+    answer_numbers::shape_number(shapes::can_read_without_clone(words, pairs, text))
 }
 
 #[no_mangle]
 pub extern "C" fn tillercoral_is_rc_or_borrowed_rc(words: &[u32], pairs: &[u32], text: &[u8]) -> u64
     ensures { λ n. ⌜ n ≡ shapeCall (mapAnswer IsRcOrBorrowedRc (typeOf (now (words .entry)) (now (pairs .entry)) (now (text .entry)))) ⌝ }
 {
-    shape_number(shapes::is_rc_or_borrowed_rc(words, pairs, text))
+    answer_numbers::shape_number(shapes::is_rc_or_borrowed_rc(words, pairs, text))
 }
 
 #[no_mangle]
 pub extern "C" fn tillercoral_is_multi_array(words: &[u32], pairs: &[u32], text: &[u8]) -> u64
     ensures { λ n. ⌜ n ≡ shapeCall (mapAnswer IsMultiArray (typeOf (now (words .entry)) (now (pairs .entry)) (now (text .entry)))) ⌝ }
 {
-    shape_number(shapes::is_multi_array(words, pairs, text))
+    answer_numbers::shape_number(shapes::is_multi_array(words, pairs, text))
 }
 
 #[no_mangle]
 pub extern "C" fn tillercoral_is_maybe_uninit(words: &[u32], pairs: &[u32], text: &[u8]) -> u64
     ensures { λ n. ⌜ n ≡ shapeCall (mapAnswer IsMaybeUninit (typeOf (now (words .entry)) (now (pairs .entry)) (now (text .entry)))) ⌝ }
 {
-    shape_number(shapes::is_maybe_uninit(words, pairs, text))
+    answer_numbers::shape_number(shapes::is_maybe_uninit(words, pairs, text))
 }
 
 #[no_mangle]
 pub extern "C" fn tillercoral_is_uninit_array(words: &[u32], pairs: &[u32], text: &[u8]) -> u64
     ensures { λ n. ⌜ n ≡ shapeCall (mapAnswer IsUninitArray (typeOf (now (words .entry)) (now (pairs .entry)) (now (text .entry)))) ⌝ }
 {
-    shape_number(shapes::is_uninit_array(words, pairs, text))
+    answer_numbers::shape_number(shapes::is_uninit_array(words, pairs, text))
 }
 
 #[no_mangle]
 pub extern "C" fn tillercoral_is_box(words: &[u32], pairs: &[u32], text: &[u8]) -> u64
     ensures { λ n. ⌜ n ≡ shapeCall (mapAnswer IsBox (typeOf (now (words .entry)) (now (pairs .entry)) (now (text .entry)))) ⌝ }
 {
-    shape_number(shapes::is_box(words, pairs, text))
+    answer_numbers::shape_number(shapes::is_box(words, pairs, text))
 }
 
 #[no_mangle]
@@ -275,28 +207,28 @@ pub extern "C" fn tillercoral_needs_as_ref_for_borrow(
 ) -> u64
     ensures { λ n. ⌜ n ≡ shapeCall (mapAnswer NeedsAsRefForBorrow (typeOf (now (words .entry)) (now (pairs .entry)) (now (text .entry)))) ⌝ }
 {
-    shape_number(shapes::needs_as_ref_for_borrow(words, pairs, text))
+    answer_numbers::shape_number(shapes::needs_as_ref_for_borrow(words, pairs, text))
 }
 
 #[no_mangle]
 pub extern "C" fn tillercoral_is_object(words: &[u32], pairs: &[u32], text: &[u8]) -> u64
     ensures { λ n. ⌜ n ≡ shapeCall (mapAnswer IsObject (typeOf (now (words .entry)) (now (pairs .entry)) (now (text .entry)))) ⌝ }
 {
-    shape_number(shapes::is_object(words, pairs, text))
+    answer_numbers::shape_number(shapes::is_object(words, pairs, text))
 }
 
 #[no_mangle]
 pub extern "C" fn tillercoral_is_pointer(words: &[u32], pairs: &[u32], text: &[u8]) -> u64
     ensures { λ n. ⌜ n ≡ shapeCall (mapAnswer IsPointer (typeOf (now (words .entry)) (now (pairs .entry)) (now (text .entry)))) ⌝ }
 {
-    shape_number(shapes::is_pointer(words, pairs, text))
+    answer_numbers::shape_number(shapes::is_pointer(words, pairs, text))
 }
 
 #[no_mangle]
 pub extern "C" fn tillercoral_is_object_or_pointer(words: &[u32], pairs: &[u32], text: &[u8]) -> u64
     ensures { λ n. ⌜ n ≡ shapeCall (mapAnswer IsObjectOrPointer (typeOf (now (words .entry)) (now (pairs .entry)) (now (text .entry)))) ⌝ }
 {
-    shape_number(shapes::is_object_or_pointer(words, pairs, text))
+    answer_numbers::shape_number(shapes::is_object_or_pointer(words, pairs, text))
 }
 
 #[no_mangle]
@@ -307,21 +239,21 @@ pub extern "C" fn tillercoral_is_builtin_collection(
 ) -> u64
     ensures { λ n. ⌜ n ≡ shapeCall (mapAnswer IsBuiltinCollection (typeOf (now (words .entry)) (now (pairs .entry)) (now (text .entry)))) ⌝ }
 {
-    shape_number(shapes::is_builtin_collection(words, pairs, text))
+    answer_numbers::shape_number(shapes::is_builtin_collection(words, pairs, text))
 }
 
 #[no_mangle]
 pub extern "C" fn tillercoral_is_rc(words: &[u32], pairs: &[u32], text: &[u8]) -> u64
     ensures { λ n. ⌜ n ≡ shapeCall (mapAnswer IsRc (typeOf (now (words .entry)) (now (pairs .entry)) (now (text .entry)))) ⌝ }
 {
-    shape_number(shapes::is_rc(words, pairs, text))
+    answer_numbers::shape_number(shapes::is_rc(words, pairs, text))
 }
 
 #[no_mangle]
 pub extern "C" fn tillercoral_is_box_dyn(words: &[u32], pairs: &[u32], text: &[u8]) -> u64
     ensures { λ n. ⌜ n ≡ shapeCall (mapAnswer IsBoxDyn (typeOf (now (words .entry)) (now (pairs .entry)) (now (text .entry)))) ⌝ }
 {
-    shape_number(shapes::is_box_dyn(words, pairs, text))
+    answer_numbers::shape_number(shapes::is_box_dyn(words, pairs, text))
 }
 
 // ---- parts
@@ -330,21 +262,21 @@ pub extern "C" fn tillercoral_is_box_dyn(words: &[u32], pairs: &[u32], text: &[u
 pub extern "C" fn tillercoral_remove_synonyms(words: &[u32], pairs: &[u32], text: &[u8]) -> u64
     ensures { λ n. ⌜ n ≡ partCall (partOf RemoveSynonyms (now (words .entry)) (now (pairs .entry)) (now (text .entry))) ⌝ }
 {
-    part_number(parts::remove_synonyms_at(words, pairs, text))
+    answer_numbers::part_number(parts::remove_synonyms_at(words, pairs, text))
 }
 
 #[no_mangle]
 pub extern "C" fn tillercoral_expand(words: &[u32], pairs: &[u32], text: &[u8]) -> u64
     ensures { λ n. ⌜ n ≡ partCall (partOf ExpandAt (now (words .entry)) (now (pairs .entry)) (now (text .entry))) ⌝ }
 {
-    part_number(parts::expand_at(words, pairs, text))
+    answer_numbers::part_number(parts::expand_at(words, pairs, text))
 }
 
 #[no_mangle]
 pub extern "C" fn tillercoral_to_owned(words: &[u32], pairs: &[u32], text: &[u8]) -> u64
     ensures { λ n. ⌜ n ≡ partCall (partOf ToOwned (now (words .entry)) (now (pairs .entry)) (now (text .entry))) ⌝ }
 {
-    part_number(parts::to_owned_at(words, pairs, text))
+    answer_numbers::part_number(parts::to_owned_at(words, pairs, text))
 }
 
 #[no_mangle]
@@ -355,14 +287,14 @@ pub extern "C" fn tillercoral_multi_array_underlying(
 ) -> u64
     ensures { λ n. ⌜ n ≡ partCall (partOf MultiArrayUnderlying (now (words .entry)) (now (pairs .entry)) (now (text .entry))) ⌝ }
 {
-    part_number(parts::multi_array_underlying_at(words, pairs, text))
+    answer_numbers::part_number(parts::multi_array_underlying_at(words, pairs, text))
 }
 
 #[no_mangle]
 pub extern "C" fn tillercoral_box_underlying(words: &[u32], pairs: &[u32], text: &[u8]) -> u64
     ensures { λ n. ⌜ n ≡ partCall (partOf BoxUnderlying (now (words .entry)) (now (pairs .entry)) (now (text .entry))) ⌝ }
 {
-    part_number(parts::box_underlying_at(words, pairs, text))
+    answer_numbers::part_number(parts::box_underlying_at(words, pairs, text))
 }
 
 #[no_mangle]
@@ -373,21 +305,21 @@ pub extern "C" fn tillercoral_object_or_pointer_underlying(
 ) -> u64
     ensures { λ n. ⌜ n ≡ partCall (partOf ObjectOrPointerUnderlying (now (words .entry)) (now (pairs .entry)) (now (text .entry))) ⌝ }
 {
-    part_number(parts::object_or_pointer_underlying_at(words, pairs, text))
+    answer_numbers::part_number(parts::object_or_pointer_underlying_at(words, pairs, text))
 }
 
 #[no_mangle]
 pub extern "C" fn tillercoral_rc_underlying(words: &[u32], pairs: &[u32], text: &[u8]) -> u64
     ensures { λ n. ⌜ n ≡ partCall (partOf RcUnderlying (now (words .entry)) (now (pairs .entry)) (now (text .entry))) ⌝ }
 {
-    part_number(parts::rc_underlying_at(words, pairs, text))
+    answer_numbers::part_number(parts::rc_underlying_at(words, pairs, text))
 }
 
 #[no_mangle]
 pub extern "C" fn tillercoral_box_dyn_underlying(words: &[u32], pairs: &[u32], text: &[u8]) -> u64
     ensures { λ n. ⌜ n ≡ partCall (partOf BoxDynUnderlying (now (words .entry)) (now (pairs .entry)) (now (text .entry))) ⌝ }
 {
-    part_number(parts::box_dyn_underlying_at(words, pairs, text))
+    answer_numbers::part_number(parts::box_dyn_underlying_at(words, pairs, text))
 }
 
 #[no_mangle]
@@ -398,7 +330,7 @@ pub extern "C" fn tillercoral_get_builtin_collection_element(
 ) -> u64
     ensures { λ n. ⌜ n ≡ partCall (partOf GetBuiltinCollectionElement (now (words .entry)) (now (pairs .entry)) (now (text .entry))) ⌝ }
 {
-    part_number(parts::get_builtin_collection_element_at(words, pairs, text))
+    answer_numbers::part_number(parts::get_builtin_collection_element_at(words, pairs, text))
 }
 
 #[no_mangle]
@@ -409,7 +341,7 @@ pub extern "C" fn tillercoral_extract_maybe_placebo(
 ) -> u64
     ensures { λ n. ⌜ n ≡ partCall (partOf ExtractMaybePlacebo (now (words .entry)) (now (pairs .entry)) (now (text .entry))) ⌝ }
 {
-    part_number(parts::extract_maybe_placebo_at(words, pairs, text))
+    answer_numbers::part_number(parts::extract_maybe_placebo_at(words, pairs, text))
 }
 
 #[no_mangle]
@@ -420,5 +352,5 @@ pub extern "C" fn tillercoral_extract_maybe_uninit_array_element(
 ) -> u64
     ensures { λ n. ⌜ n ≡ partCall (partOf ExtractMaybeUninitArrayElement (now (words .entry)) (now (pairs .entry)) (now (text .entry))) ⌝ }
 {
-    part_number(parts::extract_maybe_uninit_array_element_at(words, pairs, text))
+    answer_numbers::part_number(parts::extract_maybe_uninit_array_element_at(words, pairs, text))
 }

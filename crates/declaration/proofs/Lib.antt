@@ -1,3 +1,2 @@
--- Laws of declarations: their texts from those of their parts, and the answer from the passes.
+-- Laws of declarations: their texts from those of their parts.
 pub mod Declarations
-pub mod Filling

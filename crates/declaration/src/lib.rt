@@ -1,20 +1,11 @@
-// The text of a declaration, at a level, into a lent buffer.
-//
-// A pass over the words reads a declaration and lays its text: it writes the bytes, or only counts them. The call counts first, which
-// accepts or refuses the declaration, and then writes.
-ghost use mathlib.Core.Path.{_≡_};
-ghost use mathlib.Core.Bool.{true, false};
+// A pass over the words of a declaration that lays its text, at a level: it writes the bytes, or only counts them.
 ghost use Prim.Native.Nat.{_+_, _^_, _<_};
 ghost use Rattle.output.specs.Laid.{Laid, Fits};
-ghost use Rattle.text.specs.Calls.{filled};
 ghost use Rattle.laying.specs.Passes.{Checked, Ready, Went};
 ghost use Rattle.declaration.specs.Texts.{keywordText, tupleFieldsAt, structFieldsAt, titleAt, frontAt, structAt, caseFieldsAt, caseAt, caseLineAt, casesAt, variantsAt, enumBody, enumAt, synonymBody, synonymAt, useAt, afterAt, declarationTextAt};
-ghost use Rattle.declaration.specs.Calls.{declarationText, tableDeclarationText, wholeDeclarationText};
-use encoding::Check;
 use encoding::Refusal;
 use encoding::WordScan;
 use laying::Place;
-use text::TextAnswer;
 
 // The heads of declarations.
 const STRUCT: u32 = 25;
@@ -425,7 +416,7 @@ fn lay_after(
 }
 
 // The declaration at `at`.
-fn lay_declaration(
+pub fn lay_declaration(
     write: bool,
     words: &[u32],
     pairs: &[u32],
@@ -451,57 +442,5 @@ fn lay_declaration(
             pos,
         ),
         WordScan::NoWord(r) => Place::Stopped(r),
-    }
-}
-
-// A declaration is accepted and its text counted before a byte is written, since a refusal leaves the buffer unchanged.
-fn fill(words: &[u32], pairs: &[u32], text: &[u8], level: u32, out: &mut [u8]) -> TextAnswer
-    requires { ⌜ Checked (now words) (now pairs) (now text) × (level < 2 ^ 30) ⌝ }
-    ensures { λ r. ⌜ (r, now (out .exit)) ≡ filled (now (out .entry)) (wholeDeclarationText (now (words .entry)) (now (pairs .entry)) (now (text .entry)) level) ⌝ }
-{
-    match lay_declaration(false, words, pairs, text, level, 0, out, 0) {
-        Place::At { next, pos: bytes } => {
-            if next != words.len() {
-                return TextAnswer::Refused(Refusal::LeftOver);
-            }
-            if out.len() < bytes {
-                return TextAnswer::Refused(Refusal::BufferTooShort);
-            }
-            lay_declaration(true, words, pairs, text, level, 0, out, 0);
-            TextAnswer::Length(bytes)
-        }
-        Place::Stopped(r) => TextAnswer::Refused(r),
-    }
-}
-
-fn check_and_fill(
-    words: &[u32],
-    pairs: &[u32],
-    text: &[u8],
-    level: u32,
-    out: &mut [u8],
-) -> TextAnswer
-    requires { ⌜ level < 2 ^ 30 ⌝ }
-    ensures { λ r. ⌜ (r, now (out .exit)) ≡ filled (now (out .entry)) (tableDeclarationText (now (words .entry)) (now (pairs .entry)) (now (text .entry)) level) ⌝ }
-{
-    match encoding::check_tables(words, pairs, text) {
-        Check::Passed => fill(words, pairs, text, level, out),
-        Check::Failed(r) => TextAnswer::Refused(r),
-    }
-}
-
-// The text of the declaration that an encoding holds, in the front of `out`.
-pub fn declaration_text(
-    words: &[u32],
-    pairs: &[u32],
-    text: &[u8],
-    level: u32,
-    out: &mut [u8],
-) -> TextAnswer
-    ensures { λ r. ⌜ (r, now (out .exit)) ≡ filled (now (out .entry)) (declarationText (now (words .entry)) (now (pairs .entry)) (now (text .entry)) level) ⌝ }
-{
-    match encoding::check_level(level) {
-        Check::Passed => check_and_fill(words, pairs, text, level, out),
-        Check::Failed(r) => TextAnswer::Refused(r),
     }
 }

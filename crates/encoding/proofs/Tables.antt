@@ -1,5 +1,5 @@
 -- Laws of the tables: pairs and names.
-use Prim.Native.Nat.{ℕ, zero, suc, _+_, _-_, _*_, _/_, _≤_, _<_}
+use Prim.Native.Nat.{ℕ, zero, suc, _+_, _-_, _*_, _/_, _%_, _≤_, _<_}
 use mathlib.Core.Path.{_≡_, refl}
 use mathlib.Core.Bool.{Bool, true, false}
 use mathlib.Core.List.{List, [], _∷_}
@@ -90,11 +90,16 @@ pub pairs-end : (l : List ℕ) (i end size : ℕ) → length l ≤ i → goodPai
 unfolding goodPairs
 pairs-end l i end size h = rw (drop-of-length-le l h)
 
-pub pairs-half : (l : List ℕ) (i end size : ℕ) → i < length l → length l ≤ i + 1 → goodPairs (drop i l) end size ≡ false
-unfolding goodPairs
-pairs-half l i end size h k =
-    let k′ : length l ≤ suc i = omega arith in
-    rw (drop-cons l i 0 h, drop-of-length-le l k′)
+-- half a pair ends the table
+pub pairs-odd : (l : List ℕ) (end size : ℕ) → (length l % 2 ≡ 0 → ⊥) → goodPairs l end size ≡ false
+unfolding goodPairs _and_
+pairs-odd [] end size h = absurd (h refl)
+pairs-odd (x ∷ []) end size h = refl
+pairs-odd (x ∷ y ∷ l) end size h = rw (pairs-odd l (x + y) size (λ e. h (omega (arith, e)))) (and-false (leb end x and leb (x + y) size))
+  where
+    and-false : (b : Bool) → (b and false) ≡ false
+    and-false true = refl
+    and-false false = refl
 
 pairs-more : (l : List ℕ) (i end size : ℕ) → i + 1 < length l
     → goodPairs (drop i l) end size

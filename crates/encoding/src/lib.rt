@@ -64,12 +64,12 @@ pub fn check_level(level: u32) -> Check
 fn pairs_hold(pairs: &[u32], size: usize) -> bool
     ensures { λ r. ⌜ r ≡ goodPairs (now (pairs .entry)) 0 size ⌝ }
 {
+    if pairs.len() % 2 != 0 {
+        return false;
+    }
     let mut i = 0;
     let mut end: usize = 0;
     while i < pairs.len() {
-        if pairs.len() - i < 2 {
-            return false;
-        }
         let start = pairs[i] as usize;
         let count = pairs[i + 1] as usize;
         if start < end {

@@ -16,7 +16,7 @@ use Rattle.numbers.specs.Numbers.{numberAt, numbersAt}
 use Rattle.numbers.proofs.Fronts.{front-back}
 use Rattle.text.specs.declared.TextAnswer.the-variants.{Refused}
 use Rattle.text.specs.Calls.{filled}
-use Rattle.declaration.specs.Calls.{declarationText}
+use Rattle.declaration_call.specs.Calls.{declarationText}
 use Rattle.file.specs.File.{encodedText, describedText, fileText, printed, printedFile}
 
 -- ---- what is lent to the call

@@ -36,7 +36,7 @@ fn encoded_text(file: &[u8], pairs: usize, words: usize, size: usize, out: &mut 
     numbers::read_numbers(file, HEADER_BYTES, &mut pair_array[..pair_numbers]);
     numbers::read_numbers(file, words_at, &mut word_array[..words]);
     output::put_part(file, text_at, size, &mut text_array[..size], 0);
-    declaration::declaration_text(
+    declaration_call::declaration_text(
         &word_array[..words],
         &pair_array[..pair_numbers],
         &text_array[..size],

@@ -55,7 +55,7 @@ fn lay_known_path(
     ensures { λ r. ⌜ Laid write (now (out .entry)) pos (Path·ToString (pathOf (now (words .entry)) (nameBytes (now (pairs .entry)) (now (text .entry))) path)) (now (out .exit)) r ⌝ }
 {
     if write {
-        return writing::put_path(words, pairs, text, path, out, pos);
+        return leaves::put_path(words, pairs, text, path, out, pos);
     }
     output::count_on(pos, measure::path_length(words, pairs, text, path))
 }

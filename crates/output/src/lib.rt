@@ -1,6 +1,6 @@
 // Writing bytes into a lent buffer that is known to have room for them, or only counting them.
 ghost use mathlib.Core.Path.{_≡_};
-ghost use Prim.Native.Nat.{_≤_, _+_};
+ghost use Prim.Native.Nat.{_+_, _≤_, _<_};
 ghost use lib.ListN.{take, drop, length};
 ghost use lib.Seq.{sets};
 ghost use Rattle.output.specs.Wrote.{Wrote};
@@ -9,16 +9,86 @@ ghost use Rattle.output.specs.Laid.{clamp, Laid, Fits, spaces};
 // A count that reaches this, which no buffer's length does, stays there.
 const LIMIT: usize = 9223372036854775808;
 
-// `count` bytes of `bytes` from `start` on, written from `pos` on: a loop that compiles to wide moves. The answer is the position behind them.
-pub fn put_part(bytes: &[u8], start: usize, count: usize, out: &mut [u8], pos: usize) -> usize
+// The most bytes that are copied through a chunk: all that a name can have.
+const CHUNK: usize = 16384;
+
+// `count` bytes of `bytes` from `start` on, copied to `pos` in `out` one by one.
+fn copy(bytes: &[u8], start: usize, count: usize, out: &mut [u8], pos: usize)
     requires { ⌜ (start + count ≤ length (now bytes)) × (pos + count ≤ length (now out)) ⌝ }
-    ensures { λ r. ⌜ Wrote (now (out .entry)) pos (take count (drop start (now (bytes .entry)))) (now (out .exit)) r ⌝ }
+    ensures { λ _. ⌜ now (out .exit) ≡ sets (now (out .entry)) pos (take count (drop start (now (bytes .entry)))) ⌝ }
 {
     let mut i = 0;
     while i < count {
         out[pos + i] = bytes[start + i];
         i += 1;
     }
+}
+
+// The same. What is read before anything is written compiles to one move, for which no chunk is laid out.
+fn copy_chunk(bytes: &[u8], start: usize, count: usize, out: &mut [u8], pos: usize)
+    requires { ⌜ (count ≤ 16384) × (start + count ≤ length (now bytes)) × (pos + count ≤ length (now out)) ⌝ }
+    ensures { λ _. ⌜ now (out .exit) ≡ sets (now (out .entry)) pos (take count (drop start (now (bytes .entry)))) ⌝ }
+{
+    let mut chunk = [0u8; CHUNK];
+    copy(bytes, start, count, &mut chunk, 0);
+    copy(&chunk, 0, count, out, pos);
+}
+
+// The same, as the first `half` bytes and the last `half`, which may overlap: two moves whatever the count.
+fn copy_ends(bytes: &[u8], start: usize, half: usize, count: usize, out: &mut [u8], pos: usize)
+    requires { ⌜ (half ≤ 16384) × (half ≤ count) × (count ≤ half + half) × (start + count ≤ length (now bytes)) × (pos + count ≤ length (now out)) ⌝ }
+    ensures { λ _. ⌜ now (out .exit) ≡ sets (now (out .entry)) pos (take count (drop start (now (bytes .entry)))) ⌝ }
+{
+    copy_chunk(bytes, start, half, out, pos);
+    copy_chunk(
+        bytes,
+        start + (count - half),
+        half,
+        out,
+        pos + (count - half),
+    );
+}
+
+// The same, for fewer than eight bytes.
+fn copy_few(bytes: &[u8], start: usize, count: usize, out: &mut [u8], pos: usize)
+    requires { ⌜ (count < 8) × (start + count ≤ length (now bytes)) × (pos + count ≤ length (now out)) ⌝ }
+    ensures { λ _. ⌜ now (out .exit) ≡ sets (now (out .entry)) pos (take count (drop start (now (bytes .entry)))) ⌝ }
+{
+    if 4 <= count {
+        return copy_ends(bytes, start, 4, count, out, pos);
+    }
+    if 2 <= count {
+        return copy_ends(bytes, start, 2, count, out, pos);
+    }
+    copy(bytes, start, count, out, pos)
+}
+
+// The same, for any count: names are short, and a call of a loop or of a move costs more than they do.
+fn copy_any(bytes: &[u8], start: usize, count: usize, out: &mut [u8], pos: usize)
+    requires { ⌜ (start + count ≤ length (now bytes)) × (pos + count ≤ length (now out)) ⌝ }
+    ensures { λ _. ⌜ now (out .exit) ≡ sets (now (out .entry)) pos (take count (drop start (now (bytes .entry)))) ⌝ }
+{
+    if count < 8 {
+        return copy_few(bytes, start, count, out, pos);
+    }
+    if count <= 16 {
+        return copy_ends(bytes, start, 8, count, out, pos);
+    }
+    if count <= 32 {
+        return copy_ends(bytes, start, 16, count, out, pos);
+    }
+    if count <= CHUNK {
+        return copy_chunk(bytes, start, count, out, pos);
+    }
+    copy(bytes, start, count, out, pos)
+}
+
+// `count` bytes of `bytes` from `start` on, written from `pos` on. The answer is the position behind them.
+pub fn put_part(bytes: &[u8], start: usize, count: usize, out: &mut [u8], pos: usize) -> usize
+    requires { ⌜ (start + count ≤ length (now bytes)) × (pos + count ≤ length (now out)) ⌝ }
+    ensures { λ r. ⌜ Wrote (now (out .entry)) pos (take count (drop start (now (bytes .entry)))) (now (out .exit)) r ⌝ }
+{
+    copy_any(bytes, start, count, out, pos);
     pos + count
 }
 
@@ -27,7 +97,8 @@ pub fn put(bytes: &[u8], out: &mut [u8], pos: usize) -> usize
     requires { ⌜ pos + length (now bytes) ≤ length (now out) ⌝ }
     ensures { λ r. ⌜ Wrote (now (out .entry)) pos (now (bytes .entry)) (now (out .exit)) r ⌝ }
 {
-    put_part(bytes, 0, bytes.len(), out, pos)
+    copy(bytes, 0, bytes.len(), out, pos);
+    pos + bytes.len()
 }
 
 fn put_spaces(count: usize, out: &mut [u8], pos: usize) -> usize

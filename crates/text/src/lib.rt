@@ -75,7 +75,7 @@ fn fill_path(words: &[u32], pairs: &[u32], text: &[u8], out: &mut [u8]) -> TextA
             if out.len() < size {
                 return TextAnswer::Refused(Refusal::BufferTooShort);
             }
-            writing::put_path(words, pairs, text, path, out, 0);
+            leaves::put_path(words, pairs, text, path, out, 0);
             TextAnswer::Length(size)
         }
         PathScan::NoPath(r) => TextAnswer::Refused(r),

@@ -207,7 +207,7 @@ fn call_text(
     if call == PATH_TEXT {
         return text::path_text(words, pairs, text, level, out);
     }
-    declaration::declaration_text(words, pairs, text, level, out)
+    declaration_call::declaration_text(words, pairs, text, level, out)
 }
 
 // Makes a text call with a buffer of `.` bytes, and prints its answer.

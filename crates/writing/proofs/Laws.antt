@@ -6,24 +6,10 @@ use native.Mathlib.Omega.{arith}
 use lib.ListN.{length, length-append}
 use Rattle.rast.specs.Bytes.{Bytes}
 use Rattle.output.specs.Wrote.{Wrote}
-use Rattle.output.proofs.Laws.{wrote-kept, wrote-as}
+use Rattle.output.proofs.Laws.{wrote-as, room-after}
 use Rattle.encoding.specs.Reading.{Reading, got}
 use Rattle.writing.specs.declared.Spot.{Spot}
 use Rattle.writing.specs.Written.{Room, Written}
-
--- behind what is written there is room for what comes next
-pub room-after : {o o′ whole front : List ℕ} {p p′ : ℕ} (next rest : Bytes) → p + length whole ≤ length o → Wrote o p front o′ p′
-    → whole ≡ front ++ (next ++ rest) → p′ + length next ≤ length o′
-room-after {whole = whole} {front = front} next rest room w e =
-    let l : length whole ≡ length front + (length next + length rest) = ap length e ∙ simp length-append in
-    omega (arith, w .next, wrote-kept w)
-
--- and for what comes last
-pub room-last : {o o′ whole front : List ℕ} {p p′ : ℕ} (next : Bytes) → p + length whole ≤ length o → Wrote o p front o′ p′
-    → whole ≡ front ++ next → p′ + length next ≤ length o′
-room-last {whole = whole} {front = front} next room w e =
-    let l : length whole ≡ length front + length next = ap length e ∙ length-append front next in
-    omega (arith, w .next, wrote-kept w)
 
 -- the room for a text, said in another way
 pub room-as : {A : Type 0} {o : List ℕ} {p : ℕ} {text : A → Bytes} {x : Reading A} (r : Room o p text x) (b : Bytes) → text (r .value) ≡ b → p + length b ≤ length o

@@ -1,6 +1,5 @@
--- Laws of paths' text, of accepted types by their words, and of what is written of them.
+-- Laws of accepted types by their words, and of what is written of them.
 pub mod Laws
-pub mod Paths
 pub mod Accepted
 pub mod Skipping
 pub mod Parts

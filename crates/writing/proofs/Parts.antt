@@ -9,15 +9,16 @@ use Rattle.rast.specs.Bytes.{Bytes, ascii}
 use Rattle.rast.specs.Tree.{Ty, Tys, TypeApp, TupleType, FnType, IntersectionType, Array, TSynonym, nil, cons}
 use Rattle.rast.specs.ToString.{Type·ToString, argumentsText, commaText, afterText}
 use Rattle.output.specs.Wrote.{Wrote}
-use Rattle.output.proofs.Laws.{wrote-nothing, wrote-then}
+use Rattle.output.proofs.Laws.{wrote-nothing, wrote-then, room-after, room-last}
 use Rattle.encoding.specs.declared.Head.the-variants.{Apply, Tuple, Function, Both, ArrayOf, Synonym}
 use Rattle.encoding.specs.Tables.{nameBytes}
 use Rattle.encoding.specs.Reading.{Reading, got}
 use Rattle.encoding.specs.Types.{sizeOf, readTypes, readNode, typeAt}
 use Rattle.encoding.proofs.Types.{Made, Made₂, made-got, made₂-got, type-lies}
 use Rattle.writing.specs.declared.Spot.{Spot}
-use Rattle.writing.specs.Written.{Readable, EndsAt, Room, Written, Front, nodeAt, endText}
-use Rattle.writing.proofs.Laws.{room-after, room-last, room-first, room-next, written-at, done}
+use Rattle.leaves.specs.Texts.{endText}
+use Rattle.writing.specs.Written.{Readable, EndsAt, Room, Written, Front, nodeAt}
+use Rattle.writing.proofs.Laws.{room-first, room-next, written-at, done}
 use Rattle.writing.proofs.Accepted.{type-here}
 use Rattle.writing.proofs.Skipping.{types-fit, first-of}
 

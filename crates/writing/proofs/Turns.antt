@@ -8,7 +8,7 @@ use Rattle.rast.specs.Bytes.{Bytes, ascii}
 use Rattle.rast.specs.Tree.{Ty, Tys, nil, cons}
 use Rattle.rast.specs.ToString.{Type·ToString, commaText, afterText}
 use Rattle.output.specs.Wrote.{Wrote}
-use Rattle.output.proofs.Laws.{wrote-nothing, wrote-then, wrote-as}
+use Rattle.output.proofs.Laws.{wrote-nothing, wrote-then, wrote-as, room-after, room-last}
 use Rattle.encoding.specs.declared.Head.{Head}
 use Rattle.encoding.specs.Reading.{Reading, got, _>>=_}
 use Rattle.encoding.specs.Types.{readTypes, typeAt}
@@ -18,7 +18,7 @@ use Rattle.writing.specs.declared.Spot.{Spot}
 use Rattle.writing.specs.declared.Part.{Part}
 use Rattle.writing.specs.declared.Part.the-variants.{Rest, Done}
 use Rattle.writing.specs.Written.{Room, Written, Front, PartWritten, front, whole, nodeAt}
-use Rattle.writing.proofs.Laws.{room-after, room-last, room-next, written-at}
+use Rattle.writing.proofs.Laws.{room-next, written-at}
 use Rattle.writing.proofs.Accepted.{type-here}
 use Rattle.writing.proofs.Skipping.{first-of}
 

@@ -60,11 +60,3 @@ pub record Front (again : ℕ → Reading (Ty Bytes)) (from : ℕ) (o : List ℕ
 pub data PartWritten (again : ℕ → Reading (Ty Bytes)) (from : ℕ) (o : List ℕ) (p : ℕ) (x : Reading (Ty Bytes)) (o′ : List ℕ) : Part → Type 0 where
   front : {s : Spot} → Front again from o p x o′ s → PartWritten again from o p x o′ (Rest s)
   whole : {s : Spot} → Written o p Type·ToString x o′ s → PartWritten again from o p x o′ (Done s)
-
--- what a path's text gains by a name
-abbrev pub memberText : Bytes → Bytes
-memberText x = ascii "::" ++ x
-
--- the end of an array's text
-abbrev pub endText : Option Bytes → Bytes
-endText s = sizeText s ++ ascii "]"

@@ -2,14 +2,11 @@
 ghost use mathlib.Core.Path.{_≡_};
 ghost use Prim.Native.Nat.{_+_, _≤_, _<_};
 ghost use lib.ListN.{length, getD};
-ghost use Rattle.rast.specs.Tree.{U8};
-ghost use Rattle.rast.specs.ToString.{Path·ToString, Primitive·ToString, Type·ToString, commaText};
-ghost use Rattle.output.specs.Wrote.{Wrote};
-ghost use Rattle.encoding.specs.Tables.{Good, nameBytes, nameCount};
-ghost use Rattle.encoding.specs.Heads.{InsidePath};
-ghost use Rattle.encoding.specs.Types.{primitives, rootOf, pathOf, sizeOf, readTypes, typeAt};
+ghost use Rattle.rast.specs.ToString.{Type·ToString, commaText};
+ghost use Rattle.encoding.specs.Tables.{Good, nameCount};
+ghost use Rattle.encoding.specs.Types.{readTypes, typeAt};
 ghost use Rattle.encoding.specs.declared.Head.the-variants.{Apply, Tuple, Function, Both, ArrayOf, Synonym};
-ghost use Rattle.writing.specs.Written.{Readable, EndsAt, Room, Written, Front, PartWritten, nodeAt, memberText, endText};
+ghost use Rattle.writing.specs.Written.{Readable, EndsAt, Room, Written, Front, PartWritten, nodeAt};
 use encoding::HeadScan;
 use encoding::PathAt;
 
@@ -23,86 +20,6 @@ pub struct Spot {
 pub enum Part {
     Rest(Spot),
     Done(Spot),
-}
-
-// ---- what has no types in it
-
-fn put_primitive(kind: u32, out: &mut [u8], pos: usize) -> usize
-    requires { ⌜ (kind < 12) × (pos + length (Primitive·ToString (getD primitives kind U8)) ≤ length (now out)) ⌝ }
-    ensures { λ r. ⌜ Wrote (now (out .entry)) pos (Primitive·ToString (getD primitives kind U8)) (now (out .exit)) r ⌝ }
-{
-    match kind {
-        0 => output::put(b"u8", out, pos),
-        1 => output::put(b"u16", out, pos),
-        2 => output::put(b"u32", out, pos),
-        3 => output::put(b"u64", out, pos),
-        4 => output::put(b"u128", out, pos),
-        5 => output::put(b"i8", out, pos),
-        6 => output::put(b"i16", out, pos),
-        7 => output::put(b"i32", out, pos),
-        8 => output::put(b"i64", out, pos),
-        9 => output::put(b"i128", out, pos),
-        10 => output::put(b"usize", out, pos),
-        _ => output::put(b"bool", out, pos),
-    }
-}
-
-fn put_root(root: u32, out: &mut [u8], pos: usize) -> usize
-    requires { ⌜ pos + length (Path·ToString (rootOf root)) ≤ length (now out) ⌝ }
-    ensures { λ r. ⌜ Wrote (now (out .entry)) pos (Path·ToString (rootOf root)) (now (out .exit)) r ⌝ }
-{
-    match root {
-        0 => pos,
-        1 => output::put(b"crate", out, pos),
-        _ => output::put(b"Self", out, pos),
-    }
-}
-
-// One more name of a path.
-fn put_member(pairs: &[u32], text: &[u8], name: u32, out: &mut [u8], pos: usize) -> usize
-    requires { ⌜ (name < nameCount (now pairs)) × Good (now pairs) (now text)
-        × (pos + length (memberText (nameBytes (now pairs) (now text) name)) ≤ length (now out)) ⌝ }
-    ensures { λ r. ⌜ Wrote (now (out .entry)) pos (memberText (nameBytes (now (pairs .entry)) (now (text .entry)) name)) (now (out .exit)) r ⌝ }
-{
-    let p = output::put(b"::", out, pos);
-    encoding::put_name(pairs, text, name, out, p)
-}
-
-pub fn put_path(
-    words: &[u32],
-    pairs: &[u32],
-    text: &[u8],
-    path: PathAt,
-    out: &mut [u8],
-    pos: usize,
-) -> usize
-    requires { ⌜ InsidePath (nameCount (now pairs)) (now words) path × Good (now pairs) (now text)
-        × (pos + length (Path·ToString (pathOf (now words) (nameBytes (now pairs) (now text)) path)) ≤ length (now out)) ⌝ }
-    ensures { λ r. ⌜ Wrote (now (out .entry)) pos (Path·ToString (pathOf (now (words .entry)) (nameBytes (now (pairs .entry)) (now (text .entry))) path)) (now (out .exit)) r ⌝ }
-{
-    let start = path.start;
-    let end = start + path.count as usize;
-    let mut p = put_root(path.root, out, pos);
-    let mut i = start;
-    while i < end {
-        p = put_member(pairs, text, words[i], out, p);
-        i += 1;
-    }
-    p
-}
-
-// The end of an array's text.
-fn put_size(pairs: &[u32], text: &[u8], size: u32, out: &mut [u8], pos: usize) -> usize
-    requires { ⌜ (size < nameCount (now pairs) + 1) × Good (now pairs) (now text)
-        × (pos + length (endText (sizeOf (nameBytes (now pairs) (now text)) size)) ≤ length (now out)) ⌝ }
-    ensures { λ r. ⌜ Wrote (now (out .entry)) pos (endText (sizeOf (nameBytes (now (pairs .entry)) (now (text .entry))) size)) (now (out .exit)) r ⌝ }
-{
-    if size == 0 {
-        return output::put(b"]", out, pos);
-    }
-    let p = output::put(b"; ", out, pos);
-    let q = encoding::put_name(pairs, text, size - 1, out, p);
-    output::put(b"]", out, q)
 }
 
 // Where the type at `at`, which was accepted, ends: each type read leaves as many due as follow its head.
@@ -139,7 +56,7 @@ fn write_leaf(
     if w < 12 {
         return Spot {
             next: at + 1,
-            pos: put_primitive(w, out, pos),
+            pos: leaves::put_primitive(w, out, pos),
         };
     }
     if w == 12 {
@@ -157,7 +74,7 @@ fn write_leaf(
     };
     Spot {
         next: start + count as usize,
-        pos: put_path(words, pairs, text, path, out, pos),
+        pos: leaves::put_path(words, pairs, text, path, out, pos),
     }
 }
 
@@ -375,7 +292,7 @@ fn write_left(
     requires { ⌜ Good (now pairs) (now text) × Room (now out) pos Type·ToString (nodeAt (now words) (now pairs) (now text) Both at) ⌝ }
     ensures { λ r. ⌜ Front (typeAt (now (words .entry)) (now (pairs .entry)) (now (text .entry))) at (now (out .entry)) pos (nodeAt (now (words .entry)) (now (pairs .entry)) (now (text .entry)) Both at) (now (out .exit)) r ⌝ }
 {
-    let left = write_type(words, pairs, text, at, out, pos);
+    let left = write_part(words, pairs, text, at, out, pos);
     Spot {
         next: left.next,
         pos: output::put(b" + ", out, left.pos),
@@ -395,10 +312,10 @@ fn write_array(
     ensures { λ r. ⌜ Written (now (out .entry)) pos Type·ToString (nodeAt (now (words .entry)) (now (pairs .entry)) (now (text .entry)) (ArrayOf size) at) (now (out .exit)) r ⌝ }
 {
     let p = output::put(b"[", out, pos);
-    let element = write_type(words, pairs, text, at, out, p);
+    let element = write_part(words, pairs, text, at, out, p);
     Spot {
         next: element.next,
-        pos: put_size(pairs, text, size, out, element.pos),
+        pos: leaves::put_size(pairs, text, size, out, element.pos),
     }
 }
 
@@ -414,7 +331,7 @@ fn write_synonym(
     requires { ⌜ Good (now pairs) (now text) × Room (now out) pos Type·ToString (nodeAt (now words) (now pairs) (now text) Synonym at) ⌝ }
     ensures { λ r. ⌜ Written (now (out .entry)) pos Type·ToString (nodeAt (now (words .entry)) (now (pairs .entry)) (now (text .entry)) Synonym at) (now (out .exit)) r ⌝ }
 {
-    let display = write_type(words, pairs, text, at, out, pos);
+    let display = write_part(words, pairs, text, at, out, pos);
     Spot {
         next: skip_type(words, pairs, text, display.next),
         pos: display.pos,

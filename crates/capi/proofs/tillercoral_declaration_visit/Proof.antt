@@ -1,4 +1,4 @@
-use Rattle.capi.specs.Numbers.{visitCall}
+use Rattle.answer_numbers.specs.Numbers.{visitCall}
 use mathlib.Core.Path.{ap}
 use borrow.Author.Needs.{needs}
 use Rattle.capi.proofs.tillercoral_declaration_visit.Statement.{statement}

@@ -1,5 +1,5 @@
 use mathlib.Core.Path.{ap}
-use Rattle.capi.specs.Numbers.{textCall}
+use Rattle.answer_numbers.specs.Numbers.{textCall}
 use borrow.Author.Needs.{needs}
 use Rattle.capi.proofs.tillercoral_path_text.Statement.{statement}
 use Rattle.capi.proofs.tillercoral_path_text.Tie as tie

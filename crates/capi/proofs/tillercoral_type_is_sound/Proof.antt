@@ -1,5 +1,5 @@
 use mathlib.Core.Path.{ap, _∙_}
-use Rattle.capi.specs.Numbers.{soundNumber}
+use Rattle.answer_numbers.specs.Numbers.{soundNumber}
 use borrow.Author.Needs.{needs}
 use Rattle.capi.proofs.tillercoral_type_is_sound.Statement.{statement}
 use Rattle.capi.proofs.tillercoral_type_is_sound.Tie as tie

@@ -3,14 +3,19 @@ use borrow.Author.Needs.{needs}
 use Rattle.output.proofs.put.Statement.{statement}
 use Rattle.output.proofs.put.Tie as tie
 
-put-part-requires : tie.Need-put-part-requires
-put-part-requires c κs = search needs
+copy-requires : tie.Need-copy-requires
+copy-requires c κs = search needs
+
+add-result : tie.Need-add-result
+add-result c = search needs
 
 same-length : tie.Need-same-length
 same-length c = search needs
 
 returns : tie.Need-returns
-returns c = rw (take-length (c .before .before .before .before .before .before .args .bytes .now)) at (c .before .before .put-part .ensures)
+returns c =
+    let whole = take-length (c .before .before .before .before .before .before .args .bytes .now) in
+    record { bytes = rw whole at (c .before .before .copy .ensures); next = search needs }
 
 pub put-spec : {M : Type 1} → statement M
-put-spec = tie.close (tie.spec put-part-requires same-length returns)
+put-spec = tie.close (tie.spec copy-requires add-result same-length returns)

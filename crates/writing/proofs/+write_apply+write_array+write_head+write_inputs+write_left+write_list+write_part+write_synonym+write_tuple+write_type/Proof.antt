@@ -52,7 +52,7 @@ use Rattle.writing.proofs.write_type.Kinds as write-type-kinds
 use Rattle.writing.proofs.+write_apply+write_array+write_head+write_inputs+write_left+write_list+write_part+write_synonym+write_tuple+write_type.Lts-write_type as write-type-lts
 use Rattle.encoding.proofs.put_name.Reads as put-name-reads
 use Rattle.output.proofs.put.Reads as put-reads
-use Rattle.writing.proofs.put_size.Reads as put-size-reads
+use Rattle.leaves.proofs.put_size.Reads as put-size-reads
 use Rattle.writing.proofs.skip_type.Reads as skip-type-reads
 use Rattle.writing.proofs.write_leaf.Reads as write-leaf-reads
 use Rattle.writing.proofs.+write_apply+write_array+write_head+write_inputs+write_left+write_list+write_part+write_synonym+write_tuple+write_type.{statement}
@@ -180,7 +180,7 @@ abbrev write-apply-calls : ℕ → write-apply-lts.Claims
 write-apply-calls t = (write-part-below t, write-part.Post, put-reads.Asked, put-reads.Learnt, write-list-below t, write-list.Post)
 
 abbrev write-array-calls : ℕ → write-array-lts.Claims
-write-array-calls t = (put-reads.Asked, put-reads.Learnt, write-type-below t, write-type.Post, put-size-reads.Asked, put-size-reads.Learnt)
+write-array-calls t = (put-reads.Asked, put-reads.Learnt, write-part-below t, write-part.Post, put-size-reads.Asked, put-size-reads.Learnt)
 
 abbrev write-head-calls : ℕ → write-head-lts.Claims
 write-head-calls t = (write-leaf-reads.Asked, write-leaf-reads.Learnt, write-apply-below t, write-apply.Post, put-reads.Asked, put-reads.Learnt, write-tuple-below t, write-tuple.Post, write-inputs-below t, write-inputs.Post, write-left-below t, write-left.Post, write-array-below t, write-array.Post, write-synonym-below t, write-synonym.Post)
@@ -189,7 +189,7 @@ abbrev write-inputs-calls : ℕ → write-inputs-lts.Claims
 write-inputs-calls t = (put-reads.Asked, put-reads.Learnt, write-list-below t, write-list.Post)
 
 abbrev write-left-calls : ℕ → write-left-lts.Claims
-write-left-calls t = (write-type-below t, write-type.Post, put-reads.Asked, put-reads.Learnt)
+write-left-calls t = (write-part-below t, write-part.Post, put-reads.Asked, put-reads.Learnt)
 
 abbrev write-list-calls : ℕ → write-list-lts.Claims
 write-list-calls t = (write-part-below t, write-part.Post, put-reads.Asked, put-reads.Learnt)
@@ -198,7 +198,7 @@ abbrev write-part-calls : ℕ → write-part-lts.Claims
 write-part-calls t = (put-name-reads.Asked, put-name-reads.Learnt, write-leaf-reads.Asked, write-leaf-reads.Learnt, write-type-below t, write-type.Post)
 
 abbrev write-synonym-calls : ℕ → write-synonym-lts.Claims
-write-synonym-calls t = (write-type-below t, write-type.Post, skip-type-reads.Asked, skip-type-reads.Learnt)
+write-synonym-calls t = (write-part-below t, write-part.Post, skip-type-reads.Asked, skip-type-reads.Learnt)
 
 abbrev write-tuple-calls : ℕ → write-tuple-lts.Claims
 write-tuple-calls t = (put-reads.Asked, put-reads.Learnt, write-list-below t, write-list.Post)
@@ -269,9 +269,9 @@ write-array-put-requires t c κs =
     let pre = c .before .before .before .before .before .before .pre .1 in
     array-open (a .words .now) (a .pairs .now) (a .text .now) (a .size) (a .at) (pre .2)
 
-write-array-write-type-requires : (t : ℕ) → write-array-lts.Need-write-type-requires (write-array-calls t) (write-array-at t) write-array.Post
+write-array-write-part-requires : (t : ℕ) → write-array-lts.Need-write-part-requires (write-array-calls t) (write-array-at t) write-array.Post
 unfolding ascii
-write-array-write-type-requires t c κs =
+write-array-write-part-requires t c κs =
     let a = c .before .before .before .before .before .before .before .before .before .before .args in
     let pre = c .before .before .before .before .before .before .before .before .before .before .pre .1 in
     (omega (arith, c .before .before .before .before .before .before .before .before .before .before .pre .0), (pre .1, array-element (a .words .now) (a .pairs .now) (a .text .now) (a .size) (a .at) (pre .2) (c .before .before .before .put .ensures)))
@@ -281,7 +281,7 @@ unfolding ascii
 write-array-put-size-requires t c κs =
     let a = c .before .before .before .before .before .before .before .before .before .before .before .before .before .before .args in
     let pre = c .before .before .before .before .before .before .before .before .before .before .before .before .before .before .pre .1 in
-    (pre .0, pre .1, array-end (a .words .now) (a .pairs .now) (a .text .now) (a .size) (a .at) (pre .2) (c .before .before .before .before .before .before .before .put .ensures) (c .before .before .before .write-type .ensures))
+    (pre .0, pre .1, array-end (a .words .now) (a .pairs .now) (a .text .now) (a .size) (a .at) (pre .2) (c .before .before .before .before .before .before .before .put .ensures) (c .before .before .before .write-part .ensures))
 
 write-array-same-length : (t : ℕ) → write-array-lts.Need-same-length (write-array-calls t) (write-array-at t) write-array.Post
 write-array-same-length t c = search needs
@@ -291,7 +291,7 @@ unfolding ascii
 write-array-returns t c =
     let a = c .before .before .before .before .before .before .before .before .before .before .before .before .before .before .before .before .before .args in
     let pre = c .before .before .before .before .before .before .before .before .before .before .before .before .before .before .before .before .before .pre .1 in
-    array-done (a .words .now) (a .pairs .now) (a .text .now) (a .size) (a .at) (pre .2) (c .before .before .before .before .before .before .before .before .before .before .put .ensures) (c .before .before .before .before .before .before .write-type .ensures) (c .before .before .put-size .ensures)
+    array-done (a .words .now) (a .pairs .now) (a .text .now) (a .size) (a .at) (pre .2) (c .before .before .before .before .before .before .before .before .before .before .put .ensures) (c .before .before .before .before .before .before .write-part .ensures) (c .before .before .put-size .ensures)
 
 write-head-mul-w : (t : ℕ) → write-head-lts.Need-mul-w (write-head-calls t) (write-head-at t) write-head.Post
 write-head-mul-w t c =
@@ -695,8 +695,8 @@ write-inputs-returns-2 t c =
     let pre = c .before .before .before .before .before .before .before .before .before .before .before .before .before .before .before .before .before .before .before .pre .1 in
     inputs-done (a .words .now) (a .pairs .now) (a .text .now) (a .n) (a .at) (pre .1) (c .before .before .before .before .before .before .before .before .before .before .before .before .put .ensures) (c .before .before .before .before .before .before .before .write-list .ensures) (c .before .before .put3 .ensures)
 
-write-left-write-type-requires : (t : ℕ) → write-left-lts.Need-write-type-requires (write-left-calls t) (write-left-at t) write-left.Post
-write-left-write-type-requires t c κs =
+write-left-write-part-requires : (t : ℕ) → write-left-lts.Need-write-part-requires (write-left-calls t) (write-left-at t) write-left.Post
+write-left-write-part-requires t c κs =
     let a = c .before .before .before .before .before .args in
     let pre = c .before .before .before .before .before .pre .1 in
     (omega (arith, c .before .before .before .before .before .pre .0), (pre .0, left-type (a .words .now) (a .pairs .now) (a .text .now) (a .at) (pre .1)))
@@ -709,7 +709,7 @@ unfolding ascii
 write-left-put-requires t c κs =
     let a = c .before .before .before .before .before .before .before .before .before .before .args in
     let pre = c .before .before .before .before .before .before .before .before .before .before .pre .1 in
-    left-plus (a .words .now) (a .pairs .now) (a .text .now) (a .at) (pre .1) (c .before .before .before .before .write-type .ensures)
+    left-plus (a .words .now) (a .pairs .now) (a .text .now) (a .at) (pre .1) (c .before .before .before .before .write-part .ensures)
 
 write-left-same-length : (t : ℕ) → write-left-lts.Need-same-length (write-left-calls t) (write-left-at t) write-left.Post
 write-left-same-length t c = search needs
@@ -719,7 +719,7 @@ unfolding ascii
 write-left-returns t c =
     let a = c .before .before .before .before .before .before .before .before .before .before .before .before .before .args in
     let pre = c .before .before .before .before .before .before .before .before .before .before .before .before .before .pre .1 in
-    left-done (a .words .now) (a .pairs .now) (a .text .now) (a .at) (pre .1) (c .before .before .before .before .before .before .before .write-type .ensures) (c .before .before .put .ensures)
+    left-done (a .words .now) (a .pairs .now) (a .text .now) (a .at) (pre .1) (c .before .before .before .before .before .before .before .write-part .ensures) (c .before .before .put .ensures)
 
 abbrev write-list-Inv-loop : write-list-lts.InvT-loop
 write-list-Inv-loop words pairs text at n out₀ pos place₀ p₀ left₀ t12 out place p left = ListLeft words pairs text n at out₀ pos out p left place
@@ -870,8 +870,8 @@ write-part-same-length-3 t c = search needs
 write-part-returns-3 : (t : ℕ) → write-part-lts.Need-returns-3 (write-part-calls t) (write-part-at t) write-part.Post
 write-part-returns-3 t c = c .before .before .write-type .ensures
 
-write-synonym-write-type-requires : (t : ℕ) → write-synonym-lts.Need-write-type-requires (write-synonym-calls t) (write-synonym-at t) write-synonym.Post
-write-synonym-write-type-requires t c κs =
+write-synonym-write-part-requires : (t : ℕ) → write-synonym-lts.Need-write-part-requires (write-synonym-calls t) (write-synonym-at t) write-synonym.Post
+write-synonym-write-part-requires t c κs =
     let a = c .before .before .before .before .before .args in
     let pre = c .before .before .before .before .before .pre .1 in
     (omega (arith, c .before .before .before .before .before .pre .0), (pre .0, synonym-display (a .words .now) (a .pairs .now) (a .text .now) (a .at) (pre .1)))
@@ -880,7 +880,7 @@ write-synonym-skip-type-requires : (t : ℕ) → write-synonym-lts.Need-skip-typ
 write-synonym-skip-type-requires t c κs =
     let a = c .before .before .before .before .before .before .before .before .args in
     let pre = c .before .before .before .before .before .before .before .before .pre .1 in
-    synonym-base (a .words .now) (a .pairs .now) (a .text .now) (a .at) (pre .1) (c .before .before .write-type .ensures)
+    synonym-base (a .words .now) (a .pairs .now) (a .text .now) (a .at) (pre .1) (c .before .before .write-part .ensures)
 
 write-synonym-same-length : (t : ℕ) → write-synonym-lts.Need-same-length (write-synonym-calls t) (write-synonym-at t) write-synonym.Post
 write-synonym-same-length t c = search needs
@@ -889,7 +889,7 @@ write-synonym-returns : (t : ℕ) → write-synonym-lts.Need-returns (write-syno
 write-synonym-returns t c =
     let a = c .before .before .before .before .before .before .before .before .before .args in
     let pre = c .before .before .before .before .before .before .before .before .before .pre .1 in
-    synonym-done (a .words .now) (a .pairs .now) (a .text .now) (a .at) (pre .1) (c .before .before .before .write-type .ensures) (c .skip-type .ensures)
+    synonym-done (a .words .now) (a .pairs .now) (a .text .now) (a .at) (pre .1) (c .before .before .before .write-part .ensures) (c .skip-type .ensures)
 
 write-tuple-slice-aggregate-put : (t : ℕ) → write-tuple-lts.Need-slice-aggregate-put (write-tuple-calls t) (write-tuple-at t) write-tuple.Post
 write-tuple-slice-aggregate-put t c = search needs
@@ -1035,7 +1035,7 @@ pub +write-apply+write-array+write-head+write-inputs+write-left+write-list+write
     write-array.Post
     (write-array-slice-aggregate-put t)
     (write-array-put-requires t)
-    (write-array-write-type-requires t)
+    (write-array-write-part-requires t)
     (write-array-put-size-requires t)
     (write-array-same-length t)
     (write-array-returns t))
@@ -1122,7 +1122,7 @@ pub +write-apply+write-array+write-head+write-inputs+write-left+write-list+write
     (λ t. write-left-lts.spec (write-left-calls t)
     (write-left-at t)
     write-left.Post
-    (write-left-write-type-requires t)
+    (write-left-write-part-requires t)
     (write-left-slice-aggregate-put t)
     (write-left-put-requires t)
     (write-left-same-length t)
@@ -1162,7 +1162,7 @@ pub +write-apply+write-array+write-head+write-inputs+write-left+write-list+write
     (λ t. write-synonym-lts.spec (write-synonym-calls t)
     (write-synonym-at t)
     write-synonym.Post
-    (write-synonym-write-type-requires t)
+    (write-synonym-write-part-requires t)
     (write-synonym-skip-type-requires t)
     (write-synonym-same-length t)
     (write-synonym-returns t))

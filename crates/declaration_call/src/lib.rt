@@ -1,0 +1,64 @@
+// The text of a declaration, at a level, into a lent buffer.
+//
+// The call counts first, which accepts or refuses the declaration, and then writes.
+ghost use mathlib.Core.Path.{_≡_};
+ghost use Prim.Native.Nat.{_^_, _<_};
+ghost use Rattle.text.specs.Calls.{filled};
+ghost use Rattle.laying.specs.Passes.{Checked};
+ghost use Rattle.declaration_call.specs.Calls.{declarationText, tableDeclarationText, wholeDeclarationText};
+use encoding::Check;
+use encoding::Refusal;
+use laying::Place;
+use text::TextAnswer;
+
+// A declaration is accepted and its text counted before a byte is written, since a refusal leaves the buffer unchanged.
+fn fill(words: &[u32], pairs: &[u32], text: &[u8], level: u32, out: &mut [u8]) -> TextAnswer
+    requires { ⌜ Checked (now words) (now pairs) (now text) × (level < 2 ^ 30) ⌝ }
+    ensures { λ r. ⌜ (r, now (out .exit)) ≡ filled (now (out .entry)) (wholeDeclarationText (now (words .entry)) (now (pairs .entry)) (now (text .entry)) level) ⌝ }
+{
+    match declaration::lay_declaration(false, words, pairs, text, level, 0, out, 0) {
+        Place::At { next, pos: bytes } => {
+            if next != words.len() {
+                return TextAnswer::Refused(Refusal::LeftOver);
+            }
+            if out.len() < bytes {
+                return TextAnswer::Refused(Refusal::BufferTooShort);
+            }
+            declaration::lay_declaration(true, words, pairs, text, level, 0, out, 0);
+            TextAnswer::Length(bytes)
+        }
+        Place::Stopped(r) => TextAnswer::Refused(r),
+    }
+}
+
+fn check_and_fill(
+    words: &[u32],
+    pairs: &[u32],
+    text: &[u8],
+    level: u32,
+    out: &mut [u8],
+) -> TextAnswer
+    requires { ⌜ level < 2 ^ 30 ⌝ }
+    ensures { λ r. ⌜ (r, now (out .exit)) ≡ filled (now (out .entry)) (tableDeclarationText (now (words .entry)) (now (pairs .entry)) (now (text .entry)) level) ⌝ }
+{
+    match encoding::check_tables(words, pairs, text) {
+        Check::Passed => fill(words, pairs, text, level, out),
+        Check::Failed(r) => TextAnswer::Refused(r),
+    }
+}
+
+// The text of the declaration that an encoding holds, in the front of `out`.
+pub fn declaration_text(
+    words: &[u32],
+    pairs: &[u32],
+    text: &[u8],
+    level: u32,
+    out: &mut [u8],
+) -> TextAnswer
+    ensures { λ r. ⌜ (r, now (out .exit)) ≡ filled (now (out .entry)) (declarationText (now (words .entry)) (now (pairs .entry)) (now (text .entry)) level) ⌝ }
+{
+    match encoding::check_level(level) {
+        Check::Passed => check_and_fill(words, pairs, text, level, out),
+        Check::Failed(r) => TextAnswer::Refused(r),
+    }
+}

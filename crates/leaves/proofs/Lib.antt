@@ -1,0 +1,2 @@
+-- Laws of a path's text.
+pub mod Paths

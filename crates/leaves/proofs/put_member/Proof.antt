@@ -1,0 +1,31 @@
+use Rattle.rast.specs.Bytes.{ascii}
+use Rattle.output.proofs.Laws.{wrote-then, wrote-kept}
+use native.Mathlib.Omega.{arith}
+use borrow.Author.Needs.{needs}
+use Rattle.leaves.proofs.put_member.Statement.{statement}
+use Rattle.leaves.proofs.put_member.Tie as tie
+
+slice-aggregate-put : tie.Need-slice-aggregate-put
+slice-aggregate-put c = search needs
+
+put-requires : tie.Need-put-requires
+unfolding ascii
+put-requires c κs = omega (arith, c .before .before .before .before .before .pre .2)
+
+put-name-requires : tie.Need-put-name-requires
+unfolding ascii
+put-name-requires c κs =
+    let s = c .before .before .before .before .before .before .before .before .before in
+    let w = c .before .before .before .put .ensures in
+    (s .pre .0, s .pre .1, omega (arith, s .pre .2, w .next, wrote-kept w))
+
+same-length : tie.Need-same-length
+same-length c = search needs
+
+returns : tie.Need-returns
+unfolding ascii
+returns c = wrote-then (c .before .before .before .before .before .before .put .ensures) (c .before .before .put-name .ensures)
+
+pub put-member-spec : {M : Type 1} → statement M
+put-member-spec =
+    tie.close (tie.spec slice-aggregate-put put-requires put-name-requires same-length returns)

@@ -1,0 +1,89 @@
+// Texts with no type in them, into a buffer that has room: plain types, paths, the end of an array.
+ghost use Prim.Native.Nat.{_+_, _≤_, _<_};
+ghost use lib.ListN.{length, getD};
+ghost use Rattle.rast.specs.Tree.{U8};
+ghost use Rattle.rast.specs.ToString.{Path·ToString, Primitive·ToString};
+ghost use Rattle.output.specs.Wrote.{Wrote};
+ghost use Rattle.encoding.specs.Tables.{Good, nameBytes, nameCount};
+ghost use Rattle.encoding.specs.Heads.{InsidePath};
+ghost use Rattle.encoding.specs.Types.{primitives, rootOf, pathOf, sizeOf};
+ghost use Rattle.leaves.specs.Texts.{memberText, endText};
+use encoding::PathAt;
+
+pub fn put_primitive(kind: u32, out: &mut [u8], pos: usize) -> usize
+    requires { ⌜ (kind < 12) × (pos + length (Primitive·ToString (getD primitives kind U8)) ≤ length (now out)) ⌝ }
+    ensures { λ r. ⌜ Wrote (now (out .entry)) pos (Primitive·ToString (getD primitives kind U8)) (now (out .exit)) r ⌝ }
+{
+    match kind {
+        0 => output::put(b"u8", out, pos),
+        1 => output::put(b"u16", out, pos),
+        2 => output::put(b"u32", out, pos),
+        3 => output::put(b"u64", out, pos),
+        4 => output::put(b"u128", out, pos),
+        5 => output::put(b"i8", out, pos),
+        6 => output::put(b"i16", out, pos),
+        7 => output::put(b"i32", out, pos),
+        8 => output::put(b"i64", out, pos),
+        9 => output::put(b"i128", out, pos),
+        10 => output::put(b"usize", out, pos),
+        _ => output::put(b"bool", out, pos),
+    }
+}
+
+fn put_root(root: u32, out: &mut [u8], pos: usize) -> usize
+    requires { ⌜ pos + length (Path·ToString (rootOf root)) ≤ length (now out) ⌝ }
+    ensures { λ r. ⌜ Wrote (now (out .entry)) pos (Path·ToString (rootOf root)) (now (out .exit)) r ⌝ }
+{
+    match root {
+        0 => pos,
+        1 => output::put(b"crate", out, pos),
+        _ => output::put(b"Self", out, pos),
+    }
+}
+
+// One more name of a path.
+fn put_member(pairs: &[u32], text: &[u8], name: u32, out: &mut [u8], pos: usize) -> usize
+    requires { ⌜ (name < nameCount (now pairs)) × Good (now pairs) (now text)
+        × (pos + length (memberText (nameBytes (now pairs) (now text) name)) ≤ length (now out)) ⌝ }
+    ensures { λ r. ⌜ Wrote (now (out .entry)) pos (memberText (nameBytes (now (pairs .entry)) (now (text .entry)) name)) (now (out .exit)) r ⌝ }
+{
+    let p = output::put(b"::", out, pos);
+    encoding::put_name(pairs, text, name, out, p)
+}
+
+pub fn put_path(
+    words: &[u32],
+    pairs: &[u32],
+    text: &[u8],
+    path: PathAt,
+    out: &mut [u8],
+    pos: usize,
+) -> usize
+    requires { ⌜ InsidePath (nameCount (now pairs)) (now words) path × Good (now pairs) (now text)
+        × (pos + length (Path·ToString (pathOf (now words) (nameBytes (now pairs) (now text)) path)) ≤ length (now out)) ⌝ }
+    ensures { λ r. ⌜ Wrote (now (out .entry)) pos (Path·ToString (pathOf (now (words .entry)) (nameBytes (now (pairs .entry)) (now (text .entry))) path)) (now (out .exit)) r ⌝ }
+{
+    let start = path.start;
+    let end = start + path.count as usize;
+    let mut p = put_root(path.root, out, pos);
+    let mut i = start;
+    while i < end {
+        p = put_member(pairs, text, words[i], out, p);
+        i += 1;
+    }
+    p
+}
+
+// The end of an array's text.
+pub fn put_size(pairs: &[u32], text: &[u8], size: u32, out: &mut [u8], pos: usize) -> usize
+    requires { ⌜ (size < nameCount (now pairs) + 1) × Good (now pairs) (now text)
+        × (pos + length (endText (sizeOf (nameBytes (now pairs) (now text)) size)) ≤ length (now out)) ⌝ }
+    ensures { λ r. ⌜ Wrote (now (out .entry)) pos (endText (sizeOf (nameBytes (now (pairs .entry)) (now (text .entry))) size)) (now (out .exit)) r ⌝ }
+{
+    if size == 0 {
+        return output::put(b"]", out, pos);
+    }
+    let p = output::put(b"; ", out, pos);
+    let q = encoding::put_name(pairs, text, size - 1, out, p);
+    output::put(b"]", out, q)
+}

@@ -1,0 +1,2 @@
+-- The theorem: every claim holds.
+pub mod MarkedCases

@@ -1,0 +1,43 @@
+-- Document 01's whole example and its marked cases hold, each by computation: the definitions that its answer goes through are opened.
+use mathlib.Core.Path.{refl}
+use Rattle.rast.specs.Bytes.{ascii, same, begins}
+use Rattle.rast.specs.Tree.{MSels}
+use Rattle.rast.specs.ToString.{Path·ToString, Primitive·ToString, Type·ToString}
+use Rattle.rast.specs.Sound.{isGlobal, soundPath, isIntersection, isNamed, isEmpty, sound}
+use Rattle.rast.specs.Indent.{IND, indent, SeqToString}
+use Rattle.rast.specs.Doc.{isEmptyText, GatherSimpleQuotes, DocStringPrefix, atFence, atLineStart, atSpace, convertBody, convertUpTo, ConvertDocstring, ToDocstringPrefix}
+use Rattle.rast.specs.DeclarationToString.{Visibility·ToString, Attribute·ToStringMultiple, TypeParamDecl·ToStringMultiple, Expand, isUnderscore, Formal·ToString, Field·ToString, separatorText, beginSpace, endSpace, Fields·ToString, structFieldsText, Struct·ToString, Declaration·ToString}
+use Rattle.encoding.specs.Refusals.{mapAnswer, unless}
+use Rattle.encoding.specs.Reading.{readWord, readBelow, readNames, whole}
+use Rattle.encoding.specs.Tables.{checkLevel, overlong, goodPairs, checkTables, fixedNames, pairBytes, nameBytes}
+use Rattle.encoding.specs.Heads.{readPath, pathHead, headAfter, readHead}
+use Rattle.encoding.specs.Types.{primitives, rootOf, pathOf, sizeOf, readTypes, readNode, readType, typeOf}
+use Rattle.encoding.specs.Declarations.{readList, readCounted, visibilityOf, readVisibility, readName, readFormal, readField, readFields, readStruct, declarationAfter, readDeclaration, declarationOf}
+use Rattle.trees.specs.Encode.{tokenWord, primitiveWord, rootWord, names, pathTokens, count, tokens, words, encode}
+use Rattle.trees.specs.Renamed.{renamedPath, renamed}
+use Rattle.trees.specs.Numbered.{treeOf}
+use Rattle.replace.specs.Same.{sameToken, sameTokens, sameType, sameBy}
+use Rattle.replace.specs.Replace.{Replace, ruled}
+use Rattle.replace.specs.Laying.{depth, peak}
+use Rattle.replace.specs.Rules.{readRule, readRules, among as amongRules, repeated, checkAll, distinct, rulesOf, mappingOf}
+use Rattle.pieces.specs.Pieces.{runs, attributesTokens, titleTokens, heading, front}
+use Rattle.text.specs.Calls.{typeText}
+use Rattle.declaration_call.specs.Calls.{declarationText}
+use Rattle.numbers.specs.Numbers.{numbersAt}
+use Rattle.file.specs.File.{describedText, fileText, decimal, refusalLine, printed, printedFile}
+use Rattle.soundness.specs.Calls.{typeIsSound}
+use Rattle.visits.specs.Visited.{visitedFrom, visited, visitedPieces, entered, visitedDeclaration, typeVisits, declarationVisits}
+use Rattle.classes.specs.Paths.{samePath, dafny_runtime, inRuntime, ObjectPath, PtrPath}
+use Rattle.classes.specs.Matches.{onPath, applied, typeIn, argument, unsized}
+use Rattle.classes.specs.Steps.{when, andThen, orElse}
+use Rattle.shapes.specs.Shapes.{IsObject, IsPointer, IsObjectOrPointer, isNumber, IsAutoSize}
+use Rattle.shapes.specs.Parts.{expandedAt, expanded, ExpandAt}
+use Rattle.shapes.specs.Initialization.{MaybeUninitType, PtrType, orThis, newUnderlying, TypeAtInitialization}
+use Rattle.parts.specs.Answers.{spanOf, spanIn, partOf, partWords}
+use Rattle.rebuild.specs.Calls.{laidDown, ruledBy, typeRebuilt}
+use Rattle.initialization.specs.Initialized.{typeInitialized}
+use Rattle.marked_cases.specs.MarkedCases.{AllHold, pairs, text, example, littleEndian, exampleFile, exampleText, documented, markedCases}
+
+pub all-hold : AllHold markedCases
+unfolding pairs text example littleEndian exampleFile exampleText documented markedCases ascii same begins MSels Path·ToString Primitive·ToString Type·ToString isGlobal soundPath isIntersection isNamed isEmpty sound IND indent SeqToString isEmptyText GatherSimpleQuotes DocStringPrefix atFence atLineStart atSpace convertBody convertUpTo ConvertDocstring ToDocstringPrefix Visibility·ToString Attribute·ToStringMultiple TypeParamDecl·ToStringMultiple Expand isUnderscore Formal·ToString Field·ToString separatorText beginSpace endSpace Fields·ToString structFieldsText Struct·ToString Declaration·ToString mapAnswer unless readWord readBelow readNames whole checkLevel overlong goodPairs checkTables fixedNames pairBytes nameBytes readPath pathHead headAfter readHead primitives rootOf pathOf sizeOf readTypes readNode readType typeOf readList readCounted visibilityOf readVisibility readName readFormal readField readFields readStruct declarationAfter readDeclaration declarationOf tokenWord primitiveWord rootWord names pathTokens count tokens words encode renamedPath renamed treeOf sameToken sameTokens sameType sameBy Replace ruled depth peak readRule readRules amongRules repeated checkAll distinct rulesOf mappingOf runs attributesTokens titleTokens heading front typeText declarationText numbersAt describedText fileText decimal refusalLine printed printedFile typeIsSound visitedFrom visited visitedPieces entered visitedDeclaration typeVisits declarationVisits samePath dafny_runtime inRuntime ObjectPath PtrPath onPath applied typeIn argument unsized when andThen orElse IsObject IsPointer IsObjectOrPointer isNumber IsAutoSize expandedAt expanded ExpandAt MaybeUninitType PtrType orThis newUnderlying TypeAtInitialization spanOf spanIn partOf partWords laidDown ruledBy typeRebuilt typeInitialized
+all-hold = (refl, (refl, (refl, (refl, (refl, (refl, (refl, (refl, (refl, (refl, (refl, (refl, (refl, (refl, (refl, (refl, (refl, (refl, (refl, (refl, (refl, (refl, (refl, (refl, tt))))))))))))))))))))))))
