@@ -1,6 +1,7 @@
 //! Finds the static library with the proved calls and has it linked.
 
 use std::env;
+use std::io::ErrorKind;
 use std::path::{Path, PathBuf};
 use std::process::Command;
 
@@ -16,6 +17,11 @@ fn main() {
     println!("cargo:rerun-if-changed={}", folder.join(ARCHIVE).display());
     println!("cargo:rustc-link-search=native={}", folder.display());
     println!("cargo:rustc-link-lib=static=capi");
+    // For the test that links a C program with the same archive.
+    println!(
+        "cargo:rustc-env=TILLERCORAL_ARCHIVE={}",
+        folder.join(ARCHIVE).display()
+    );
 }
 
 /// A folder named by the caller is taken as it is: `rt` would not write there.
@@ -57,9 +63,14 @@ fn build_archive(root: &Path) {
         .current_dir(root)
         .output();
     match ended {
+        Err(error) if error.kind() == ErrorKind::NotFound => fail(&format!(
+            "there is no {ARCHIVE} in {}, and `rt`, which would build it, is not on the path.\n\
+             Put the Rattle toolchain on the path, or build the archive elsewhere with \
+             `rt staticlib capi` and set {FOLDER_VARIABLE} to its folder.",
+            root.join("target").join("staticlib").display()
+        )),
         Err(error) => fail(&format!(
-            "cannot run `rt staticlib capi` in {}: {error}; \
-             build the archive elsewhere and set {FOLDER_VARIABLE} to its folder",
+            "cannot run `rt staticlib capi` in {}: {error}",
             root.display()
         )),
         Ok(output) if !output.status.success() => fail(&format!(

@@ -44,7 +44,7 @@ fn main() {
 fn text_of(sample: &EncodingBuf, level: u32) -> Vec<u8> {
     reference::read_declaration(&sample.as_encoding())
         .expect("the benchmark's own declarations are accepted")
-        .text(level)
+        .reference_text(level)
 }
 
 fn cases() -> Vec<Case<'static>> {

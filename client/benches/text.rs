@@ -32,7 +32,7 @@ fn main() {
 fn text_of(sample: &EncodingBuf, _level: u32) -> Vec<u8> {
     reference::read_type(&sample.as_encoding())
         .expect("the benchmark's own types are accepted")
-        .text()
+        .reference_text()
 }
 
 fn cases() -> Vec<Case<'static>> {

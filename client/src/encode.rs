@@ -2,7 +2,8 @@
 
 use std::collections::HashMap;
 
-use crate::reference::{DEPTH_LIMIT, FIXED_NAMES, PAIR_LIMIT, TEXT_LIMIT, WORD_LIMIT};
+use crate::decode::pair_names;
+use crate::limits::{DEPTH_LIMIT, FIXED_NAMES, PAIR_LIMIT, RULE_LIMIT, TEXT_LIMIT, WORD_LIMIT};
 use crate::tree::{
     Attribute, Declaration, EnumCase, Fields, Path, Root, Type, TypeParameter, Visibility,
 };
@@ -13,6 +14,17 @@ impl Encoding<'_> {
     /// pairs, the words (all u32, little-endian), the text.
     ///
     /// Half a pair at the end of the table, which no file can hold, is left out.
+    ///
+    /// ```
+    /// use tillercoral::Encoding;
+    ///
+    /// // use ::mm;
+    /// let encoding = Encoding { words: &[28, 1, 0, 1, 16], pairs: &[0, 2], text: b"mm" };
+    /// let file = encoding.to_file();
+    /// assert_eq!(file[..12], [1, 0, 0, 0, 5, 0, 0, 0, 2, 0, 0, 0]);
+    /// assert_eq!(file[12 + 2 * 4 + 5 * 4..], *b"mm");
+    /// ```
+    #[must_use]
     pub fn to_file(&self) -> Vec<u8> {
         let (pairs, _half) = self.pairs.as_chunks::<2>();
         let header = [pairs.len(), self.words.len(), self.text.len()];
@@ -29,20 +41,14 @@ impl Encoding<'_> {
 /// An encoding that owns its parts.
 ///
 /// ```
-/// use tillercoral::tree::{Declaration, Field, Fields, Struct, Type, Visibility};
+/// use tillercoral::tree::{Declaration, Field, Struct, Type};
 /// use tillercoral::{declaration_text, EncodingBuf};
 ///
-/// let declaration = Declaration::Struct(Struct {
-///     doc: b"Depth under the keel.".to_vec(),
-///     attributes: vec![],
-///     name: b"Sounding".to_vec(),
-///     parameters: vec![],
-///     fields: Fields::Named(vec![Field {
-///         visibility: Visibility::Pub,
-///         name: b"millimetres".to_vec(),
-///         field_type: Type::U32,
-///     }]),
-/// });
+/// let declaration = Declaration::from(
+///     Struct::new("Sounding")
+///         .doc("Depth under the keel.")
+///         .field(Field::public("millimetres", Type::U32)),
+/// );
 /// let encoding = EncodingBuf::from_declaration(&declaration)?;
 /// assert_eq!(encoding.words, [25, 17, 0, 16, 0, 0, 1, 0, 18, 2]);
 ///
@@ -54,7 +60,7 @@ impl Encoding<'_> {
 /// );
 /// # Ok::<(), tillercoral::Refusal>(())
 /// ```
-#[derive(Clone, Debug, Default, PartialEq, Eq)]
+#[derive(Clone, Debug, Default, PartialEq, Eq, Hash)]
 pub struct EncodingBuf {
     /// The tree, head first.
     pub words: Vec<u32>,
@@ -67,6 +73,16 @@ pub struct EncodingBuf {
 impl EncodingBuf {
     /// The encoding of a type, or [`Refusal::Overlong`] or [`Refusal::TooDeep`] if no encoding has
     /// room for it.
+    ///
+    /// ```
+    /// use tillercoral::tree::Type;
+    /// use tillercoral::EncodingBuf;
+    ///
+    /// let encoding = EncodingBuf::from_type(&Type::array(Type::named("Depth"), "16"))?;
+    /// assert_eq!(encoding.words, [22, 17, 12, 17]); // a size is its name's number and 1
+    /// assert_eq!(encoding.text, b"16Depth");
+    /// # Ok::<(), tillercoral::Refusal>(())
+    /// ```
     pub fn from_type(tree: &Type) -> Result<EncodingBuf, Refusal> {
         let mut maker = Maker::default();
         maker.put_type(tree, 1)?;
@@ -74,6 +90,15 @@ impl EncodingBuf {
     }
 
     /// The encoding of a path, or [`Refusal::Overlong`] if no encoding has room for it.
+    ///
+    /// ```
+    /// use tillercoral::tree::Path;
+    /// use tillercoral::EncodingBuf;
+    ///
+    /// let encoding = EncodingBuf::from_path(&Path::in_crate(["nmea", "Rc"]))?;
+    /// assert_eq!(encoding.words, [1, 2, 16, 3]); // Rc is among the fixed names
+    /// # Ok::<(), tillercoral::Refusal>(())
+    /// ```
     pub fn from_path(tree: &Path) -> Result<EncodingBuf, Refusal> {
         let mut maker = Maker::default();
         maker.put_path(tree);
@@ -91,7 +116,43 @@ impl EncodingBuf {
         maker.finish()
     }
 
+    /// The words of a list of rules, each what is replaced and what it is replaced by. The names
+    /// that the rules need and the tree does not have are added to the pairs and the text.
+    ///
+    /// More than 32 rules are refused as the library would, with [`Refusal::UnknownWord`]; names
+    /// that the table has no room for with [`Refusal::Overlong`]. The encoding then stays as it is.
+    ///
+    /// ```
+    /// use tillercoral::tree::Type;
+    /// use tillercoral::{type_rebuild, EncodingBuf};
+    ///
+    /// let mut encoding = EncodingBuf::from_type(&Type::slice(Type::named("Depth")))?;
+    /// let rules = encoding.encode_rules(&[(Type::named("Depth"), Type::named("Height"))])?;
+    /// assert_eq!(rules, [1, 12, 16, 12, 17]);
+    /// assert_eq!(encoding.text, b"DepthHeight");
+    ///
+    /// let mut buffer = [0; 8];
+    /// let length = type_rebuild(&encoding.as_encoding(), &rules, &mut buffer)?;
+    /// assert_eq!(buffer[..length], [22, 0, 12, 17]);
+    /// # Ok::<(), tillercoral::Refusal>(())
+    /// ```
+    pub fn encode_rules(&mut self, rules: &[(Type, Type)]) -> Result<Vec<u32>, Refusal> {
+        if rules.len() > RULE_LIMIT {
+            return Err(Refusal::UnknownWord);
+        }
+        let mut maker = Maker::with_names_of(&self.as_encoding())?;
+        maker.put_count(rules);
+        for (from, to) in rules {
+            maker.put_type(from, 1)?;
+            maker.put_type(to, 1)?;
+        }
+        let made = maker.finish()?;
+        (self.pairs, self.text) = (made.pairs, made.text);
+        Ok(made.words)
+    }
+
     /// The encoding, borrowed for a call.
+    #[must_use]
     pub fn as_encoding(&self) -> Encoding<'_> {
         Encoding {
             words: &self.words,
@@ -101,8 +162,46 @@ impl EncodingBuf {
     }
 
     /// The file that the program `printdecl` reads; see [`Encoding::to_file`].
+    #[must_use]
     pub fn to_file(&self) -> Vec<u8> {
         self.as_encoding().to_file()
+    }
+}
+
+impl<'a> From<&'a EncodingBuf> for Encoding<'a> {
+    fn from(owned: &'a EncodingBuf) -> Encoding<'a> {
+        owned.as_encoding()
+    }
+}
+
+impl From<&Encoding<'_>> for EncodingBuf {
+    fn from(borrowed: &Encoding<'_>) -> EncodingBuf {
+        EncodingBuf {
+            words: borrowed.words.to_vec(),
+            pairs: borrowed.pairs.to_vec(),
+            text: borrowed.text.to_vec(),
+        }
+    }
+}
+
+impl Type {
+    /// The encoding of the type, as [`EncodingBuf::from_type`] makes it.
+    pub fn encode(&self) -> Result<EncodingBuf, Refusal> {
+        EncodingBuf::from_type(self)
+    }
+}
+
+impl Path {
+    /// The encoding of the path, as [`EncodingBuf::from_path`] makes it.
+    pub fn encode(&self) -> Result<EncodingBuf, Refusal> {
+        EncodingBuf::from_path(self)
+    }
+}
+
+impl Declaration {
+    /// The encoding of the declaration, as [`EncodingBuf::from_declaration`] makes it.
+    pub fn encode(&self) -> Result<EncodingBuf, Refusal> {
+        EncodingBuf::from_declaration(self)
     }
 }
 
@@ -115,6 +214,17 @@ struct Maker {
 }
 
 impl Maker {
+    /// No words yet, and the names of an encoding.
+    fn with_names_of(encoding: &Encoding<'_>) -> Result<Maker, Refusal> {
+        let mut maker = Maker::default();
+        for (number, name) in (FIXED_NAMES.len() as u32..).zip(pair_names(encoding)?) {
+            maker.numbers.entry(name.to_vec()).or_insert(number);
+        }
+        maker.made.pairs.extend(encoding.pairs);
+        maker.made.text.extend(encoding.text);
+        Ok(maker)
+    }
+
     /// The limits are tested once, at the end: a tree in memory is never so large that the words
     /// before the test would matter.
     fn finish(self) -> Result<EncodingBuf, Refusal> {
@@ -176,81 +286,60 @@ impl Maker {
         if depth > DEPTH_LIMIT {
             return Err(Refusal::TooDeep);
         }
-        let below = depth + 1;
-        match tree {
-            Type::U8 => self.put(0),
-            Type::U16 => self.put(1),
-            Type::U32 => self.put(2),
-            Type::U64 => self.put(3),
-            Type::U128 => self.put(4),
-            Type::I8 => self.put(5),
-            Type::I16 => self.put(6),
-            Type::I32 => self.put(7),
-            Type::I64 => self.put(8),
-            Type::I128 => self.put(9),
-            Type::Usize => self.put(10),
-            Type::Bool => self.put(11),
-            Type::Identifier(name) => {
-                self.put(12);
-                self.put_name(name);
-            }
-            Type::FromPath(path) => {
-                self.put(13);
-                self.put_path(path);
-            }
-            Type::App { base, arguments } => {
-                self.put(14);
-                self.put_count(arguments);
-                self.put_type(base, below)?;
-                self.put_types(arguments, below)?;
-            }
-            Type::Borrowed(underlying) => self.put_one(15, underlying, below)?,
-            Type::BorrowedMut(underlying) => self.put_one(16, underlying, below)?,
-            Type::Impl(underlying) => self.put_one(17, underlying, below)?,
-            Type::Dyn(underlying) => self.put_one(18, underlying, below)?,
-            Type::Tuple(arguments) => {
-                self.put(19);
-                self.put_count(arguments);
-                self.put_types(arguments, below)?;
-            }
-            Type::Fn { arguments, result } => {
-                self.put(20);
-                self.put_count(arguments);
-                self.put_types(arguments, below)?;
-                self.put_type(result, below)?;
-            }
-            Type::Intersection { left, right } => {
-                self.put_one(21, left, below)?;
-                self.put_type(right, below)?;
-            }
-            Type::Array { element, size } => {
-                self.put(22);
-                let size = match size {
-                    None => 0,
-                    Some(size) => self.number(size) + 1,
-                };
-                self.put_one(size, element, below)?;
-            }
-            Type::Synonym { display, base } => {
-                self.put_one(23, display, below)?;
-                self.put_type(base, below)?;
-            }
-            Type::MetaData {
-                display,
-                copy_semantics,
-                overflow,
-            } => {
-                self.put(24);
-                let flags = u32::from(*copy_semantics) + 2 * u32::from(*overflow);
-                self.put_one(flags, display, below)?;
-            }
-        }
-        Ok(())
+        self.put(kind(tree));
+        self.put_own_words(tree);
+        self.put_children(tree, depth + 1)
     }
 
-    fn put_one(&mut self, word: u32, child: &Type, depth: usize) -> Result<(), Refusal> {
+    /// The words between a type's kind and the types inside it.
+    fn put_own_words(&mut self, tree: &Type) {
+        match tree {
+            Type::Identifier(name) => self.put_name(name),
+            Type::FromPath(path) => self.put_path(path),
+            Type::App { arguments, .. } | Type::Tuple(arguments) | Type::Fn { arguments, .. } => {
+                self.put_count(arguments);
+            }
+            Type::Array { size, .. } => self.put_size(size.as_deref()),
+            Type::MetaData {
+                copy_semantics,
+                overflow,
+                ..
+            } => self.put(u32::from(*copy_semantics) + 2 * u32::from(*overflow)),
+            _ => {}
+        }
+    }
+
+    /// The types inside a type, all at the same depth.
+    fn put_children(&mut self, tree: &Type, depth: usize) -> Result<(), Refusal> {
+        match tree {
+            Type::App { base, arguments } => {
+                self.put_type(base, depth)?;
+                self.put_types(arguments, depth)
+            }
+            Type::Borrowed(of) | Type::BorrowedMut(of) | Type::Impl(of) | Type::Dyn(of) => {
+                self.put_type(of, depth)
+            }
+            Type::Tuple(types) => self.put_types(types, depth),
+            Type::Fn { arguments, result } => {
+                self.put_types(arguments, depth)?;
+                self.put_type(result, depth)
+            }
+            Type::Intersection { left, right } => self.put_both(left, right, depth),
+            Type::Array { element, .. } => self.put_type(element, depth),
+            Type::Synonym { display, base } => self.put_both(display, base, depth),
+            Type::MetaData { display, .. } => self.put_type(display, depth),
+            _ => Ok(()),
+        }
+    }
+
+    fn put_both(&mut self, first: &Type, second: &Type, depth: usize) -> Result<(), Refusal> {
+        self.put_type(first, depth)?;
+        self.put_type(second, depth)
+    }
+
+    fn put_size(&mut self, size: Option<&[u8]>) {
+        let word = size.map_or(0, |size| self.number(size) + 1);
         self.put(word);
-        self.put_type(child, depth)
     }
 
     fn put_declaration(&mut self, tree: &Declaration) -> Result<(), Refusal> {
@@ -344,6 +433,37 @@ impl Maker {
     }
 }
 
+/// The word that a type begins with.
+fn kind(tree: &Type) -> u32 {
+    match tree {
+        Type::U8 => 0,
+        Type::U16 => 1,
+        Type::U32 => 2,
+        Type::U64 => 3,
+        Type::U128 => 4,
+        Type::I8 => 5,
+        Type::I16 => 6,
+        Type::I32 => 7,
+        Type::I64 => 8,
+        Type::I128 => 9,
+        Type::Usize => 10,
+        Type::Bool => 11,
+        Type::Identifier(_) => 12,
+        Type::FromPath(_) => 13,
+        Type::App { .. } => 14,
+        Type::Borrowed(_) => 15,
+        Type::BorrowedMut(_) => 16,
+        Type::Impl(_) => 17,
+        Type::Dyn(_) => 18,
+        Type::Tuple(_) => 19,
+        Type::Fn { .. } => 20,
+        Type::Intersection { .. } => 21,
+        Type::Array { .. } => 22,
+        Type::Synonym { .. } => 23,
+        Type::MetaData { .. } => 24,
+    }
+}
+
 #[cfg(test)]
 mod tests {
     use super::*;
@@ -382,7 +502,7 @@ mod tests {
 
     #[test]
     fn equal_names_share_a_pair() {
-        let path = Path::in_crate(&["nmea", "std", "nmea", "", "Sentence"]);
+        let path = Path::in_crate(["nmea", "std", "nmea", "", "Sentence"]);
         let made = EncodingBuf::from_path(&path).unwrap();
         assert_eq!(made.words, [1, 5, 16, 1, 16, 0, 17]);
         assert_eq!(made.pairs, [0, 4, 4, 8]);

@@ -8,7 +8,7 @@ use crate::Encoding;
 pub(crate) mod rebuild;
 pub(crate) mod walks;
 
-extern "C" {
+unsafe extern "C" {
     fn tillercoral_type_text(
         words: *const u32,
         words_len: usize,

@@ -1,11 +1,31 @@
 //! Safe calls of Tillercoral, a proved printer of Rust types and declarations.
 //!
-//! A type, a path or a declaration is given as an [`Encoding`]: a tree written head first in `u32`
-//! words, and the names it uses. Each call hands the encoding to the proved static library and
-//! turns its answer into a `Result`; nothing is copied or checked on the way.
+//! Build a [tree] and print it:
 //!
-//! Encodings can be written by hand, as below, made from a [`tree`] with [`EncodingBuf`], or from
-//! the text form of [`source`].
+//! ```
+//! use tillercoral::tree::{Declaration, Field, Struct, Type};
+//!
+//! let gauge = Declaration::from(
+//!     Struct::new("Gauge")
+//!         .doc("Offset in mm.")
+//!         .field(Field::public("mm", Type::I32)),
+//! );
+//! assert_eq!(
+//!     gauge.to_text(0)?,
+//!     "/// Offset in mm.\npub struct Gauge {\n    pub mm: i32\n}"
+//! );
+//! # Ok::<(), tillercoral::TextError>(())
+//! ```
+//!
+//! The library itself takes an [`Encoding`]: the tree written head first in `u32` words, and the
+//! names it uses. An [`EncodingBuf`] is made from a tree, and a tree is decoded from an encoding
+//! ([`tree::Type::decode`]). There are two layers of calls:
+//!
+//! - The methods of trees ([`tree::Type::to_text`], [`tree::Declaration::rebuild`], ..) and of
+//!   encodings ([`Encoding::type_text`], ..) allocate what they give.
+//! - The functions of this module, one for each exported call, hand the encoding and the caller's
+//!   buffer to the proved static library and turn its answer into a `Result`. They copy, check and
+//!   allocate nothing.
 //!
 //! ```
 //! use tillercoral::{type_text, Encoding};
@@ -21,15 +41,21 @@
 //! assert_eq!(&buffer[..length], b"Gauge<u8>");
 //! # Ok::<(), tillercoral::Refusal>(())
 //! ```
+//!
+//! Every call may be refused; [`Refusal`] says why, with the library's number. No call panics or
+//! keeps anything for the next one, so all of them can be made from any number of threads.
 
 #![deny(unsafe_code)]
 #![warn(missing_docs)]
 
 #[doc(hidden)]
 pub mod cases;
+mod decode;
 mod encode;
 #[allow(unsafe_code)]
 mod ffi;
+pub mod limits;
+mod owned;
 mod part;
 mod rebuild;
 mod refusal;
@@ -45,11 +71,13 @@ pub mod reference;
 #[doc(hidden)]
 pub mod tuned;
 
+pub use decode::DecodeError;
 pub use encode::EncodingBuf;
+pub use owned::TextError;
 pub use part::{
     box_dyn_underlying, box_underlying, expand, extract_maybe_placebo,
     extract_maybe_uninit_array_element, get_builtin_collection_element, multi_array_underlying,
-    object_or_pointer_underlying, rc_underlying, remove_synonyms, to_owned,
+    object_or_pointer_underlying, rc_underlying, remove_synonyms, to_owned, Part,
 };
 pub use rebuild::{declaration_rebuild, type_at_initialization, type_rebuild};
 pub use refusal::Refusal;
@@ -57,15 +85,35 @@ pub use shape::{
     can_read_without_clone, ends_with_name_that_can_accept_generics, is_auto_size, is_box,
     is_box_dyn, is_builtin_collection, is_maybe_uninit, is_multi_array, is_object,
     is_object_or_pointer, is_pointer, is_rc, is_rc_or_borrowed_rc, is_uninit_array,
-    needs_as_ref_for_borrow,
+    needs_as_ref_for_borrow, Shape,
 };
 pub use visit::{declaration_visit, type_visit};
+
+/// The examples of the package's README, for `cargo test` to run.
+#[cfg(doctest)]
+#[doc = include_str!("../README.md")]
+struct ReadmeExamples;
 
 /// A tree and the names it uses.
 ///
 /// Name numbers 0 to 15 are fixed (empty, `std`, `rc`, `Rc`, `sync`, `Arc`, `boxed`, `Box`, `mem`,
 /// `MaybeUninit`, `dafny_runtime`, `Object`, `Ptr`, `MaybePlacebo`, `_`, `self`); 16 + i is pair i.
-#[derive(Clone, Copy, Debug, PartialEq, Eq)]
+///
+/// ```
+/// use tillercoral::tree::{Path, Type};
+/// use tillercoral::Encoding;
+///
+/// // `&mut crate::Gauge`: 16 is `&mut`, 13 a path, 1 1 begins it with `crate` and says that one
+/// // name follows, and 16 is that name, pair 0.
+/// let encoding = Encoding {
+///     words: &[16, 13, 1, 1, 16],
+///     pairs: &[0, 5],
+///     text: b"Gauge",
+/// };
+/// let tree = Type::borrowed_mut(Path::in_crate(["Gauge"]).into_type());
+/// assert_eq!(Type::decode(&encoding), Ok(tree));
+/// ```
+#[derive(Clone, Copy, Debug, Default, PartialEq, Eq, Hash)]
 pub struct Encoding<'a> {
     /// The tree, head first; at most 8,192 words.
     pub words: &'a [u32],

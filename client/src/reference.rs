@@ -61,16 +61,16 @@ mod visit;
 
 pub fn type_text(encoding: &Encoding<'_>, level: u32, out: &mut [u8]) -> Result<usize, Refusal> {
     check_level(level)?;
-    deliver(&read_type(encoding)?.text(), out)
+    deliver(&read_type(encoding)?.reference_text(), out)
 }
 
 pub fn path_text(encoding: &Encoding<'_>, level: u32, out: &mut [u8]) -> Result<usize, Refusal> {
     check_level(level)?;
-    deliver(&read_path(encoding)?.text(), out)
+    deliver(&read_path(encoding)?.reference_text(), out)
 }
 
 pub fn type_is_sound(encoding: &Encoding<'_>) -> Result<bool, Refusal> {
-    Ok(read_type(encoding)?.is_sound())
+    Ok(tree_is_sound(&read_type(encoding)?))
 }
 
 fn check_level(level: u32) -> Result<(), Refusal> {
@@ -287,7 +287,7 @@ impl Reader<'_> {
 
 #[doc(hidden)]
 impl Path {
-    pub fn text(&self) -> Vec<u8> {
+    pub fn reference_text(&self) -> Vec<u8> {
         let mut text = Vec::new();
         self.append_text(&mut text);
         text
@@ -308,7 +308,7 @@ impl Path {
 
 #[doc(hidden)]
 impl Type {
-    pub fn text(&self) -> Vec<u8> {
+    pub fn reference_text(&self) -> Vec<u8> {
         let mut text = Vec::new();
         self.append_text(&mut text);
         text
@@ -404,11 +404,13 @@ fn append_joined(types: &[Type], text: &mut Vec<u8>) {
 #[doc(hidden)]
 impl Type {
     /// The tree with every wrapper replaced by its display, at all depths.
-    pub fn bare(&self) -> Type {
-        let bare = |inner: &Type| Box::new(inner.bare());
-        let all_bare = |types: &[Type]| types.iter().map(Type::bare).collect();
+    pub fn reference_bare(&self) -> Type {
+        let bare = |inner: &Type| Box::new(inner.reference_bare());
+        let all_bare = |types: &[Type]| types.iter().map(Type::reference_bare).collect();
         match self {
-            Type::Synonym { display, .. } | Type::MetaData { display, .. } => display.bare(),
+            Type::Synonym { display, .. } | Type::MetaData { display, .. } => {
+                display.reference_bare()
+            }
             Type::App { base, arguments } => Type::App {
                 base: bare(base),
                 arguments: all_bare(arguments),
@@ -432,10 +434,6 @@ impl Type {
             },
             plain_or_named => plain_or_named.clone(),
         }
-    }
-
-    pub fn is_sound(&self) -> bool {
-        self.bare().bare_is_sound()
     }
 
     /// Soundness of a tree without wrappers.
@@ -484,6 +482,11 @@ impl Type {
             _ => Vec::new(),
         }
     }
+}
+
+/// Whether a type is sound.
+pub fn tree_is_sound(tree: &Type) -> bool {
+    tree.reference_bare().bare_is_sound()
 }
 
 #[doc(hidden)]

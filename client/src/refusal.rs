@@ -61,6 +61,7 @@ impl Refusal {
     ];
 
     /// The fixed number of this refusal.
+    #[must_use]
     pub const fn number(self) -> u32 {
         match self {
             Refusal::Overlong => 1,
@@ -78,6 +79,7 @@ impl Refusal {
     }
 
     /// The refusal with this number, if there is one.
+    #[must_use]
     pub fn from_number(number: u64) -> Option<Refusal> {
         let index = usize::try_from(number.checked_sub(1)?).ok()?;
         Refusal::ALL.get(index).copied()
@@ -95,9 +97,11 @@ impl Refusal {
             Refusal::EndsEarly => "a word is wanted and none is left",
             Refusal::UnknownWord => "a word is none of those allowed at its place",
             Refusal::TooDeep => "a type begins at depth 65, and the limit is 64",
-            Refusal::LeftOver => "words remain after the tree",
+            Refusal::LeftOver => "words remain after the tree or the rules",
             Refusal::NoSuchPart => "the type lacks the shape asked for",
-            Refusal::BufferTooShort => "the buffer is too short for the result",
+            Refusal::BufferTooShort => {
+                "the buffer is too short for the result, or rebuilding needs more than 8,192 words"
+            }
             Refusal::BadFileLength => "the file has another length than its header says",
             Refusal::RepeatedRule => "two rules replace the same type",
             Refusal::BadLevel => "the level is above 16",

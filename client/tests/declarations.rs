@@ -41,7 +41,7 @@ impl DeclarationTally {
 fn check(encoding: &Encoding<'_>, level: u32, tally: &mut DeclarationTally) {
     let wanted = match reference::read_declaration(encoding) {
         _ if level > 16 => Err(Refusal::BadLevel),
-        tree => tree.map(|tree| tree.text(level)),
+        tree => tree.map(|tree| tree.reference_text(level)),
     };
     tally.answers.count_text(&wanted);
     if wanted.is_ok() {

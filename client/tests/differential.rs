@@ -17,7 +17,7 @@ fn check_type(encoding: &Encoding<'_>, level: u32, tally: &mut Tally) {
     let tree = reference::read_type(encoding);
     let wanted = match &tree {
         _ if level > 16 => Err(Refusal::BadLevel),
-        Ok(tree) => Ok(tree.text()),
+        Ok(tree) => Ok(tree.reference_text()),
         Err(refusal) => Err(*refusal),
     };
     tally.count_text(&wanted);
@@ -35,7 +35,7 @@ fn check_type(encoding: &Encoding<'_>, level: u32, tally: &mut Tally) {
         &wanted,
     );
 
-    let wanted_sound = tree.map(|tree| tree.is_sound());
+    let wanted_sound = tree.map(|tree| reference::tree_is_sound(&tree));
     match wanted_sound {
         Ok(true) => tally.sound += 1,
         Ok(false) => tally.unsound += 1,
@@ -48,7 +48,7 @@ fn check_type(encoding: &Encoding<'_>, level: u32, tally: &mut Tally) {
 fn check_path(encoding: &Encoding<'_>, level: u32, tally: &mut Tally) {
     let wanted = match reference::read_path(encoding) {
         _ if level > 16 => Err(Refusal::BadLevel),
-        path => path.map(|path| path.text()),
+        path => path.map(|path| path.reference_text()),
     };
     tally.count_text(&wanted);
     for length in buffer_lengths(&wanted) {
@@ -316,7 +316,7 @@ fn texts_of_sound_types_are_unique() {
         let text = buffer[..length].to_vec();
         let tree = reference::read_type(&sample.as_encoding())
             .expect("accepted")
-            .bare();
+            .reference_bare();
         match text_of.entry(tree.clone()) {
             Entry::Vacant(entry) => {
                 entry.insert(text.clone());

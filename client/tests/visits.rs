@@ -156,7 +156,18 @@ fn all_short_types() {
     tally.assert_met(1_000, &[3, 4, 6]);
 }
 
-/// A list of 8,191 positions is the longest there is.
+/// Pushes a tree of intersections with so many leaves.
+fn halves(words: &mut Vec<u32>, leaves: usize) {
+    if leaves == 1 {
+        words.push(0);
+    } else {
+        words.push(21);
+        halves(words, leaves / 2);
+        halves(words, leaves - leaves / 2);
+    }
+}
+
+/// 8,191 positions by a tuple; 8,192, as many as words, by `&` before a tree of intersections.
 #[test]
 fn longest_lists() {
     let mut tally = Tally::default();
@@ -170,8 +181,12 @@ fn longest_lists() {
         words.resize(10 + 2 * (count as usize / 2 - 4), 1);
         check_declaration(&bare(&words), &mut tally);
     }
+    let mut full = vec![15];
+    halves(&mut full, 4_096);
+    assert_eq!(full.len(), 8_192);
+    check_type(&bare(&full), &mut tally);
     println!("{tally:?}");
-    assert!(tally.lists == 5 && tally.refused[1] == 1);
+    assert!(tally.lists == 6 && tally.refused[1] == 1);
 }
 
 fn check_by_hand(call: VisitCall, cases: &[WordCase]) {

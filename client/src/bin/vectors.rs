@@ -160,7 +160,8 @@ impl Vectors {
 
     /// The text of a declaration with a few bytes to spare.
     fn declaration(&mut self, level: u32, encoding: &Encoding<'_>) {
-        let length = reference::read_declaration(encoding).map_or(0, |it| it.text(level).len());
+        let length =
+            reference::read_declaration(encoding).map_or(0, |it| it.reference_text(level).len());
         self.declaration_text(level, encoding, (length + 3).min(MOST_BUFFER));
     }
 
@@ -203,7 +204,7 @@ impl Vectors {
 
     /// Text with a few bytes to spare, and soundness.
     fn type_both(&mut self, encoding: &Encoding<'_>) {
-        let length = reference::read_type(encoding).map_or(0, |tree| tree.text().len());
+        let length = reference::read_type(encoding).map_or(0, |tree| tree.reference_text().len());
         self.type_text(0, encoding, (length + 3).min(MOST_BUFFER));
         self.sound(encoding);
     }
@@ -404,7 +405,7 @@ fn soundness(vectors: &mut Vectors) {
 
 fn buffers_and_levels(vectors: &mut Vectors) {
     let words = [14, 2, 12, 16, 19, 2, 0, 1, 22, 19, 15, 11];
-    let length = reference::read_type(&gauge(&words)).map_or(0, |tree| tree.text().len());
+    let length = reference::read_type(&gauge(&words)).map_or(0, |tree| tree.reference_text().len());
     for buffer in [0, 1, length - 1, length, length + 1, 2 * length] {
         vectors.type_text(0, &gauge(&words), buffer);
     }
@@ -721,8 +722,8 @@ fn generated(vectors: &mut Vectors) {
         if round % 4 == 3 {
             damage(random, &mut sample);
         }
-        let length =
-            reference::read_type(&sample.as_encoding()).map_or(8, |tree| tree.text().len());
+        let length = reference::read_type(&sample.as_encoding())
+            .map_or(8, |tree| tree.reference_text().len());
         let buffer = match round % 6 {
             5 => length.saturating_sub(1),
             4 => length,
@@ -786,7 +787,8 @@ const WHOLE: [&[u32]; 24] = [
 ];
 
 fn declarations(vectors: &mut Vectors) {
-    let length = reference::read_declaration(&gauge(&GAUGE_WORDS)).map_or(0, |it| it.text(0).len());
+    let length = reference::read_declaration(&gauge(&GAUGE_WORDS))
+        .map_or(0, |it| it.reference_text(0).len());
     for buffer in [0, 1, length - 1, length, length + 1, 2 * length] {
         vectors.declaration_text(0, &gauge(&GAUGE_WORDS), buffer);
     }

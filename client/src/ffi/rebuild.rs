@@ -2,7 +2,7 @@
 
 use crate::Encoding;
 
-extern "C" {
+unsafe extern "C" {
     fn tillercoral_type_rebuild(
         words: *const u32,
         words_len: usize,

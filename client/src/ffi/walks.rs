@@ -2,7 +2,7 @@
 
 use crate::Encoding;
 
-extern "C" {
+unsafe extern "C" {
     fn tillercoral_type_visit(
         words: *const u32,
         words_len: usize,
@@ -61,7 +61,7 @@ pub(crate) fn declaration_visit(e: &Encoding<'_>, out: &mut [u32]) -> u64 {
 /// Calls that take an encoding and nothing else: for each its exported name, and the name here.
 macro_rules! encoding_calls {
     ($($exported:ident as $name:ident;)*) => {
-        extern "C" {
+        unsafe extern "C" {
             $(
                 fn $exported(
                     words: *const u32,

@@ -17,7 +17,7 @@ pub fn declaration_text(
     out: &mut [u8],
 ) -> Result<usize, Refusal> {
     check_level(level)?;
-    deliver(&read_declaration(encoding)?.text(level), out)
+    deliver(&read_declaration(encoding)?.reference_text(level), out)
 }
 
 // From words to a tree.
@@ -155,7 +155,7 @@ impl Reader<'_> {
 
 #[doc(hidden)]
 impl Declaration {
-    pub fn text(&self, level: u32) -> Vec<u8> {
+    pub fn reference_text(&self, level: u32) -> Vec<u8> {
         let indent = IND.repeat(level as usize);
         let mut text = Vec::new();
         match self {
@@ -418,10 +418,13 @@ mod tests {
         };
         let wanted =
             b"/// Offset in mm.\npub struct Gauge {\n    pub mm: i32,\n    id: &u8\n}".to_vec();
-        assert_eq!(read_declaration(&encoding).unwrap().text(0), wanted);
+        assert_eq!(
+            read_declaration(&encoding).unwrap().reference_text(0),
+            wanted
+        );
         let level_2 = b"/// Offset in mm.\n        pub struct Gauge {\n            pub mm: i32,\n            id: &u8\n        }";
         assert_eq!(
-            read_declaration(&encoding).unwrap().text(2),
+            read_declaration(&encoding).unwrap().reference_text(2),
             level_2.to_vec()
         );
         let mut buffer = vec![b'.'; wanted.len() + 1];

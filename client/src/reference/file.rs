@@ -39,7 +39,7 @@ fn declaration_of_file(file: &[u8]) -> Result<Vec<u8>, Refusal> {
         pairs: &numbers(pairs).collect::<Vec<_>>(),
         text,
     })?;
-    let text = declaration.text(0);
+    let text = declaration.reference_text(0);
     if text.len() > PRINT_LIMIT {
         return Err(Refusal::BufferTooShort);
     }

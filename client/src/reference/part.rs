@@ -117,10 +117,10 @@ impl Type {
 
     fn extract_maybe_uninit_array_element(&self) -> Option<&Type> {
         let array = self.object_or_pointer_underlying()?; // not expanded
-        if let Type::Array { element, .. } = array {
-            if let Some(inside) = element.sole_argument_of(&MAYBE_UNINIT) {
-                return Some(inside);
-            }
+        if let Type::Array { element, .. } = array
+            && let Some(inside) = element.sole_argument_of(&MAYBE_UNINIT)
+        {
+            return Some(inside);
         }
         let element = array.multi_array_underlying()?;
         element.sole_argument_of(&MAYBE_UNINIT)

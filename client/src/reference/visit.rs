@@ -6,11 +6,11 @@ use crate::tree::{Declaration, Type};
 use crate::{Encoding, Refusal};
 
 pub fn type_visit(encoding: &Encoding<'_>, out: &mut [u32]) -> Result<usize, Refusal> {
-    deliver(&read_type(encoding)?.visits(), out)
+    deliver(&read_type(encoding)?.reference_visits(), out)
 }
 
 pub fn declaration_visit(encoding: &Encoding<'_>, out: &mut [u32]) -> Result<usize, Refusal> {
-    deliver(&read_declaration(encoding)?.visits(), out)
+    deliver(&read_declaration(encoding)?.reference_visits(), out)
 }
 
 fn deliver(visits: &[u32], out: &mut [u32]) -> Result<usize, Refusal> {
@@ -24,7 +24,7 @@ fn deliver(visits: &[u32], out: &mut [u32]) -> Result<usize, Refusal> {
 #[doc(hidden)]
 impl Type {
     /// The positions of the types visited when the type starts at word 0.
-    pub fn visits(&self) -> Vec<u32> {
+    pub fn reference_visits(&self) -> Vec<u32> {
         let mut visits = Vec::new();
         self.fold_from(0, &mut visits);
         visits
@@ -50,7 +50,7 @@ impl Declaration {
     /// The positions of the types visited. The bodies go through parameters, cases and the target
     /// in the order of the words; `VisitStructMapping` leaves the fields out, and `VisitUse` has
     /// nothing to visit.
-    pub fn visits(&self) -> Vec<u32> {
+    pub fn reference_visits(&self) -> Vec<u32> {
         let mut visits = Vec::new();
         for found in types_of(self) {
             match found.role {

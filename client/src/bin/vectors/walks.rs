@@ -160,10 +160,11 @@ fn generated_visits(vectors: &mut Vectors) {
         }
         let short = usize::from(round % 5 == 4);
         let encoding = tree.as_encoding();
-        let count = reference::read_type(&encoding).map_or(2, |it| it.visits().len());
+        let count = reference::read_type(&encoding).map_or(2, |it| it.reference_visits().len());
         vectors.type_visit(&encoding, (count + 2 - 3 * short).min(400));
         let encoding = declaration.as_encoding();
-        let count = reference::read_declaration(&encoding).map_or(2, |it| it.visits().len());
+        let count =
+            reference::read_declaration(&encoding).map_or(2, |it| it.reference_visits().len());
         vectors.declaration_visit(&encoding, (count + 2).saturating_sub(3 * short).min(400));
     }
 }
