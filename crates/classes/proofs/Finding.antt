@@ -1,21 +1,39 @@
 -- Where the first argument of an application is found, and what was found.
-use Prim.Native.Nat.{ℕ, _+_, _<_}
-use mathlib.Core.Path.{_≡_, refl, ap, sym, _∙_}
-use mathlib.Core.Bool.{Bool, true, false}
-use mathlib.Core.List.{List}
+use Prim.Native.Nat.{ℕ, _+_, _-_}
+use mathlib.Core.Path.{_≡_, refl, ap, sym, _∙_, subst}
+use mathlib.Core.Bool.{Bool, true, false, not}
+use mathlib.Core.List.{List, [], _∷_}
 use mathlib.Core.Option.{Option, some, none}
+use native.Mathlib.Omega.{arith}
+use denote.Enum.Declared.{tagOf}
+use lib.Dec.{T, ltb}
 use lib.ListN.{length, getD}
+use mir.Val.{hasKey}
+use types.Run.{OneOf, miss}
 use Rattle.rast.specs.Bytes.{Bytes}
-use Rattle.rast.specs.Tree.{Path, Ty, Tys, TypeApp}
+use Rattle.rast.specs.Tree.{Path, Ty, TypeFromPath, TypeApp}
 use Rattle.encoding.specs.declared.PathAt.{PathAt}
-use Rattle.encoding.specs.Tables.{nameBytes}
-use Rattle.encoding.specs.Reading.{Reading, got}
-use Rattle.encoding.specs.Types.{pathOf, typeAt}
+use Rattle.encoding.specs.declared.Refusal.{Refusal}
+use Rattle.encoding.specs.declared.Refusal.the-variants.{EndsEarly}
+use Rattle.encoding.specs.declared.Head.{Head}
+use Rattle.encoding.specs.declared.Head.the-variants.{Plain, Name, FromPath, Apply, Ref, RefMut, Impl, Dyn, Tuple, Function, Both, ArrayOf, Synonym, Meta}
+use Rattle.encoding.specs.declared.HeadScan.{HeadScan}
+use Rattle.encoding.specs.declared.HeadScan.the-variants.{Own, NoHead}
+use Rattle.encoding.specs.Refusals.{pick}
+use Rattle.encoding.specs.Tables.{nameBytes, nameCount}
+use Rattle.encoding.specs.Reading.{Reading, got, stop, readWord}
+use Rattle.encoding.specs.Heads.{headAfter, readHead, InsideHead}
+use Rattle.encoding.specs.Scans.{headScan}
+use Rattle.encoding.specs.Types.{pathOf, readTypes, readNode, readType, typeAt}
+use Rattle.encoding.proofs.Head.{the-type}
 use Rattle.encoding.proofs.Tables.{impossible}
-use Rattle.encoding.proofs.TypeKinds.{type-kind}
+use Rattle.encoding.proofs.Reading.{head-got, head-stop}
+use Rattle.encoding.proofs.Heads.{head-at}
+use Rattle.encoding.proofs.Inside.{head-lies}
+use Rattle.encoding.proofs.Types.{Made₂, made-got, made₂-got, node-of}
+use Rattle.encoding.proofs.TypeKinds.{kind, headKind, head-kind, node-kind}
 use Rattle.writing.specs.Written.{Readable}
-use Rattle.writing.proofs.Accepted.{PathThere, path-type}
-use Rattle.trees.specs.Encode.{count, words}
+use Rattle.trees.specs.Encode.{words}
 use Rattle.trees.specs.Places.{Place, place}
 use Rattle.trees.proofs.Renaming.{type-words}
 use Rattle.trees.proofs.Nodes.{types-count}
@@ -26,85 +44,137 @@ use Rattle.classes.specs.Asked.{Finds, found, isFound, Judges}
 use Rattle.classes.specs.Classes.{inClass, arity, first, isOf}
 use Rattle.classes.specs.Steps.{when, argumentOf}
 use Rattle.classes.proofs.Applying.{first-other, first-count, first-base, first-class, first-is, first-found}
-use Rattle.classes.proofs.Children.{Keeps, apply-of, argument-keeps, when-keeps}
+use Rattle.classes.proofs.Children.{Keeps, argument-keeps, when-keeps}
 
--- ---- the first argument of an application, by the words
+-- ---- heads
 
--- the path whose type stands at p
-abbrev pub pathAt : List ℕ → ℕ → PathAt
-pathAt ws p = record { root = getD ws (p + 1) 0; start = p + 3; count = getD ws (p + 2) 0 }
+-- a head's variant goes by its kind: the first has the kinds 0 to 11, each of the others one
+head-variant : (b : ℕ) (ws : List ℕ) (h : Head) → InsideHead b ws h → tagOf the-type h ≡ headKind h - 11
+head-variant b ws (Plain w) i = omega arith
+head-variant b ws (Name x) i = refl
+head-variant b ws (FromPath p) i = refl
+head-variant b ws (Apply n) i = refl
+head-variant b ws Ref i = refl
+head-variant b ws RefMut i = refl
+head-variant b ws Impl i = refl
+head-variant b ws Dyn i = refl
+head-variant b ws (Tuple n) i = refl
+head-variant b ws (Function n) i = refl
+head-variant b ws Both i = refl
+head-variant b ws (ArrayOf s) i = refl
+head-variant b ws Synonym i = refl
+head-variant b ws (Meta x) i = refl
 
-module _ (ws pairs : List ℕ) (text : Bytes) (at : ℕ) where
+-- the variants but `Apply`, and those but `FromPath`
+abbrev unapplied : List ℕ
+unapplied = 0 ∷ 1 ∷ 2 ∷ 4 ∷ 5 ∷ 6 ∷ 7 ∷ 8 ∷ 9 ∷ 10 ∷ 11 ∷ 12 ∷ 13 ∷ []
+
+abbrev pathless : List ℕ
+pathless = 0 ∷ 1 ∷ 3 ∷ 4 ∷ 5 ∷ 6 ∷ 7 ∷ 8 ∷ 9 ∷ 10 ∷ 11 ∷ 12 ∷ 13 ∷ []
+
+word-next : (ws : List ℕ) (p v : ℕ) {q : ℕ} → readWord ws p ≡ got v q → q ≡ p + 1
+unfolding readWord
+word-next ws p v = go (ltb p (length ws))
+  where
+    go : (t : Bool) {q : ℕ} → pick t (got (getD ws p 0) (p + 1)) (stop EndsEarly) ≡ got v q → q ≡ p + 1
+    go true e = cc
+    go false e = impossible (cc)
+
+-- the head that a scan gave, and the refusal
+module _ (ws : List ℕ) (at : ℕ) {b bound : ℕ} {s : HeadScan} (i : bound ≡ b) (e : s ≡ headScan (readHead bound ws at)) where
+  pub scanned : {h g : Head} {q : ℕ} → s ≡ Own h q → h ≡ g → readHead b ws at ≡ got g q
+  scanned d k = head-got (readHead b ws at) (rw i at e) (rw k at d)
+
+  pub unscanned : {r : Refusal} → s ≡ NoHead r → readHead b ws at ≡ stop r
+  unscanned d = head-stop (readHead b ws at) (rw i at e) d
+
+module _ (b : ℕ) (ws : List ℕ) (at : ℕ) where
+  -- a head whose variant is one of some is of no kind that another variant has
+  other-kind : {h : Head} {q : ℕ} (vs : List ℕ) (k : ℕ) → T (not (hasKey vs (k - 11))) → readHead b ws at ≡ got h q → OneOf vs (tagOf the-type h) → headKind h ≡ k → ⊥
+  other-kind {h} vs k m d o e = miss vs (k - 11) m (subst (OneOf vs) (head-variant b ws h (head-lies b ws at d .own) ∙ ap (λ w. w - 11) e) o)
+
+  -- an application's head ends behind the count
+  apply-end : {k q : ℕ} → readHead b ws at ≡ got (Apply k) q → q ≡ at + 2
+  unfolding headAfter
+  apply-end {k} {q} d =
+      let l = head-lies b ws at d in
+      let a = sym (head-at b ws at (omega (arith, l .starts, l .ends))) ∙ d in
+      let w = head-kind b ws (getD ws at 0) (at + 1) (Apply k) q a in
+      let m = made-got (readWord ws (at + 1)) Apply (rw (← w) at a) in
+      omega (arith, word-next ws (at + 1) (m .value) (m .reads))
+
+-- ---- the first argument of an application, by the heads
+
+module _ (ws pairs : List ℕ) (text : Bytes) where
   abbrev again : ℕ → Reading (Ty Bytes)
   again = typeAt ws pairs text
 
-  -- an application whose base is a path
-  pub record Applies (t : Ty Bytes) (n : ℕ) : Type 0 where
-    pub base : Ty Bytes
-    pub types : Tys Bytes
-    pub middle : ℕ
-    pub reads : again (at + 2) ≡ got base middle
-    pub made : t ≡ TypeApp base types
-    pub counted : count types ≡ getD ws (at + 1) 0
-    pub inside : at + 1 < length ws
+  abbrev headAt : ℕ → Reading Head
+  headAt = readHead (nameCount pairs) ws
 
-  module _ {t : Ty Bytes} {n : ℕ} (e : again at ≡ got t n) (h : getD ws at 0 ≡ 14) where
-    pub application : Applies t n
-    application =
-        let k = apply-of ws pairs text at e h in
-        let m = k .1 in
-        record {
-          base = m .left;
-          types = m .right;
-          middle = m .middle;
-          reads = m .reads;
-          made = m .made;
-          counted = types-count again (getD ws (at + 1) 0) (m .middle) (m .reads₂);
-          inside = k .0;
-        }
+  module _ (at : ℕ) {t : Ty Bytes} {n : ℕ} (e : again at ≡ got t n) where
+    -- a type has a head
+    no-head : {A : Type 0} {r : Refusal} → headAt at ≡ stop r → A
+    unfolding readType
+    no-head d = impossible (cc)
 
-    pub base-path : getD ws (at + 2) 0 ≡ 13 → PathThere ws pairs text (at + 2) (application .reads)
-    base-path k = path-type ws pairs text (at + 2) (application .reads) k
+    kind-by : {h : Head} {q : ℕ} → headAt at ≡ got h q → kind t ≡ headKind h
+    kind-by {h} {q} d = node-kind (nameCount pairs) ws (nameBytes pairs text) again h (head-lies (nameCount pairs) ws at d .own) q t n (node-of ws pairs text at e d)
 
-  module _ (class : Class) where
-    pub argument-other : (getD ws at 0 ≡ 14 → ⊥) → Finds (first class) again at NoPart
-    argument-other h = record { says = λ t n e. sym (first-other class at t (λ k. h (sym (type-kind ws pairs text at e) ∙ k))) }
+    apply-by : {k q : ℕ} → headAt at ≡ got (Apply k) q → Made₂ (again q) (readTypes again k) TypeApp t n
+    unfolding readNode
+    apply-by {k} {q} d = made₂-got (again q) (readTypes again k) TypeApp (node-of ws pairs text at e d)
 
-    module _ (h : getD ws at 0 ≡ 14) where
-      pub argument-count : (getD ws (at + 1) 0 ≡ arity class → ⊥) → Finds (first class) again at NoPart
-      argument-count k = record {
+    path-by : {x : PathAt} {q : ℕ} → headAt at ≡ got (FromPath x) q → (t ≡ TypeFromPath (pathOf ws (nameBytes pairs text) x)) × (n ≡ q)
+    unfolding readNode
+    path-by d = let k = node-of ws pairs text at e d in (cc, cc)
+
+  module _ (at : ℕ) (class : Class) where
+    pub argument-stop : {r : Refusal} → headAt at ≡ stop r → Finds (first class) again at NoPart
+    argument-stop d = record { says = λ t n e. no-head at e d }
+
+    pub argument-other : {h : Head} {q : ℕ} → headAt at ≡ got h q → OneOf unapplied (tagOf the-type h) → Finds (first class) again at NoPart
+    argument-other d o = record {
+      says = λ t n e. sym (first-other class at t λ c. other-kind (nameCount pairs) ws at unapplied 14 tt d o (sym (kind-by at e d) ∙ c));
+    }
+
+    module _ {k q : ℕ} (d : headAt at ≡ got (Apply k) q) where
+      pub argument-count : {r : ℕ} → r ≡ arity class → (k ≡ r → ⊥) → Finds (first class) again at NoPart
+      argument-count i m = record {
         says = λ t n e.
-            let a = application e h in
-            rw (a .made) (sym (first-count class at (a .base) (a .types) (λ d. k (sym (a .counted) ∙ d))));
+            let a = apply-by at e d in
+            rw (a .made) (sym (first-count class at (a .left) (a .right) λ c. m (sym (types-count again k (a .middle) (a .reads₂)) ∙ c ∙ sym i)));
       }
 
-      pub argument-base : (getD ws (at + 2) 0 ≡ 13 → ⊥) → Finds (first class) again at NoPart
-      argument-base k = record {
+      pub base-stop : {r : Refusal} → headAt q ≡ stop r → Finds (first class) again at NoPart
+      base-stop b = record { says = λ t n e. no-head q (apply-by at e d .reads) b }
+
+      pub base-other : {h : Head} {p : ℕ} → headAt q ≡ got h p → OneOf pathless (tagOf the-type h) → Finds (first class) again at NoPart
+      base-other b o = record {
         says = λ t n e.
-            let a = application e h in
-            rw (a .made) (sym (first-base class at (a .base) (a .types) (λ d. k (sym (type-kind ws pairs text (at + 2) (a .reads)) ∙ d))));
+            let a = apply-by at e d in
+            rw (a .made) (sym (first-base class at (a .left) (a .right) λ c. other-kind (nameCount pairs) ws q pathless 13 tt b o (sym (kind-by q (a .reads) b) ∙ c)));
       }
 
-      module _ (k : getD ws (at + 2) 0 ≡ 13) where
+      -- the base is the path x, which ends at p
+      module _ {x : PathAt} {p : ℕ} (b : headAt q ≡ got (FromPath x) p) where
         abbrev base : Path Bytes
-        base = pathOf ws (nameBytes pairs text) (pathAt ws (at + 2))
+        base = pathOf ws (nameBytes pairs text) x
 
-        pub argument-class : inClass class base ≡ false → Finds (first class) again at NoPart
-        argument-class c = record {
+        pub argument-class : {r : Bool} → r ≡ inClass class base → r ≡ false → Finds (first class) again at NoPart
+        argument-class i c = record {
           says = λ t n e.
-              let a = application e h in
-              let p = base-path e h k in
-              rw (a .made, p .type) (sym (first-class class at base (a .types) c));
+              let a = apply-by at e d in
+              rw (a .made, path-by q (a .reads) b .0) (sym (first-class class at base (a .right) (sym i ∙ c)));
         }
 
-        pub argument-found : getD ws (at + 1) 0 ≡ arity class → inClass class base ≡ true → Finds (first class) again at (At (at + 2 + 3 + getD ws (at + 2 + 2) 0))
-        argument-found d c = record {
+        pub argument-found : {m : ℕ} {r : Bool} → m ≡ arity class → k ≡ m → r ≡ inClass class base → r ≡ true → Finds (first class) again at (At p)
+        argument-found j l i c = record {
           says = λ t n e.
-              let a = application e h in
-              let p = base-path e h k in
-              let w = type-words ws pairs text (at + 2) (a .reads) in
-              let o : at + 2 + words (a .base) ≡ at + 2 + 3 + getD ws (at + 2 + 2) 0 = sym w ∙ p .end in
-              rw (a .made, p .type) (sym (first-is class at base (a .types) c (a .counted ∙ d) ∙ ap At (ap (λ b. at + 2 + words b) (sym (p .type)) ∙ o)));
+              let a = apply-by at e d in
+              let y = path-by q (a .reads) b in
+              let w : at + 2 + words (a .left) ≡ p = omega (arith, type-words ws pairs text q (a .reads), apply-end (nameCount pairs) ws at d, y .1) in
+              rw (a .made, y .0) (sym (first-is class at base (a .right) (sym i ∙ c) (types-count again k (a .middle) (a .reads₂) ∙ l ∙ j) ∙ ap At (rw (y .0) at w)));
         }
 
 -- ---- what was found

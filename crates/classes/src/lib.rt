@@ -13,6 +13,8 @@ ghost use Rattle.classes.specs.declared.Class.the-variants.{Counted};
 ghost use Rattle.classes.specs.Asked.{InRuntime, Judges, Finds, isFound};
 ghost use Rattle.classes.specs.Classes.{isSet, inClass, memberIn, arity, isOf, first};
 ghost use Rattle.classes.specs.Paths.{samePath, inStd, runtimeMember};
+use encoding::Head;
+use encoding::HeadScan;
 use encoding::PathAt;
 
 // The paths whose applications are told apart: `Rc` and `Arc`, `Box`, `MaybeUninit`, and members of `dafny_runtime`.
@@ -206,24 +208,24 @@ pub fn first_argument(words: &[u32], pairs: &[u32], text: &[u8], class: Class, a
     requires { ⌜ Good (now pairs) (now text) × Readable (typeAt (now words) (now pairs) (now text) at) ⌝ }
     ensures { λ r. ⌜ Finds (first class) (typeAt (now (words .entry)) (now (pairs .entry)) (now (text .entry))) at r ⌝ }
 {
-    if words[at] != 14 {
+    let bound = encoding::name_count(pairs);
+    let HeadScan::Own { head, next: base } = encoding::scan_head(words, bound, at) else {
+        return Found::NoPart;
+    };
+    let Head::Apply(n) = head else {
+        return Found::NoPart;
+    };
+    if n != arity_of(class) {
         return Found::NoPart;
     }
-    if words[at + 1] != arity_of(class) {
+    let HeadScan::Own { head: name, next } = encoding::scan_head(words, bound, base) else {
         return Found::NoPart;
-    }
-    let base = at + 2;
-    if words[base] != 13 {
+    };
+    let Head::FromPath(path) = name else {
         return Found::NoPart;
-    }
-    let count = words[base + 2];
-    let path = PathAt {
-        root: words[base + 1],
-        start: base + 3,
-        count,
     };
     if is_in_class(words, pairs, text, class, path) {
-        return Found::At(base + 3 + count as usize);
+        return Found::At(next);
     }
     Found::NoPart
 }

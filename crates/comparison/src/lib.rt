@@ -78,7 +78,7 @@ fn are_fixed(pairs: &[u32], text: &[u8], k: u32, bytes: &[u8]) -> bool
 }
 
 // Whether two names have the same bytes. No two fixed names do.
-pub fn same_name(pairs: &[u32], text: &[u8], x: u32, y: u32) -> bool
+fn same_name(pairs: &[u32], text: &[u8], x: u32, y: u32) -> bool
     requires { ⌜ Good (now pairs) (now text) ⌝ }
     ensures { λ r. ⌜ r ≡ same (nameBytes (now (pairs .entry)) (now (text .entry)) x) (nameBytes (now (pairs .entry)) (now (text .entry)) y) ⌝ }
 {

@@ -51,20 +51,15 @@ enum Step {
     Halt(Refusal),
 }
 
+// How long the plain types' texts are, by their kinds.
+const PRIMITIVE_LENGTHS: [u8; 12] = [2, 3, 3, 3, 4, 2, 3, 3, 3, 4, 5, 4];
+
 // How long a plain type's text is.
 fn primitive_length(kind: u32) -> usize
     requires { ⌜ kind < 12 ⌝ }
     ensures { λ r. ⌜ (r ≡ length (Primitive·ToString (getD primitives kind U8))) × (r ≤ 5) ⌝ }
 {
-    match kind {
-        0 => 2,
-        4 => 4,
-        5 => 2,
-        9 => 4,
-        10 => 5,
-        11 => 4,
-        _ => 3,
-    }
+    PRIMITIVE_LENGTHS[kind as usize] as usize
 }
 
 // How long a path's root is.
@@ -265,10 +260,13 @@ fn scan_own(words: &[u32], pairs: &[u32], bound: usize, at: usize) -> OwnScan
 fn is_shown(mode: u64, after: u64) -> bool
     ensures { λ r. ⌜ r ≡ shows mode after ⌝ }
 {
+    if mode == 1 {
+        return true;
+    }
     if mode == 2 {
         return after != 0;
     }
-    mode == 1
+    false
 }
 
 // What shows counts, and nothing else does. (A branch here leaves the caller one way to follow.)

@@ -1,4 +1,4 @@
--- Document 01's "sound": the types whose text is the text of no other type, wrappers aside. It is judged after every wrapper has given way to its display.
+-- Document 01's "sound": no two such types that differ, wrappers aside, have the same text. It is judged after every wrapper has given way to its display.
 use Prim.Native.Nat.{ℕ}
 use mathlib.Core.Bool.{Bool, true, false, not}
 use mathlib.Core.List.{List, [], _∷_}

@@ -55,3 +55,7 @@ module _ (ws pairs : List ℕ) (text : Bytes) {t : Ty Bytes} {n : ℕ} (e : type
   whole-visited v =
       let ts : v .types ≡ cons t nil = cc (one-read, v .reads) in
       wrote-as (ap (listOf 0) ts ∙ ap positions (append-nil (visitedFrom 0 t))) (v .wrote)
+
+  -- and no longer than the type has words
+  pub whole-few : {o o′ : List ℕ} {s : Spot} → Visited ws pairs text 0 1 o 0 o′ s → s .pos ≤ n
+  whole-few {s = s} v = let e : s .next ≡ n = cc (one-read, v .reads) in omega (arith, v .counted)

@@ -121,6 +121,7 @@ module _ (ws pairs : List ℕ) (text : Bytes) where
             end = r .end;
             reads = r .reads;
             wrote = wrote-as (ap positions (ap (visitedPieces (b .end)) same ∙ l .list)) (u .wrote);
+            counted = u .counted;
           }
 
   -- a declaration that was accepted has an opening
@@ -252,6 +253,7 @@ module _ (ws pairs : List ℕ) (text : Bytes) where
           end = g .end;
           reads = g .reads;
           wrote = g .lays o′ p (wrote-as (sym (ap (λ ps. positions (visitedPieces (w .place) ps)) n)) (wrote-nothing o′ p));
+          counted = omega (arith, g .counted, g .inside);
         }
 
     pub going-halt : {w : Walk} {o′ : List ℕ} {p : ℕ} {r : Refusal} → Going w₀ o w o′ p → Stepped (nameCount pairs) ws w (Halted r) → ⊥

@@ -81,6 +81,7 @@ pub record Entered (ws pairs : List ℕ) (text : Bytes) (w : Walk) (o o′ : Lis
   pub end : ℕ
   pub reads : leftAt ws pairs text w ≡ got pieces end
   pub wrote : Wrote o 0 (positions (visitedPieces (w .place) pieces)) o′ p
+  pub counted : p ≤ length ws
 
 -- the declaration's list was laid down
 pub record AllVisited (ws pairs : List ℕ) (text : Bytes) (o o′ : List ℕ) (p : ℕ) : Type 0 where
@@ -88,3 +89,4 @@ pub record AllVisited (ws pairs : List ℕ) (text : Bytes) (o o′ : List ℕ) (
   pub end : ℕ
   pub reads : declarationAt ws pairs text 0 ≡ got value end
   pub wrote : Wrote o 0 (declarationVisitsOf value) o′ p
+  pub counted : p ≤ length ws

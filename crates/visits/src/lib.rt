@@ -92,6 +92,11 @@ fn fill_type(words: &[u32], pairs: &[u32], text: &[u8], out: &mut [u32]) -> Visi
             if next != words.len() {
                 return VisitAnswer::Refused(Refusal::LeftOver);
             }
+            // There are no more positions than words: only a shorter buffer needs a count first.
+            if words.len() <= out.len() {
+                let all = visit_types(words, pairs, text, 0, 1, out, 0);
+                return VisitAnswer::Count(all.pos);
+            }
             let mut none = [0u32; 0];
             let count = visit_types(words, pairs, text, 0, 1, &mut none, 0);
             if out.len() < count.pos {
@@ -201,6 +206,9 @@ fn fill_declaration(words: &[u32], pairs: &[u32], text: &[u8], out: &mut [u32]) 
         Scan::At(end) => {
             if end != words.len() {
                 return VisitAnswer::Refused(Refusal::LeftOver);
+            }
+            if words.len() <= out.len() {
+                return VisitAnswer::Count(visit_declaration(words, pairs, text, out));
             }
             let mut none = [0u32; 0];
             if out.len() < visit_declaration(words, pairs, text, &mut none) {
