@@ -40,7 +40,8 @@ use Rattle.trees.proofs.Nodes.{types-count}
 use Rattle.classes.specs.declared.Class.{Class}
 use Rattle.classes.specs.declared.Found.{Found}
 use Rattle.classes.specs.declared.Found.the-variants.{At, NoPart}
-use Rattle.classes.specs.Asked.{Finds, found, isFound, Judges}
+use Rattle.wrappers.specs.Asked.{Judges}
+use Rattle.classes.specs.Asked.{Finds, found, isFound}
 use Rattle.classes.specs.Classes.{inClass, arity, first, isOf}
 use Rattle.classes.specs.Steps.{when, argumentOf}
 use Rattle.classes.proofs.Applying.{first-other, first-count, first-base, first-class, first-is, first-found}

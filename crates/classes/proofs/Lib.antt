@@ -1,4 +1,4 @@
--- Laws of paths, of the types in an accepted type, and of applications.
+-- Laws of paths, of where the parts of an accepted type stand, and of applications.
 pub mod Paths
 pub mod Children
 pub mod Applying

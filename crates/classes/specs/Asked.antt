@@ -1,4 +1,4 @@
--- What is answered about an accepted type: a test of it, and where a part of it stands.
+-- What is answered about an accepted type: where a part of it stands, and whether a path is one of `dafny_runtime`.
 use Prim.Native.Nat.{ℕ, _+_}
 use mathlib.Core.Path.{_≡_}
 use mathlib.Core.Bool.{Bool, true, false}
@@ -15,10 +15,6 @@ use Rattle.trees.specs.Places.{Place, place}
 use Rattle.classes.specs.declared.Found.{Found}
 use Rattle.classes.specs.declared.Found.the-variants.{At, NoPart}
 use Rattle.classes.specs.Paths.{runtimeMember}
-
--- the answer r is f of the type that was read
-pub record Judges {A : Type 0} (f : Ty Bytes → A) (x : Reading (Ty Bytes)) (r : A) : Type 0 where
-  pub says : (t : Ty Bytes) (n : ℕ) → x ≡ got t n → r ≡ f t
 
 -- where a part stands, if there is one
 unfoldable pub found : Option (Place Bytes) → Found

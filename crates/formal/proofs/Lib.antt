@@ -1,4 +1,3 @@
--- Laws of what the tests on a field's type ask, and of following wrappers.
+-- Laws of what the tests on a field's type ask, and of the text that follows from them.
 pub mod Receivers
-pub mod Expanding
 pub mod Texts

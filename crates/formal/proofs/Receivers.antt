@@ -19,12 +19,14 @@ use Rattle.encoding.specs.Heads.{headAfter, InsidePath}
 use Rattle.encoding.specs.Types.{rootOf, pathOf, readNode, readType, typeAt}
 use Rattle.encoding.proofs.Tables.{impossible, same-eq}
 use Rattle.encoding.proofs.Heads.{head-at}
-use Rattle.encoding.proofs.Types.{Made, made-got, type-end}
+use Rattle.encoding.proofs.Types.{type-end}
 use Rattle.encoding.proofs.TypeKinds.{kind, type-kind}
-use Rattle.writing.proofs.Accepted.{name-type, path-there, path-type, ref-head, mut-head}
+use Rattle.writing.proofs.Accepted.{name-type, path-there, path-type}
+use Rattle.wrappers.specs.Asked.{Judges, ExpandsAt}
+use Rattle.wrappers.proofs.TypesIn.{ref-of, mut-of}
 use Rattle.formal.specs.declared.Receiver.{Receiver}
 use Rattle.formal.specs.declared.Receiver.the-variants.{ByValue, ByRef, ByMut, Typed}
-use Rattle.formal.specs.Receivers.{receiverOf, Judges, ExpandsAt, Tells}
+use Rattle.formal.specs.Receivers.{receiverOf, BorrowKind, shared, mutable, isSelfBorrowedAs, Tells}
 
 -- ---- a type of another kind
 
@@ -45,39 +47,26 @@ owned-other (Array t s) h = refl
 owned-other (TSynonym d b) h = refl
 owned-other (TMetaData d c o) h = refl
 
-borrowed-other : (t : Ty Bytes) → (kind t ≡ 15 → ⊥) → isSelfBorrowed t ≡ false
-unfolding isSelfBorrowed
-borrowed-other (Primitive p) h = refl
-borrowed-other (TIdentifier x) h = refl
-borrowed-other (TypeFromPath p) h = refl
-borrowed-other (TypeApp b ts) h = refl
-borrowed-other (Borrowed t) h = absurd (h refl)
-borrowed-other (BorrowedMut t) h = refl
-borrowed-other (ImplType t) h = refl
-borrowed-other (DynType t) h = refl
-borrowed-other (TupleType ts) h = refl
-borrowed-other (FnType ts t) h = refl
-borrowed-other (IntersectionType l r) h = refl
-borrowed-other (Array t s) h = refl
-borrowed-other (TSynonym d b) h = refl
-borrowed-other (TMetaData d c o) h = refl
+borrows-other : (t : Ty Bytes) → ((kind t ≡ 15 → ⊥) → isSelfBorrowed t ≡ false) × ((kind t ≡ 16 → ⊥) → isSelfBorrowedMut t ≡ false)
+unfolding isSelfBorrowed isSelfBorrowedMut
+borrows-other (Primitive p) = (λ h. refl, λ h. refl)
+borrows-other (TIdentifier x) = (λ h. refl, λ h. refl)
+borrows-other (TypeFromPath p) = (λ h. refl, λ h. refl)
+borrows-other (TypeApp b ts) = (λ h. refl, λ h. refl)
+borrows-other (Borrowed t) = (λ h. absurd (h refl), λ h. refl)
+borrows-other (BorrowedMut t) = (λ h. refl, λ h. absurd (h refl))
+borrows-other (ImplType t) = (λ h. refl, λ h. refl)
+borrows-other (DynType t) = (λ h. refl, λ h. refl)
+borrows-other (TupleType ts) = (λ h. refl, λ h. refl)
+borrows-other (FnType ts t) = (λ h. refl, λ h. refl)
+borrows-other (IntersectionType l r) = (λ h. refl, λ h. refl)
+borrows-other (Array t s) = (λ h. refl, λ h. refl)
+borrows-other (TSynonym d b) = (λ h. refl, λ h. refl)
+borrows-other (TMetaData d c o) = (λ h. refl, λ h. refl)
 
-mut-other : (t : Ty Bytes) → (kind t ≡ 16 → ⊥) → isSelfBorrowedMut t ≡ false
-unfolding isSelfBorrowedMut
-mut-other (Primitive p) h = refl
-mut-other (TIdentifier x) h = refl
-mut-other (TypeFromPath p) h = refl
-mut-other (TypeApp b ts) h = refl
-mut-other (Borrowed t) h = refl
-mut-other (BorrowedMut t) h = absurd (h refl)
-mut-other (ImplType t) h = refl
-mut-other (DynType t) h = refl
-mut-other (TupleType ts) h = refl
-mut-other (FnType ts t) h = refl
-mut-other (IntersectionType l r) h = refl
-mut-other (Array t s) h = refl
-mut-other (TSynonym d b) h = refl
-mut-other (TMetaData d c o) h = refl
+borrowed-other : {k : ℕ} → BorrowKind k → (t : Ty Bytes) → (kind t ≡ k → ⊥) → isSelfBorrowedAs k t ≡ false
+borrowed-other shared t h = borrows-other t .0 h
+borrowed-other mutable t h = borrows-other t .1 h
 
 underscore-other : (t : Ty Bytes) → (kind t ≡ 12 → ⊥) → isUnderscore t ≡ false
 unfolding isUnderscore
@@ -150,35 +139,26 @@ module _ (ws pairs : List ℕ) (text : Bytes) (at : ℕ) where
         sym (ap isSelfOwned (d .type) ∙ self-path (nameCount pairs) ws (nameBytes pairs text) (path-there ws pairs text at e) (d .own) k);
   }
 
-  pub not-ref : (getD ws at 0 ≡ 15 → ⊥) → Judges isSelfBorrowed x false
-  not-ref h = record { says = λ t n e. sym (borrowed-other t (λ k. h (sym (type-kind ws pairs text at e) ∙ k))) }
+  -- ---- a borrow of `Self`
 
-  pub ref-of : {t : Ty Bytes} {n : ℕ} → x ≡ got t n → getD ws at 0 ≡ 15 → Made (typeAt ws pairs text (at + 1)) Borrowed t n
-  unfolding readNode
-  ref-of e h = made-got (typeAt ws pairs text (at + 1)) Borrowed (ref-head ws pairs text at e h)
+  pub not-borrowed : {k : ℕ} → BorrowKind k → (getD ws at 0 ≡ k → ⊥) → Judges (isSelfBorrowedAs k) x false
+  not-borrowed b h = record { says = λ t n e. sym (borrowed-other b t (λ i. h (sym (type-kind ws pairs text at e) ∙ i))) }
 
-  pub self-ref : {r : Bool} → getD ws at 0 ≡ 15 → Judges isSelfOwned (typeAt ws pairs text (at + 1)) r → Judges isSelfBorrowed x r
-  unfolding isSelfBorrowed
-  self-ref h j = record {
-    says = λ t n e.
-        let m = ref-of e h in
-        j .says (m .value) n (m .reads) ∙ ap isSelfBorrowed (sym (m .made));
-  }
+  -- t borrows the type that stands behind the kind, and the question goes on to that one
+  pub record BorrowOf (k : ℕ) (t : Ty Bytes) (n : ℕ) : Type 0 where
+    pub value : Ty Bytes
+    pub reads : typeAt ws pairs text (at + 1) ≡ got value n
+    pub asks : isSelfOwned value ≡ isSelfBorrowedAs k t
 
-  pub not-mut : (getD ws at 0 ≡ 16 → ⊥) → Judges isSelfBorrowedMut x false
-  not-mut h = record { says = λ t n e. sym (mut-other t (λ k. h (sym (type-kind ws pairs text at e) ∙ k))) }
+  pub borrow-of : {k : ℕ} → BorrowKind k → {t : Ty Bytes} {n : ℕ} → x ≡ got t n → getD ws at 0 ≡ k → BorrowOf k t n
+  unfolding isSelfBorrowed isSelfBorrowedMut
+  borrow-of shared e h =
+      let m = ref-of ws pairs text at e h in record { value = m .value; reads = m .reads; asks = ap isSelfBorrowed (sym (m .made)) }
+  borrow-of mutable e h =
+      let m = mut-of ws pairs text at e h in record { value = m .value; reads = m .reads; asks = ap isSelfBorrowedMut (sym (m .made)) }
 
-  pub mut-of : {t : Ty Bytes} {n : ℕ} → x ≡ got t n → getD ws at 0 ≡ 16 → Made (typeAt ws pairs text (at + 1)) BorrowedMut t n
-  unfolding readNode
-  mut-of e h = made-got (typeAt ws pairs text (at + 1)) BorrowedMut (mut-head ws pairs text at e h)
-
-  pub self-mut : {r : Bool} → getD ws at 0 ≡ 16 → Judges isSelfOwned (typeAt ws pairs text (at + 1)) r → Judges isSelfBorrowedMut x r
-  unfolding isSelfBorrowedMut
-  self-mut h j = record {
-    says = λ t n e.
-        let m = mut-of e h in
-        j .says (m .value) n (m .reads) ∙ ap isSelfBorrowedMut (sym (m .made));
-  }
+  pub self-borrowed : {k : ℕ} {r : Bool} → BorrowKind k → getD ws at 0 ≡ k → Judges isSelfOwned (typeAt ws pairs text (at + 1)) r → Judges (isSelfBorrowedAs k) x r
+  self-borrowed b h j = record { says = λ t n e. let m = borrow-of b e h in j .says (m .value) n (m .reads) ∙ m .asks }
 
   -- ---- the type `_`
 

@@ -2,6 +2,7 @@
 use Prim.Native.Nat.{ℕ, _+_}
 use mathlib.Core.Path.{_≡_}
 use mathlib.Core.Bool.{Bool, true}
+use lib.Dec.{eqb}
 use Rattle.rast.specs.Bytes.{Bytes, ascii}
 use Rattle.rast.specs.Tree.{Ty, TIdentifier}
 use Rattle.rast.specs.DeclarationToString.{Expand, isSelfOwned, isSelfBorrowed, isSelfBorrowedMut, isUnderscore}
@@ -18,13 +19,14 @@ receiverOf t =
     (pick (isSelfBorrowedMut t) ByMut
     (pick (isUnderscore t) ByValue Typed)))
 
--- the answer r is f of the type that was read
-pub record Judges {A : Type 0} (f : Ty Bytes → A) (x : Reading (Ty Bytes)) (r : A) : Type 0 where
-  pub says : (t : Ty Bytes) (n : ℕ) → x ≡ got t n → r ≡ f t
+-- the kinds of a borrow, `&` and `&mut`
+pub data BorrowKind : ℕ → Type 0 where
+  shared : BorrowKind 15
+  mutable : BorrowKind 16
 
--- at r stands what `Expand` gives of the type at `at`, and ends where that type ends
-pub record ExpandsAt (again : ℕ → Reading (Ty Bytes)) (at r : ℕ) : Type 0 where
-  pub expands : (t : Ty Bytes) (n : ℕ) → again at ≡ got t n → again r ≡ got (Expand t) n
+-- a borrow of that kind, of `Self`
+abbrev pub isSelfBorrowedAs : ℕ → Ty Bytes → Bool
+isSelfBorrowedAs kind t = pick (eqb kind 15) (isSelfBorrowed t) (isSelfBorrowedMut t)
 
 -- the answer says whether the type that stands at `at` is `_`; it is no where no type stands there
 pub record Tells (x : Reading (Ty Bytes)) (at : ℕ) (r : Bool) : Type 0 where

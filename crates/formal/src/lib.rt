@@ -1,15 +1,16 @@
 // A named field's name and type: `Formal.ToString`. A field named `self` may show without its type.
-ghost use Rattle.rast.specs.DeclarationToString.{isSelfOwned, isSelfBorrowed, isSelfBorrowedMut};
+ghost use Rattle.rast.specs.DeclarationToString.{isSelfOwned};
 ghost use Rattle.encoding.specs.Tables.{Good, nameBytes, nameCount};
 ghost use Rattle.encoding.specs.Types.{typeAt};
 ghost use Rattle.writing.specs.Written.{Readable, EndsAt};
+ghost use Rattle.wrappers.specs.Asked.{Judges};
 ghost use mathlib.Core.Path.{_≡_};
 ghost use mathlib.Core.Bool.{true, false};
 ghost use Prim.Native.Nat.{_<_};
 ghost use Rattle.rast.specs.Bytes.{ascii, same};
 ghost use Rattle.laying.specs.Passes.{Checked, Ready, Went};
 ghost use Rattle.formal.specs.Texts.{formalAt, formalOf, typedAt};
-ghost use Rattle.formal.specs.Receivers.{receiverOf, ExpandsAt, Judges, Tells};
+ghost use Rattle.formal.specs.Receivers.{receiverOf, BorrowKind, isSelfBorrowedAs, Tells};
 use encoding::WordScan;
 use laying::Place;
 use measure::Measure;
@@ -20,24 +21,6 @@ enum Receiver {
     ByRef,
     ByMut,
     Typed,
-}
-
-// Where the type that `Expand` gives of an accepted type stands: behind every wrapper, a synonym's base being followed.
-fn expand(words: &[u32], pairs: &[u32], text: &[u8], at: usize) -> usize
-    requires { ⌜ Readable (typeAt (now words) (now pairs) (now text) at) ⌝ }
-    ensures { λ r. ⌜ ExpandsAt (typeAt (now (words .entry)) (now (pairs .entry)) (now (text .entry))) at r ⌝ }
-{
-    let mut place = at;
-    loop {
-        let w = words[place];
-        if w == 23 {
-            place = writing::skip_type(words, pairs, text, place + 1);
-        } else if w == 24 {
-            place += 2;
-        } else {
-            return place;
-        }
-    }
 }
 
 // Whether an accepted type is `Self`.
@@ -54,22 +37,12 @@ fn is_self_type(words: &[u32], pairs: &[u32], text: &[u8], at: usize) -> bool
     words[at + 2] == 0
 }
 
-// Whether an accepted type is `&Self`, or `&mut Self`.
-fn is_self_ref(words: &[u32], pairs: &[u32], text: &[u8], at: usize) -> bool
-    requires { ⌜ Readable (typeAt (now words) (now pairs) (now text) at) ⌝ }
-    ensures { λ r. ⌜ Judges isSelfBorrowed (typeAt (now (words .entry)) (now (pairs .entry)) (now (text .entry)) at) r ⌝ }
+// Whether an accepted type is a borrow of that kind, of `Self`: `&Self` by 15, `&mut Self` by 16.
+fn is_self_borrowed(words: &[u32], pairs: &[u32], text: &[u8], kind: u32, at: usize) -> bool
+    requires { ⌜ BorrowKind kind × Readable (typeAt (now words) (now pairs) (now text) at) ⌝ }
+    ensures { λ r. ⌜ Judges (isSelfBorrowedAs kind) (typeAt (now (words .entry)) (now (pairs .entry)) (now (text .entry)) at) r ⌝ }
 {
-    if words[at] != 15 {
-        return false;
-    }
-    is_self_type(words, pairs, text, at + 1)
-}
-
-fn is_self_mut(words: &[u32], pairs: &[u32], text: &[u8], at: usize) -> bool
-    requires { ⌜ Readable (typeAt (now words) (now pairs) (now text) at) ⌝ }
-    ensures { λ r. ⌜ Judges isSelfBorrowedMut (typeAt (now (words .entry)) (now (pairs .entry)) (now (text .entry)) at) r ⌝ }
-{
-    if words[at] != 16 {
+    if words[at] != kind {
         return false;
     }
     is_self_type(words, pairs, text, at + 1)
@@ -97,13 +70,13 @@ fn self_form(words: &[u32], pairs: &[u32], text: &[u8], at: usize) -> Receiver
     requires { ⌜ Good (now pairs) (now text) × Readable (typeAt (now words) (now pairs) (now text) at) ⌝ }
     ensures { λ r. ⌜ Judges receiverOf (typeAt (now (words .entry)) (now (pairs .entry)) (now (text .entry)) at) r ⌝ }
 {
-    if is_self_type(words, pairs, text, expand(words, pairs, text, at)) {
+    if is_self_type(words, pairs, text, wrappers::expand(words, pairs, text, at)) {
         return Receiver::ByValue;
     }
-    if is_self_ref(words, pairs, text, at) {
+    if is_self_borrowed(words, pairs, text, 15, at) {
         return Receiver::ByRef;
     }
-    if is_self_mut(words, pairs, text, at) {
+    if is_self_borrowed(words, pairs, text, 16, at) {
         return Receiver::ByMut;
     }
     if is_underscore(words, pairs, text, at) {

@@ -25,16 +25,16 @@ use Rattle.trees.specs.Places.{Place, place}
 use Rattle.trees.proofs.Heads.{tree-here}
 use Rattle.trees.proofs.Renaming.{words-kept, encode-words, spelled, tree-run, type-words}
 use Rattle.replace.specs.Laying.{depth, deepest}
+use Rattle.wrappers.specs.Asked.{Judges, ExpandsAt}
+use Rattle.wrappers.proofs.TypesIn.{array-of}
 use Rattle.classes.specs.declared.Found.{Found}
 use Rattle.classes.specs.declared.Found.the-variants.{At, NoPart}
 use Rattle.classes.specs.declared.Class.the-variants.{ObjectClass, ArrayClass}
-use Rattle.classes.specs.Asked.{found, isFound, Finds, Judges}
+use Rattle.classes.specs.Asked.{found, isFound, Finds}
 use Rattle.classes.specs.Classes.{inClass, arity, isOf, first}
 use Rattle.classes.specs.Matches.{applied, typeIn, argument, unsized}
 use Rattle.classes.specs.Steps.{when, andThen, orElse, typeAtIndex, argumentAt, argumentOf}
 use Rattle.classes.proofs.Applying.{first-found}
-use Rattle.classes.proofs.Children.{array-of}
-use Rattle.shapes.specs.Asked.{ExpandsAt}
 use Rattle.shapes.specs.Parts.{expandedAt, expanded, ObjectOrPointerUnderlying}
 use Rattle.shapes.specs.Shapes.{IsObject, IsPointer, IsObjectOrPointer, IsMultiArray}
 use Rattle.shapes.specs.Initialization.{MaybeUninitType, appliedToUninit, newUnderlying}

@@ -24,6 +24,7 @@ use Rattle.trees.proofs.Heads.{tree-head, tree-here, tree-below}
 use Rattle.trees.proofs.Renaming.{words-kept, tree-run}
 use Rattle.replace.specs.Laying.{depth, deepest}
 use Rattle.replace.proofs.Nodes.{depth-node}
+use Rattle.wrappers.proofs.Expanding.{synonym-words, meta-words}
 use Rattle.classes.specs.Matches.{onPath, applied}
 use Rattle.shapes.specs.Parts.{expandedAt}
 
@@ -44,14 +45,6 @@ apply-node (apply n b ts) = refl
 array-words : (u : Ty ℕ) (z : Option ℕ) → words (Array u z) ≡ 2 + words u
 unfolding words tokens
 array-words u z = omega arith
-
-meta-words : (d : Ty ℕ) (c o : Bool) → words (TMetaData d c o) ≡ 2 + words d
-unfolding words tokens
-meta-words d c o = omega arith
-
-synonym-words : (d b : Ty ℕ) → words (TSynonym d b) ≡ 1 + words d + words b
-unfolding words tokens
-synonym-words d b = omega (arith, length-append (tokens d) (tokens b))
 
 apply-words : (b a : Ty ℕ) → words (TypeApp b (cons a nil)) ≡ 2 + words b + words a
 unfolding words tokens tokensAll

@@ -47,7 +47,7 @@ fn array_at(words: &[u32], pairs: &[u32], text: &[u8], at: usize) -> Initial
         }
         return Initial::Unchanged;
     }
-    let start = shapes::expand(words, pairs, text, at);
+    let start = wrappers::expand(words, pairs, text, at);
     let Found::At(element) = classes::first_argument(words, pairs, text, Class::ArrayClass, start)
     else {
         return Initial::Unchanged;

@@ -23,10 +23,10 @@ use Rattle.trees.specs.Renamed.{renamed}
 use Rattle.trees.specs.Encode.{words, encode}
 use Rattle.trees.specs.Places.{Place, place}
 use Rattle.trees.proofs.Renaming.{numbered, words-kept, encode-words, tree-run, type-words}
+use Rattle.wrappers.specs.Asked.{Judges, ExpandsAt}
 use Rattle.classes.specs.declared.Found.{Found}
 use Rattle.classes.specs.declared.Found.the-variants.{At, NoPart}
-use Rattle.classes.specs.Asked.{Judges, Finds, found}
-use Rattle.shapes.specs.Asked.{ExpandsAt}
+use Rattle.classes.specs.Asked.{Finds, found}
 use Rattle.shapes.specs.Parts.{removedAt, ownedAt, RemoveSynonyms, ExpandAt, ToOwned}
 use Rattle.parts.specs.declared.PartAnswer.{PartAnswer}
 use Rattle.parts.specs.declared.PartAnswer.the-variants.{Part, Refused}

@@ -39,7 +39,7 @@ fn find(words: &[u32], pairs: &[u32], text: &[u8], wanted: Wanted, at: usize) ->
 {
     match wanted {
         Wanted::Removed => Found::At(shapes::remove_wrappers(words, pairs, text, at)),
-        Wanted::Expanded => Found::At(shapes::expand(words, pairs, text, at)),
+        Wanted::Expanded => Found::At(wrappers::expand(words, pairs, text, at)),
         Wanted::Owned => Found::At(shapes::owned(words, pairs, text, at)),
         Wanted::OfMultiArray => shapes::multi_array_part(words, pairs, text, at),
         Wanted::OfBox => classes::first_argument(words, pairs, text, Class::Boxed, at),

@@ -21,7 +21,7 @@ use Rattle.measure.specs.declared.Measure.{Measure}
 use Rattle.measure.specs.declared.Measure.the-variants.{Measured, Stopped}
 use Rattle.measure.specs.Lengths.{measureOf}
 use Rattle.writing.specs.Written.{Readable}
-use Rattle.classes.specs.Asked.{Judges}
+use Rattle.wrappers.specs.Asked.{Judges}
 use Rattle.shapes.specs.declared.ShapeAnswer.the-variants.{Yes, No, Refused}
 use Rattle.shapes.specs.Asked.{shapeAnswer, acceptance}
 

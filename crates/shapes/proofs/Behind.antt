@@ -1,33 +1,23 @@
 -- Parts behind wrappers.
 use Prim.Native.Nat.{ℕ, _+_}
 use mathlib.Core.Path.{_≡_, refl, ap, sym, _∙_}
-use mathlib.Core.Bool.{Bool}
 use mathlib.Core.List.{List}
 use mathlib.Core.Option.{Option}
 use native.Mathlib.Omega.{arith}
-use lib.ListN.{length-append}
 use Rattle.rast.specs.Bytes.{Bytes}
 use Rattle.rast.specs.Tree.{Ty, Primitive, TIdentifier, TypeFromPath, TypeApp, Borrowed, BorrowedMut, ImplType, DynType, TupleType, FnType, IntersectionType, Array, TSynonym, TMetaData}
 use Rattle.rast.specs.DeclarationToString.{Expand}
 use Rattle.encoding.specs.Reading.{got}
 use Rattle.encoding.specs.Types.{typeAt}
-use Rattle.writing.specs.Written.{Readable}
-use Rattle.trees.specs.Encode.{tokens, words}
+use Rattle.trees.specs.Encode.{words}
 use Rattle.trees.specs.Places.{Place, place}
 use Rattle.trees.proofs.Renaming.{type-words}
+use Rattle.wrappers.specs.Asked.{ExpandsAt}
+use Rattle.wrappers.proofs.Expanding.{synonym-words, meta-words}
 use Rattle.classes.specs.declared.Found.{Found}
 use Rattle.classes.specs.Asked.{Finds, found}
-use Rattle.shapes.specs.Asked.{ExpandsAt}
 use Rattle.shapes.specs.Parts.{expandedAt, expanded}
 use Rattle.shapes.proofs.Pointers.{expanded-tree}
-
-pub synonym-words : (d b : Ty Bytes) → words (TSynonym d b) ≡ 1 + words d + words b
-unfolding words tokens
-synonym-words d b = omega (arith, length-append (tokens d) (tokens b))
-
-pub meta-words : (d : Ty Bytes) (c o : Bool) → words (TMetaData d c o) ≡ 2 + words d
-unfolding words tokens
-meta-words d c o = omega arith
 
 expanded-words : (p : ℕ) (t : Ty Bytes) → expandedAt p t .at + words (expandedAt p t .tpe) ≡ p + words t
 unfolding expandedAt
@@ -63,6 +53,3 @@ module _ (ws pairs : List ℕ) (text : Bytes) (at r : ℕ) (x : ExpandsAt (typeA
   finds-expanded f g h d = record {
     says = λ t n e. d .says (Expand t) n (x .expands t n e) ∙ ap found (ap g (sym (expands-place t n e)) ∙ sym (h (place at t)));
   }
-
-  pub expands-readable : Readable (typeAt ws pairs text at) → Readable (typeAt ws pairs text r)
-  expands-readable d = record { value = Expand (d .value); end = d .end; reads = x .expands (d .value) (d .end) (d .reads) }

@@ -5,8 +5,6 @@ pub mod Collections
 pub mod Elements
 pub mod Behind
 pub mod Parts
-pub mod Expanding
-pub mod Going
 pub mod Judging
 pub mod Answers
 pub mod SourceEnsures

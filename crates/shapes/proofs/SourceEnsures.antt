@@ -20,7 +20,7 @@ use Rattle.shapes.specs.Shapes.{IsRc, IsBoxDyn}
 use Rattle.classes.proofs.Children.{some-same}
 use Rattle.shapes.proofs.Pointers.{expanded-tree}
 use Rattle.shapes.proofs.Collections.{when-some}
-use Rattle.shapes.proofs.Behind.{synonym-words, meta-words}
+use Rattle.wrappers.proofs.Expanding.{synonym-words, meta-words}
 
 -- q is a part of p, and not p itself
 pub record PartOf (q p : Place Bytes) : Type 0 where

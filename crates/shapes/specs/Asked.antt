@@ -1,24 +1,17 @@
 -- What the functions on an accepted type answer, and the public answers.
 use Prim.Native.Nat.{ℕ}
-use mathlib.Core.Path.{_≡_}
 use mathlib.Core.Bool.{Bool, true, false}
 use lib.Dec.{eqb, ltb}
 use Rattle.rast.specs.Bytes.{Bytes, _or_}
 use Rattle.rast.specs.Tree.{Ty}
-use Rattle.rast.specs.DeclarationToString.{Expand}
 use Rattle.encoding.specs.declared.Check.{Check}
 use Rattle.encoding.specs.declared.Check.the-variants.{Passed, Failed}
 use Rattle.encoding.specs.Refusals.{pick, Answer, given, refused}
-use Rattle.encoding.specs.Reading.{Reading, got}
 use Rattle.shapes.specs.declared.Shape.{Shape}
 use Rattle.shapes.specs.declared.Shape.the-variants.{EndsWithName, AutoSize, CanRead, RcOrBorrowed, MultiArray, MaybeUninit, UninitArray, BoxOf, NeedsAsRef, ObjectOf, PointerOf, ObjectOrPointer, BuiltinCollection, RcOf, BoxDyn}
 use Rattle.shapes.specs.declared.ShapeAnswer.{ShapeAnswer}
 use Rattle.shapes.specs.declared.ShapeAnswer.the-variants.{Yes, No, Refused}
 use Rattle.shapes.specs.Shapes.{EndsWithNameThatCanAcceptGenerics, IsAutoSize, CanReadWithoutClone, IsRcOrBorrowedRc, IsMultiArray, IsMaybeUninit, IsUninitArray, IsBox, NeedsAsRefForBorrow, IsObject, IsPointer, IsObjectOrPointer, IsBuiltinCollection, IsRc, IsBoxDyn}
-
--- at r stands what `Expand` gives of the type at `at`, and ends where that type ends
-pub record ExpandsAt (again : ℕ → Reading (Ty Bytes)) (at r : ℕ) : Type 0 where
-  pub expands : (t : Ty Bytes) (n : ℕ) → again at ≡ got t n → again r ≡ got (Expand t) n
 
 -- how many own words stand before the type that `EndsWithNameThatCanAcceptGenerics` goes on to, by a type's kind; an intersection aside
 unfoldable pub nameStep : ℕ → ℕ

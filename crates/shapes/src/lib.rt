@@ -8,9 +8,10 @@ ghost use Rattle.encoding.specs.Reading.{whole};
 ghost use Rattle.encoding.specs.Tables.{Good};
 ghost use Rattle.encoding.specs.Types.{typeAt, typeOf};
 ghost use Rattle.writing.specs.Written.{Readable};
-ghost use Rattle.classes.specs.Asked.{Judges, Finds};
+ghost use Rattle.wrappers.specs.Asked.{Judges};
+ghost use Rattle.classes.specs.Asked.{Finds};
 ghost use Rattle.classes.specs.Matches.{unsized};
-ghost use Rattle.shapes.specs.Asked.{ExpandsAt, nameStep, nameKind, shapeOf, shapeAnswer, acceptance};
+ghost use Rattle.shapes.specs.Asked.{nameStep, nameKind, shapeOf, shapeAnswer, acceptance};
 ghost use Rattle.shapes.specs.Parts.{removedAt, ownedAt, BoxDynUnderlying, MultiArrayUnderlying, ObjectOrPointerUnderlying, GetBuiltinCollectionElement, uninitElement, ExtractMaybeUninitArrayElement};
 ghost use Rattle.shapes.specs.Shapes.{EndsWithNameThatCanAcceptGenerics, IsAutoSize, CanReadWithoutClone, IsRcOrBorrowedRc, IsMultiArray, IsMaybeUninit, IsUninitArray, IsBox, NeedsAsRefForBorrow, IsObject, IsPointer, IsObjectOrPointer, IsBuiltinCollection, IsRc, IsBoxDyn, uninitCases};
 use classes::Class;
@@ -46,24 +47,6 @@ enum Shape {
 }
 
 // ---- on an accepted type: wrappers
-
-// Where the type that `Expand` gives stands: behind every wrapper, a synonym's base being followed.
-pub fn expand(words: &[u32], pairs: &[u32], text: &[u8], at: usize) -> usize
-    requires { ⌜ Readable (typeAt (now words) (now pairs) (now text) at) ⌝ }
-    ensures { λ r. ⌜ ExpandsAt (typeAt (now (words .entry)) (now (pairs .entry)) (now (text .entry))) at r ⌝ }
-{
-    let mut place = at;
-    loop {
-        let w = words[place];
-        if w == 23 {
-            place = writing::skip_type(words, pairs, text, place + 1);
-        } else if w == 24 {
-            place += 2;
-        } else {
-            return place;
-        }
-    }
-}
 
 // Where the type that `RemoveSynonyms` gives stands: behind every wrapper, a synonym's display being followed.
 pub fn remove_wrappers(words: &[u32], pairs: &[u32], text: &[u8], at: usize) -> usize
@@ -110,7 +93,7 @@ pub fn multi_array_part(words: &[u32], pairs: &[u32], text: &[u8], at: usize) ->
         pairs,
         text,
         Class::ArrayClass,
-        expand(words, pairs, text, at),
+        wrappers::expand(words, pairs, text, at),
     )
 }
 
@@ -119,7 +102,7 @@ pub fn object_or_pointer_part(words: &[u32], pairs: &[u32], text: &[u8], at: usi
     requires { ⌜ Good (now pairs) (now text) × Readable (typeAt (now words) (now pairs) (now text) at) ⌝ }
     ensures { λ r. ⌜ Finds ObjectOrPointerUnderlying (typeAt (now (words .entry)) (now (pairs .entry)) (now (text .entry))) at r ⌝ }
 {
-    let place = expand(words, pairs, text, at);
+    let place = wrappers::expand(words, pairs, text, at);
     let Found::At(part) = classes::first_argument(words, pairs, text, Class::PtrClass, place) else {
         return classes::first_argument(words, pairs, text, Class::ObjectClass, place);
     };
@@ -131,7 +114,7 @@ pub fn collection_part(words: &[u32], pairs: &[u32], text: &[u8], at: usize) -> 
     requires { ⌜ Good (now pairs) (now text) × Readable (typeAt (now words) (now pairs) (now text) at) ⌝ }
     ensures { λ r. ⌜ Finds GetBuiltinCollectionElement (typeAt (now (words .entry)) (now (pairs .entry)) (now (text .entry))) at r ⌝ }
 {
-    let place = expand(words, pairs, text, at);
+    let place = wrappers::expand(words, pairs, text, at);
     let Found::At(key) = classes::first_argument(words, pairs, text, Class::MapClass, place) else {
         return classes::first_argument(words, pairs, text, Class::Collection, place);
     };
@@ -204,7 +187,12 @@ fn is_uninit_array_at(words: &[u32], pairs: &[u32], text: &[u8], at: usize) -> b
     let Found::At(place) = object_or_pointer_part(words, pairs, text, at) else {
         return false;
     };
-    holds_uninit(words, pairs, text, expand(words, pairs, text, place))
+    holds_uninit(
+        words,
+        pairs,
+        text,
+        wrappers::expand(words, pairs, text, place),
+    )
 }
 
 // `IsRcOrBorrowedRc`: through shared borrows and synonyms' bases
@@ -302,7 +290,7 @@ fn is_auto_size_at(words: &[u32], pairs: &[u32], text: &[u8], at: usize) -> bool
     requires { ⌜ Readable (typeAt (now words) (now pairs) (now text) at) ⌝ }
     ensures { λ r. ⌜ Judges IsAutoSize (typeAt (now (words .entry)) (now (pairs .entry)) (now (text .entry)) at) r ⌝ }
 {
-    words[expand(words, pairs, text, at)] < 11
+    words[wrappers::expand(words, pairs, text, at)] < 11
 }
 
 fn is_box_or_rc(words: &[u32], pairs: &[u32], text: &[u8], at: usize) -> bool

@@ -1,5 +1,6 @@
-use Rattle.rast.specs.DeclarationToString.{Expand}
 use Rattle.encoding.specs.Types.{typeAt}
+use Rattle.wrappers.proofs.Expanding.{expands-readable}
+use Rattle.formal.specs.Receivers.{shared, mutable}
 use Rattle.formal.proofs.Receivers.{by-mut, by-ref, by-underscore, by-value, judge-expanded, with-type}
 use Rattle.formal.proofs.self_form.Statement.{statement}
 use Rattle.formal.proofs.self_form.Tie as tie
@@ -9,8 +10,8 @@ expand-requires c κs = c .before .before .before .pre .1
 
 is-self-type-requires : tie.Need-is-self-type-requires
 is-self-type-requires c κs =
-    let r = c .before .before .before .before .pre .1 in
-    record { value = Expand (r .value); end = r .end; reads = c .expand .ensures .expands (r .value) (r .end) (r .reads) }
+    let a = c .before .before .before .before .args in
+    expands-readable (a .words .now) (a .pairs .now) (a .text .now) (a .at) _ (c .expand .ensures) (c .before .before .before .before .pre .1)
 
 returns : tie.Need-returns
 returns c =
@@ -18,24 +19,24 @@ returns c =
     let j = judge-expanded (typeAt (a .words .now) (a .pairs .now) (a .text .now)) (c .before .before .expand .ensures) (c .before .is-self-type .ensures) in
     by-value j (c .if1 .taken)
 
-is-self-ref-requires : tie.Need-is-self-ref-requires
-is-self-ref-requires c κs = c .before .before .before .before .before .before .pre .1
+is-self-borrowed-requires : tie.Need-is-self-borrowed-requires
+is-self-borrowed-requires c κs = (shared, c .before .before .before .before .before .before .pre .1)
 
 returns-2 : tie.Need-returns-2
 returns-2 c =
     let a = c .before .before .before .before .before .before .before .before .args in
     let j = judge-expanded (typeAt (a .words .now) (a .pairs .now) (a .text .now)) (c .before .before .before .before .expand .ensures) (c .before .before .before .is-self-type .ensures) in
-    by-ref j (c .before .before .if1 .left) (c .before .is-self-ref .ensures) (c .if2 .taken)
+    by-ref j (c .before .before .if1 .left) (c .before .is-self-borrowed .ensures) (c .if2 .taken)
 
-is-self-mut-requires : tie.Need-is-self-mut-requires
-is-self-mut-requires c κs = c .before .before .before .before .before .before .before .before .pre .1
+is-self-borrowed-requires-2 : tie.Need-is-self-borrowed-requires-2
+is-self-borrowed-requires-2 c κs = (mutable, c .before .before .before .before .before .before .before .before .pre .1)
 
 returns-3 : tie.Need-returns-3
 returns-3 c =
     let a = c .before .before .before .before .before .before .before .before .before .before .args in
     let j = judge-expanded (typeAt (a .words .now) (a .pairs .now) (a .text .now)) (c .before .before .before .before .before .before .expand .ensures) (c .before .before .before .before .before .is-self-type .ensures) in
-    by-mut j (c .before .before .before .before .if1 .left) (c .before .before .before .is-self-ref .ensures)
-    (c .before .before .if2 .left) (c .before .is-self-mut .ensures)
+    by-mut j (c .before .before .before .before .if1 .left) (c .before .before .before .is-self-borrowed .ensures)
+    (c .before .before .if2 .left) (c .before .is-self-borrowed2 .ensures)
     (c .if3 .taken)
 
 is-underscore-requires : tie.Need-is-underscore-requires
@@ -45,8 +46,8 @@ returns-4 : tie.Need-returns-4
 returns-4 c =
     let a = c .before .before .before .before .before .before .before .before .before .before .before .before .args in
     let j = judge-expanded (typeAt (a .words .now) (a .pairs .now) (a .text .now)) (c .before .before .before .before .before .before .before .before .expand .ensures) (c .before .before .before .before .before .before .before .is-self-type .ensures) in
-    by-underscore j (c .before .before .before .before .before .before .if1 .left) (c .before .before .before .before .before .is-self-ref .ensures)
-    (c .before .before .before .before .if2 .left) (c .before .before .before .is-self-mut .ensures)
+    by-underscore j (c .before .before .before .before .before .before .if1 .left) (c .before .before .before .before .before .is-self-borrowed .ensures)
+    (c .before .before .before .before .if2 .left) (c .before .before .before .is-self-borrowed2 .ensures)
     (c .before .before .if3 .left) (c .before .is-underscore .ensures)
     (c .if4 .taken)
 
@@ -54,8 +55,8 @@ returns-5 : tie.Need-returns-5
 returns-5 c =
     let a = c .before .before .before .before .before .before .before .before .before .before .before .before .args in
     let j = judge-expanded (typeAt (a .words .now) (a .pairs .now) (a .text .now)) (c .before .before .before .before .before .before .before .before .expand .ensures) (c .before .before .before .before .before .before .before .is-self-type .ensures) in
-    with-type j (c .before .before .before .before .before .before .if1 .left) (c .before .before .before .before .before .is-self-ref .ensures)
-    (c .before .before .before .before .if2 .left) (c .before .before .before .is-self-mut .ensures)
+    with-type j (c .before .before .before .before .before .before .if1 .left) (c .before .before .before .before .before .is-self-borrowed .ensures)
+    (c .before .before .before .before .if2 .left) (c .before .before .before .is-self-borrowed2 .ensures)
     (c .before .before .if3 .left) (c .before .is-underscore .ensures)
     (c .if4 .left)
 
@@ -66,9 +67,9 @@ self-form-spec =
     expand-requires
     is-self-type-requires
     returns
-    is-self-ref-requires
+    is-self-borrowed-requires
     returns-2
-    is-self-mut-requires
+    is-self-borrowed-requires-2
     returns-3
     is-underscore-requires
     returns-4

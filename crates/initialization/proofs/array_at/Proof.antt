@@ -1,5 +1,5 @@
 use Rattle.initialization.proofs.Changes.{new-no-part, new-part, new-sized, new-unsized, size-here, type-readable}
-use Rattle.shapes.proofs.Behind.{expands-readable}
+use Rattle.wrappers.proofs.Expanding.{expands-readable}
 use Rattle.trees.proofs.Heads.{tree-here}
 use borrow.Author.Needs.{needs}
 use Rattle.initialization.proofs.array_at.Statement.{statement}

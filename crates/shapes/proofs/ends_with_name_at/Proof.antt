@@ -1,10 +1,8 @@
 use Prim.Native.Nat.{_-_}
 use Rattle.encoding.specs.Types.{typeAt}
-use Rattle.shapes.proofs.Going.{Going, going-here, going-right, going-start, left-readable}
+use Rattle.wrappers.proofs.Going.{Going, going-here, going-right, going-start, left-readable}
 use Rattle.shapes.proofs.Judging.{endsAt, going-name, name-arrived, name-right}
 use Rattle.shapes.proofs.ends_with_name_at.Statement.{statement}
-use Rattle.trees.specs.Encode.{words}
-use Rattle.trees.specs.Places.{place}
 use lib.ListN.{length}
 use native.Mathlib.Omega.{arith}
 use borrow.Author.Needs.{needs}

@@ -1,5 +1,5 @@
 use Rattle.classes.specs.declared.Class.the-variants.{ArrayClass}
-use Rattle.classes.proofs.Children.{array-of}
+use Rattle.wrappers.proofs.TypesIn.{array-of}
 use Rattle.classes.proofs.Finding.{first-keeps, found-readable}
 use Rattle.shapes.proofs.Judging.{judge-multi, judge-no-array, judge-sized, judge-unsized}
 use Rattle.shapes.proofs.holds_uninit.Statement.{statement}

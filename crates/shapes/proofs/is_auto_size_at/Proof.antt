@@ -1,4 +1,4 @@
-use Rattle.shapes.proofs.Behind.{expands-readable}
+use Rattle.wrappers.proofs.Expanding.{expands-readable}
 use Rattle.shapes.proofs.Judging.{judge-auto}
 use Rattle.shapes.proofs.is_auto_size_at.Statement.{statement}
 use Rattle.writing.proofs.Accepted.{type-here}

@@ -1,5 +1,5 @@
 use Rattle.classes.proofs.Finding.{found-readable}
-use Rattle.shapes.proofs.Behind.{expands-readable}
+use Rattle.wrappers.proofs.Expanding.{expands-readable}
 use Rattle.shapes.proofs.Judging.{judge-no-pointer, judge-pointed}
 use Rattle.shapes.proofs.Parts.{pointer-keeps}
 use Rattle.shapes.proofs.is_uninit_array_at.Statement.{statement}

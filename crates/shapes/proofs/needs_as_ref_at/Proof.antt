@@ -1,4 +1,4 @@
-use Rattle.classes.proofs.Children.{ref-of}
+use Rattle.wrappers.proofs.TypesIn.{ref-of}
 use Rattle.shapes.proofs.Judging.{judge-needs, judge-needs-ref}
 use Rattle.shapes.proofs.needs_as_ref_at.Statement.{statement}
 use Rattle.writing.proofs.Accepted.{type-here}

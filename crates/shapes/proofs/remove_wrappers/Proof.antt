@@ -1,10 +1,8 @@
 use Prim.Native.Nat.{_-_}
 use Rattle.encoding.specs.Types.{typeAt}
-use Rattle.shapes.proofs.Going.{Going, going-display, going-here, going-meta, going-start, meta-inside}
+use Rattle.wrappers.proofs.Going.{Going, going-display, going-here, going-meta, going-start, meta-inside}
 use Rattle.shapes.proofs.Judging.{removed-arrived, removed-display, removed-meta, removedTo}
 use Rattle.shapes.proofs.remove_wrappers.Statement.{statement}
-use Rattle.trees.specs.Encode.{words}
-use Rattle.trees.specs.Places.{place}
 use lib.ListN.{length}
 use native.Mathlib.Omega.{arith}
 use borrow.Author.Needs.{needs}

@@ -1,4 +1,4 @@
-use Rattle.classes.proofs.Children.{array-of}
+use Rattle.wrappers.proofs.TypesIn.{array-of}
 use Rattle.classes.proofs.Finding.{found-readable}
 use Rattle.shapes.proofs.Parts.{element-finds, element-inside, element-none, multi-array-keeps}
 use Rattle.shapes.proofs.uninit_part.Statement.{statement}

@@ -13,8 +13,8 @@ use Rattle.writing.specs.Written.{Readable, EndsAt}
 use Rattle.writing.proofs.Accepted.{type-here}
 use Rattle.trees.specs.Encode.{words}
 use Rattle.trees.proofs.Renaming.{type-words}
-use Rattle.classes.specs.Asked.{Judges}
-use Rattle.classes.proofs.Children.{ref-of, both-of, synonym-of, flagged, meta-of}
+use Rattle.wrappers.specs.Asked.{Judges}
+use Rattle.wrappers.proofs.TypesIn.{ref-of, both-of, synonym-of, flagged, meta-of}
 
 -- on the way from the type at `at`: the answer about the type at `place` is the answer about that one
 pub record Going {A : Type 0} (f : ℕ → Ty Bytes → A) (again : ℕ → Reading (Ty Bytes)) (at place : ℕ) : Type 0 where
