@@ -1,7 +1,7 @@
 -- Declarations from the texts of their parts.
 use Prim.Native.Nat.{ℕ, _+_}
 use mathlib.Core.Path.{_≡_, refl, ap, sym, _∙_}
-use mathlib.Core.Bool.{true, false}
+use mathlib.Core.Bool.{Bool, true, false}
 use mathlib.Core.List.{List, [], _++_, append-assoc, append-nil}
 use borrow.Author.Tests.{eq-eqb, ne-eqb}
 use Rattle.rast.specs.Bytes.{Bytes, ascii}
@@ -9,7 +9,7 @@ use Rattle.rast.specs.Tree.{Ty}
 use Rattle.rast.specs.ToString.{Path·ToString, Type·ToString}
 use Rattle.rast.specs.Indent.{IND, indent, SeqToString}
 use Rattle.rast.specs.Doc.{ToDocstringPrefix}
-use Rattle.rast.specs.Declaration.{Visibility, NamedFields, NamelessFields, EnumCase, StructDecl, EnumDecl, TypeDecl, UseDecl}
+use Rattle.rast.specs.Declaration.{Visibility, Fields, NamedFields, NamelessFields, EnumCase, StructDecl, EnumDecl, TypeDecl, UseDecl}
 use Rattle.rast.specs.DeclarationToString.{Visibility·ToString, Attribute·ToStringMultiple, TypeParamDecl·ToStringMultiple, Fields·ToString, structFieldsText, EnumCase·ToString, Struct·ToString, Enum·ToString, TypeSynonym·ToString, Use·ToString, Declaration·ToString}
 use Rattle.encoding.specs.declared.Refusal.{Refusal}
 use Rattle.encoding.specs.declared.Refusal.the-variants.{UnknownWord}
@@ -25,7 +25,7 @@ use Rattle.laying.proofs.Passes.{Runs}
 use Rattle.laying.proofs.Splits.{map-same, map-made, runs-as, split₃, split-front, text-before, text-behind, listed-read, counted-got, counted-none, counted-stop}
 use Rattle.fields.specs.Texts.{lineText, attributesAt, parametersAt, namedAt, namelessFieldsAt}
 use Rattle.fields.proofs.Fields.{indent-more}
-use Rattle.declaration.specs.Texts.{keywordText, caseLineText, tupleFieldsAt, structFieldsAt, caseFieldsAt, caseAt, caseLineAt, casesAt, variantsAt, titleAt, frontAt, enumBody, synonymBody, structAt, enumAt, synonymAt, useAt, afterAt, declarationTextAt}
+use Rattle.declaration.specs.Texts.{keywordText, caseLineText, tupleFieldsAt, fieldsAt, caseAt, caseLineAt, casesAt, variantsAt, titleAt, frontAt, enumBody, synonymBody, structAt, enumAt, synonymAt, useAt, afterAt, declarationTextAt}
 
 -- ---- chains, a text of theirs said in another way
 
@@ -123,53 +123,49 @@ module _ (ws pairs : List ℕ) (text : Bytes) where
   -- ---- fields, by the word that says which they are
 
   module _ (level at : ℕ) {k p : ℕ} (e : readBelow 2 ws at ≡ got k p) where
-    pub struct-named : k ≡ 0 → structFieldsAt ws pairs text level at ≡ namedAt ws pairs text level p
-    unfolding readFields structFieldsText ascii
-    struct-named z =
-        let d : structFieldsAt ws pairs text level at ≡ mapReading (structFieldsText (indent level)) (readCounted ws (readField bound ws name type) p >>= λ xs q. got (NamedFields xs) q) = rw (e, eq-eqb k 0 z) in
-        d ∙ map-made (structFieldsText (indent level)) NamedFields (readCounted ws (readField bound ws name type) p)
+    -- any text of the fields
+    as-named : (f : Fields Bytes → Bytes) → k ≡ 0 → mapReading f (readFields bound ws name type at) ≡ mapReading (λ xs. f (NamedFields xs)) (readCounted ws (readField bound ws name type) p)
+    unfolding readFields
+    as-named f z = rw (e, eq-eqb k 0 z) (map-made f NamedFields (readCounted ws (readField bound ws name type) p))
+
+    as-nameless : (f : Fields Bytes → Bytes) → (k ≡ 0 → ⊥)
+        → mapReading f (readFields bound ws name type at) ≡ mapReading (λ xs. f (NamelessFields xs)) (readCounted ws (readNamelessField bound ws name type) p)
+    unfolding readFields
+    as-nameless f z = rw (e, ne-eqb k 0 z) (map-made f NamelessFields (readCounted ws (readNamelessField bound ws name type) p))
+
+    pub fields-named : (inCase : Bool) → k ≡ 0 → fieldsAt ws pairs text inCase level at ≡ namedAt ws pairs text level p
+    unfolding structFieldsText ascii
+    fields-named true z = as-named (Fields·ToString (indent level) true) z
+    fields-named false z =
+        as-named (structFieldsText (indent level)) z
         ∙ map-alike (λ xs. append-nil (Fields·ToString (indent level) true (NamedFields xs))) (readCounted ws (readField bound ws name type) p)
 
-    pub struct-nameless : (k ≡ 0 → ⊥) → structFieldsAt ws pairs text level at ≡ tupleFieldsAt ws pairs text level p
-    unfolding readFields structFieldsText
-    struct-nameless z =
-        let d : structFieldsAt ws pairs text level at ≡ mapReading (structFieldsText (indent level)) (readCounted ws (readNamelessField bound ws name type) p >>= λ xs q. got (NamelessFields xs) q) = rw (e, ne-eqb k 0 z) in
-        d ∙ map-made (structFieldsText (indent level)) NamelessFields (readCounted ws (readNamelessField bound ws name type) p)
+    pub case-nameless : {inCase : Bool} → inCase ≡ true → (k ≡ 0 → ⊥) → fieldsAt ws pairs text inCase level at ≡ namelessFieldsAt ws pairs text true level p
+    case-nameless c z = ap (λ (b : Bool). fieldsAt ws pairs text b level at) c ∙ as-nameless (Fields·ToString (indent level) true) z
+
+    pub struct-nameless : {inCase : Bool} → inCase ≡ false → (k ≡ 0 → ⊥) → fieldsAt ws pairs text inCase level at ≡ tupleFieldsAt ws pairs text level p
+    unfolding structFieldsText
+    struct-nameless c z =
+        ap (λ (b : Bool). fieldsAt ws pairs text b level at) c
+        ∙ as-nameless (structFieldsText (indent level)) z
         ∙ text-behind (ascii ";") (λ xs. Fields·ToString (indent level) false (NamelessFields xs)) (readCounted ws (readNamelessField bound ws name type) p) .same
 
-    pub case-named : k ≡ 0 → caseFieldsAt ws pairs text level at ≡ namedAt ws pairs text level p
-    unfolding readFields
-    case-named z =
-        let d : caseFieldsAt ws pairs text level at ≡ mapReading (Fields·ToString (indent level) true) (readCounted ws (readField bound ws name type) p >>= λ xs q. got (NamedFields xs) q) = rw (e, eq-eqb k 0 z) in
-        d ∙ map-made (Fields·ToString (indent level) true) NamedFields (readCounted ws (readField bound ws name type) p)
-
-    pub case-nameless : (k ≡ 0 → ⊥) → caseFieldsAt ws pairs text level at ≡ namelessFieldsAt ws pairs text true level p
-    unfolding readFields
-    case-nameless z =
-        let d : caseFieldsAt ws pairs text level at ≡ mapReading (Fields·ToString (indent level) true) (readCounted ws (readNamelessField bound ws name type) p >>= λ xs q. got (NamelessFields xs) q) = rw (e, ne-eqb k 0 z) in
-        d ∙ map-made (Fields·ToString (indent level) true) NamelessFields (readCounted ws (readNamelessField bound ws name type) p)
-
-  module _ (level at : ℕ) {k : Refusal} (e : readBelow 2 ws at ≡ stop k) where
-    pub struct-stop : structFieldsAt ws pairs text level at ≡ stop k
-    unfolding readFields mapReading
-    struct-stop = rw e
-
-    pub case-stop : caseFieldsAt ws pairs text level at ≡ stop k
-    unfolding readFields mapReading
-    case-stop = rw e
+  pub fields-stop : (inCase : Bool) (level at : ℕ) {k : Refusal} → readBelow 2 ws at ≡ stop k → fieldsAt ws pairs text inCase level at ≡ stop k
+  unfolding readFields mapReading
+  fields-stop inCase level at e = rw e
 
   pub tuple-runs : (level at : ℕ) → Runs (tupleFieldsAt ws pairs text level at) (namelessFieldsAt ws pairs text false level at then λ p. last (got (ascii ";") p))
   tuple-runs level at = record { same = refl }
 
   -- ---- the cases of an enum
 
-  pub case-runs : (level at : ℕ) → Runs (caseAt ws pairs text level at) (docAt ws pairs text level at then λ p. nameAt ws pairs text p then λ q. last (caseFieldsAt ws pairs text level q))
+  pub case-runs : (level at : ℕ) → Runs (caseAt ws pairs text level at) (docAt ws pairs text level at then λ p. nameAt ws pairs text p then λ q. last (fieldsAt ws pairs text true level q))
   unfolding readCase EnumCase·ToString
   case-runs level at = record {
     same = split₃ (λ d x fs. record { docString = d; name = x; fields = fs }) (EnumCase·ToString (indent level) true) (λ d. ToDocstringPrefix d (indent level)) (λ y. y) (Fields·ToString (indent level) true)
         (λ d x fs. append-assoc (ToDocstringPrefix d (indent level)) x (Fields·ToString (indent level) true fs))
         (nameAt ws pairs text at) (nameAt ws pairs text) (readFields bound ws name type) .same
-        ∙ second-alike (docAt ws pairs text level at) (λ p. mapReading (λ y. y) (nameAt ws pairs text p)) (nameAt ws pairs text) (λ q. last (caseFieldsAt ws pairs text level q)) (λ p. map-same (nameAt ws pairs text p));
+        ∙ second-alike (docAt ws pairs text level at) (λ p. mapReading (λ y. y) (nameAt ws pairs text p)) (nameAt ws pairs text) (λ q. last (fieldsAt ws pairs text true level q)) (λ p. map-same (nameAt ws pairs text p));
   }
 
   pub case-line-runs : (level at : ℕ) → Runs (caseLineAt ws pairs text level at) (got (lineText (level + 1)) at then λ p. last (caseAt ws pairs text (level + 1) at))
@@ -213,7 +209,7 @@ module _ (ws pairs : List ℕ) (text : Bytes) where
       (λ q. run (got (keywordText head) q then λ r. mapReading (λ y. y) (nameAt ws pairs text r) then λ s. last (parametersAt ws pairs text s))) (titleAt ws pairs text head)
       (λ q. second-alike (got (keywordText head) q) (λ r. mapReading (λ y. y) (nameAt ws pairs text r)) (nameAt ws pairs text) (λ s. last (parametersAt ws pairs text s)) (λ r. map-same (nameAt ws pairs text r)))
 
-  pub struct-runs : (level at : ℕ) → Runs (structAt ws pairs text level at) (frontAt ws pairs text 25 level at then λ p. last (structFieldsAt ws pairs text level p))
+  pub struct-runs : (level at : ℕ) → Runs (structAt ws pairs text level at) (frontAt ws pairs text 25 level at then λ p. last (fieldsAt ws pairs text false level p))
   unfolding readStruct Struct·ToString keywordText
   struct-runs level at =
       runs-as (front-alike 25 level at)

@@ -1,12 +1,12 @@
 -- The texts of structs, enums, type synonyms and use lines at a place of an encoding.
 use Prim.Native.Nat.{ℕ}
-use mathlib.Core.Bool.{true, false}
+use mathlib.Core.Bool.{Bool, true, false}
 use mathlib.Core.List.{List, _++_}
 use lib.Dec.{eqb}
 use Rattle.rast.specs.Bytes.{Bytes, ascii}
 use Rattle.rast.specs.Tree.{Ty}
 use Rattle.rast.specs.Indent.{IND, indent, SeqToString}
-use Rattle.rast.specs.Declaration.{EnumCase}
+use Rattle.rast.specs.Declaration.{Fields, EnumCase}
 use Rattle.rast.specs.DeclarationToString.{Fields·ToString, structFieldsText, EnumCase·ToString, Struct·ToString, Enum·ToString, TypeSynonym·ToString, Use·ToString, Declaration·ToString}
 use Rattle.encoding.specs.Refusals.{pick}
 use Rattle.encoding.specs.Reading.{Reading, got, mapReading}
@@ -20,6 +20,11 @@ use Rattle.fields.specs.Texts.{lineText, attributesAt, parametersAt, namelessFi
 -- what stands before the name, by the head
 unfoldable pub keywordText : ℕ → Bytes
 keywordText head = pick (eqb head structHead) (ascii "pub struct ") (pick (eqb head enumHead) (ascii "pub enum ") (ascii "pub type "))
+
+-- the fields of a case, or of a struct
+abbrev pub fieldsText : Bool → Bytes → Fields Bytes → Bytes
+fieldsText true ind = Fields·ToString ind true
+fieldsText false ind = structFieldsText ind
 
 -- a case of an enum on its line; `ind` is the enum's
 abbrev pub caseLineText : Bytes → EnumCase Bytes → Bytes
@@ -39,11 +44,8 @@ module _ (ws pairs : List ℕ) (text : Bytes) where
   abbrev pub tupleFieldsAt : ℕ → ℕ → Reading Bytes
   tupleFieldsAt level at = run (namelessFieldsAt ws pairs text false level at then λ p. last (got (ascii ";") p))
 
-  abbrev pub structFieldsAt : ℕ → ℕ → Reading Bytes
-  structFieldsAt level at = mapReading (structFieldsText (indent level)) (readFields bound ws name type at)
-
-  abbrev pub caseFieldsAt : ℕ → ℕ → Reading Bytes
-  caseFieldsAt level at = mapReading (Fields·ToString (indent level) true) (readFields bound ws name type at)
+  abbrev pub fieldsAt : Bool → ℕ → ℕ → Reading Bytes
+  fieldsAt inCase level at = mapReading (fieldsText inCase (indent level)) (readFields bound ws name type at)
 
   abbrev pub caseAt : ℕ → ℕ → Reading Bytes
   caseAt level at = mapReading (EnumCase·ToString (indent level) true) (readCase bound ws name type at)

@@ -2,7 +2,7 @@
 ghost use Prim.Native.Nat.{_+_, _^_, _<_};
 ghost use Rattle.output.specs.Laid.{Laid, Fits};
 ghost use Rattle.laying.specs.Passes.{Checked, Ready, Went};
-ghost use Rattle.declaration.specs.Texts.{keywordText, tupleFieldsAt, structFieldsAt, titleAt, frontAt, structAt, caseFieldsAt, caseAt, caseLineAt, casesAt, variantsAt, enumBody, enumAt, synonymBody, synonymAt, useAt, afterAt, declarationTextAt};
+ghost use Rattle.declaration.specs.Texts.{keywordText, tupleFieldsAt, fieldsAt, titleAt, frontAt, structAt, caseAt, caseLineAt, casesAt, variantsAt, enumBody, enumAt, synonymBody, synonymAt, useAt, afterAt, declarationTextAt};
 use encoding::Refusal;
 use encoding::WordScan;
 use laying::Place;
@@ -40,24 +40,38 @@ fn lay_tuple_fields(
     }
 }
 
-// The fields of a struct: 0 named, 1 nameless.
-fn lay_struct_fields(
+// The fields of a case or of a struct: 0 named, 1 nameless.
+fn lay_fields(
     write: bool,
     words: &[u32],
     pairs: &[u32],
     text: &[u8],
+    in_case: bool,
     level: u32,
     at: usize,
     out: &mut [u8],
     pos: usize,
 ) -> Place
-    requires { ⌜ Checked (now words) (now pairs) (now text) × (level < 2 ^ 31) × Ready write (now out) pos (structFieldsAt (now words) (now pairs) (now text) level at) ⌝ }
-    ensures { λ r. ⌜ Went write (now (out .entry)) pos (structFieldsAt (now (words .entry)) (now (pairs .entry)) (now (text .entry)) level at) (now (out .exit)) r ⌝ }
+    requires { ⌜ Checked (now words) (now pairs) (now text) × (level < 2 ^ 31) × Ready write (now out) pos (fieldsAt (now words) (now pairs) (now text) in_case level at) ⌝ }
+    ensures { λ r. ⌜ Went write (now (out .entry)) pos (fieldsAt (now (words .entry)) (now (pairs .entry)) (now (text .entry)) in_case level at) (now (out .exit)) r ⌝ }
 {
     match encoding::scan_below(words, 2, at) {
         WordScan::Word { value, next } => {
             if value == 0 {
                 return fields::lay_named(write, words, pairs, text, level, next, out, pos);
+            }
+            if in_case {
+                return fields::lay_nameless_fields(
+                    write,
+                    words,
+                    pairs,
+                    text,
+                    true,
+                    level,
+                    next,
+                    out,
+                    pos,
+                );
             }
             lay_tuple_fields(write, words, pairs, text, level, next, out, pos)
         }
@@ -143,32 +157,7 @@ fn lay_struct(
     let Place::At { next, pos: p } = front else {
         return front;
     };
-    lay_struct_fields(write, words, pairs, text, level, next, out, p)
-}
-
-// The fields of a case: 0 named, 1 nameless.
-fn lay_case_fields(
-    write: bool,
-    words: &[u32],
-    pairs: &[u32],
-    text: &[u8],
-    level: u32,
-    at: usize,
-    out: &mut [u8],
-    pos: usize,
-) -> Place
-    requires { ⌜ Checked (now words) (now pairs) (now text) × (level < 2 ^ 31) × Ready write (now out) pos (caseFieldsAt (now words) (now pairs) (now text) level at) ⌝ }
-    ensures { λ r. ⌜ Went write (now (out .entry)) pos (caseFieldsAt (now (words .entry)) (now (pairs .entry)) (now (text .entry)) level at) (now (out .exit)) r ⌝ }
-{
-    match encoding::scan_below(words, 2, at) {
-        WordScan::Word { value, next } => {
-            if value == 0 {
-                return fields::lay_named(write, words, pairs, text, level, next, out, pos);
-            }
-            fields::lay_nameless_fields(write, words, pairs, text, true, level, next, out, pos)
-        }
-        WordScan::NoWord(r) => Place::Stopped(r),
-    }
+    lay_fields(write, words, pairs, text, false, level, next, out, p)
 }
 
 // A case: doc, name, fields.
@@ -193,7 +182,7 @@ fn lay_case(
     let Place::At { next, pos: p } = name else {
         return name;
     };
-    lay_case_fields(write, words, pairs, text, level, next, out, p)
+    lay_fields(write, words, pairs, text, true, level, next, out, p)
 }
 
 // A case on its line; `level` is the enum's.

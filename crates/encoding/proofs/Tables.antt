@@ -176,7 +176,6 @@ pub record Tables (words pairs : List ℕ) (text : Bytes) : Type 0 where
   pub good : Good pairs text
   pub few : length words ≤ 8192
   pub pairs-few : length pairs / 2 ≤ 1024
-  pub short : length text ≤ 16384
 
 passed : (a b c g : Bool) → pick (a or b or c) (Failed Overlong) (pick g Passed (Failed BadPair)) ≡ Passed → (a ≡ false) × (b ≡ false) × (c ≡ false) × (g ≡ true)
 passed false false false true e = (refl, refl, refl, refl)
@@ -193,5 +192,4 @@ tables-passed words pairs text e =
       good = p .3;
       few = ltb-false 8192 (length words) (p .0);
       pairs-few = ltb-false 1024 (length pairs / 2) (p .1);
-      short = ltb-false 16384 (length text) (p .2);
     }

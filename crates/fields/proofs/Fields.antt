@@ -23,7 +23,7 @@ use Rattle.lists.specs.Texts.{attributeAt, parameterAt}
 use Rattle.formal.specs.Texts.{formalAt}
 use Rattle.fields.specs.declared.Entry.{Entry}
 use Rattle.fields.specs.declared.Entry.the-variants.{Attr, Param, Named, Inline, Lined}
-use Rattle.fields.specs.Texts.{lineText, entryGap, namelessEntry, fieldAt, namelessAt, entryAt, entriesAt, attributesAt, parametersAt, namedAt, namelessFieldsAt, parametersSome, namedSome, namelessSome}
+use Rattle.fields.specs.Texts.{lineText, entryGap, namelessEntry, fieldAt, entryAt, entriesAt, attributesAt, parametersAt, namedAt, namelessFieldsAt, parametersSome, namedSome, namelessSome}
 
 -- the indent of the next level
 pub indent-more : (level : ℕ) → indent (level + 1) ≡ indent level ++ IND
@@ -61,14 +61,19 @@ module _ (ws pairs : List ℕ) (text : Bytes) where
   abbrev type : ℕ → Reading (Ty Bytes)
   type = typeAt ws pairs text
 
-  pub field-runs : (at : ℕ) → Runs (fieldAt ws pairs text at) (visibilityAt ws at then λ p. last (formalAt ws pairs text p))
-  unfolding readField Field·ToString
-  field-runs at =
-      split₂ (λ v f. record { visibility = v; formal = f }) Field·ToString Visibility·ToString Formal·ToString (λ v f. refl) (readVisibility ws at) (readFormal bound ws name type)
+  -- what follows the visibility
+  abbrev restAt : Bool → ℕ → Reading Bytes
+  restAt true at = formalAt ws pairs text at
+  restAt false at = typeTextAt ws pairs text at
 
-  pub nameless-runs : (at : ℕ) → Runs (namelessAt ws pairs text at) (visibilityAt ws at then λ p. last (typeTextAt ws pairs text p))
-  unfolding readNamelessField NamelessField·ToString
-  nameless-runs at =
+  pub rest-as : {named b : Bool} (at : ℕ) → named ≡ b → restAt named at ≡ restAt b at
+  rest-as at e = ap (λ (c : Bool). restAt c at) e
+
+  pub field-runs : (named : Bool) (at : ℕ) → Runs (fieldAt ws pairs text named at) (visibilityAt ws at then λ p. last (restAt named p))
+  unfolding readField readNamelessField Field·ToString NamelessField·ToString
+  field-runs true at =
+      split₂ (λ v f. record { visibility = v; formal = f }) Field·ToString Visibility·ToString Formal·ToString (λ v f. refl) (readVisibility ws at) (readFormal bound ws name type)
+  field-runs false at =
       split₂ (λ v t. record { visibility = v; tpe = t }) NamelessField·ToString Visibility·ToString Type·ToString (λ v t. refl) (readVisibility ws at) type
 
   -- ---- n of a list
@@ -89,17 +94,17 @@ module _ (ws pairs : List ℕ) (text : Bytes) where
   unfolding entryAt entryGap
   named-read level n p =
       listed-read Field·ToString (separatorText (indent level) true) (readField bound ws name type) n p
-      ∙ listed-same (separatorText (indent level) true) (fieldAt ws pairs text) (entryAt ws pairs text Named level) (λ q. refl) n p
+      ∙ listed-same (separatorText (indent level) true) (fieldAt ws pairs text true) (entryAt ws pairs text Named level) (λ q. refl) n p
 
   nameless-read : (newLine : Bool) (level n p : ℕ) → mapReading (SeqToString NamelessField·ToString (separatorText (indent level) newLine)) (readList (readNamelessField bound ws name type) n p)
       ≡ entriesAt ws pairs text (namelessEntry newLine) level n p
   unfolding entryAt entryGap
   nameless-read true level n p =
       listed-read NamelessField·ToString (separatorText (indent level) true) (readNamelessField bound ws name type) n p
-      ∙ listed-same (separatorText (indent level) true) (namelessAt ws pairs text) (entryAt ws pairs text Lined level) (λ q. refl) n p
+      ∙ listed-same (separatorText (indent level) true) (fieldAt ws pairs text false) (entryAt ws pairs text Lined level) (λ q. refl) n p
   nameless-read false level n p =
       listed-read NamelessField·ToString (separatorText (indent level) false) (readNamelessField bound ws name type) n p
-      ∙ listed-same (separatorText (indent level) false) (namelessAt ws pairs text) (entryAt ws pairs text Inline level) (λ q. refl) n p
+      ∙ listed-same (separatorText (indent level) false) (fieldAt ws pairs text false) (entryAt ws pairs text Inline level) (λ q. refl) n p
 
   -- ---- how many, and then these
 

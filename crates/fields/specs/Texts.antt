@@ -43,19 +43,18 @@ module _ (ws pairs : List ℕ) (text : Bytes) where
   abbrev type : ℕ → Reading (Ty Bytes)
   type = typeAt ws pairs text
 
-  abbrev pub fieldAt : ℕ → Reading Bytes
-  fieldAt at = mapReading Field·ToString (readField bound ws name type at)
-
-  abbrev pub namelessAt : ℕ → Reading Bytes
-  namelessAt at = mapReading NamelessField·ToString (readNamelessField bound ws name type at)
+  -- a field with a name, or without
+  abbrev pub fieldAt : Bool → ℕ → Reading Bytes
+  fieldAt true at = mapReading Field·ToString (readField bound ws name type at)
+  fieldAt false at = mapReading NamelessField·ToString (readNamelessField bound ws name type at)
 
   -- one of a list, and n of them
   unfoldable pub entryAt : Entry → ℕ → ℕ → Reading Bytes
   entryAt Attr level at = attributeAt ws pairs text level at
   entryAt Param level at = parameterAt ws pairs text at
-  entryAt Named level at = fieldAt at
-  entryAt Inline level at = namelessAt at
-  entryAt Lined level at = namelessAt at
+  entryAt Named level at = fieldAt true at
+  entryAt Inline level at = fieldAt false at
+  entryAt Lined level at = fieldAt false at
 
   abbrev pub entriesAt : Entry → ℕ → ℕ → ℕ → Reading Bytes
   entriesAt entry level n at = listed (entryAt entry level) (entryGap entry level) n at

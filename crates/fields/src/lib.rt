@@ -6,7 +6,7 @@ ghost use Rattle.rast.specs.Indent.{indent};
 ghost use Rattle.rast.specs.DeclarationToString.{separatorText};
 ghost use Rattle.output.specs.Laid.{Laid, Fits};
 ghost use Rattle.laying.specs.Passes.{Checked, Ready, Went};
-ghost use Rattle.fields.specs.Texts.{entryGap, namelessEntry, fieldAt, namelessAt, entryAt, entriesAt, attributesAt, parametersSome, parametersAt, namedSome, namedAt, namelessSome, namelessFieldsAt};
+ghost use Rattle.fields.specs.Texts.{entryGap, namelessEntry, fieldAt, entryAt, entriesAt, attributesAt, parametersSome, parametersAt, namedSome, namedAt, namelessSome, namelessFieldsAt};
 use encoding::WordScan;
 use laying::Place;
 
@@ -19,43 +19,27 @@ enum Entry {
     Lined,
 }
 
-// A named field.
+// A field: its visibility, and then its name and type, or its type alone.
 fn lay_field(
     write: bool,
     words: &[u32],
     pairs: &[u32],
     text: &[u8],
+    named: bool,
     at: usize,
     out: &mut [u8],
     pos: usize,
 ) -> Place
-    requires { ⌜ Checked (now words) (now pairs) (now text) × Ready write (now out) pos (fieldAt (now words) (now pairs) (now text) at) ⌝ }
-    ensures { λ r. ⌜ Went write (now (out .entry)) pos (fieldAt (now (words .entry)) (now (pairs .entry)) (now (text .entry)) at) (now (out .exit)) r ⌝ }
+    requires { ⌜ Checked (now words) (now pairs) (now text) × Ready write (now out) pos (fieldAt (now words) (now pairs) (now text) named at) ⌝ }
+    ensures { λ r. ⌜ Went write (now (out .entry)) pos (fieldAt (now (words .entry)) (now (pairs .entry)) (now (text .entry)) named at) (now (out .exit)) r ⌝ }
 {
     let visibility = laying::lay_visibility(write, words, at, out, pos);
     let Place::At { next, pos: p } = visibility else {
         return visibility;
     };
-    formal::lay_formal(write, words, pairs, text, next, out, p)
-}
-
-// A field without a name.
-fn lay_nameless(
-    write: bool,
-    words: &[u32],
-    pairs: &[u32],
-    text: &[u8],
-    at: usize,
-    out: &mut [u8],
-    pos: usize,
-) -> Place
-    requires { ⌜ Checked (now words) (now pairs) (now text) × Ready write (now out) pos (namelessAt (now words) (now pairs) (now text) at) ⌝ }
-    ensures { λ r. ⌜ Went write (now (out .entry)) pos (namelessAt (now (words .entry)) (now (pairs .entry)) (now (text .entry)) at) (now (out .exit)) r ⌝ }
-{
-    let visibility = laying::lay_visibility(write, words, at, out, pos);
-    let Place::At { next, pos: p } = visibility else {
-        return visibility;
-    };
+    if named {
+        return formal::lay_formal(write, words, pairs, text, next, out, p);
+    }
     laying::lay_type(write, words, pairs, text, next, out, p)
 }
 
@@ -77,9 +61,9 @@ fn lay_entry(
     match entry {
         Entry::Attr => lists::lay_attribute(write, words, pairs, text, level, at, out, pos),
         Entry::Param => lists::lay_parameter(write, words, pairs, text, at, out, pos),
-        Entry::Named => lay_field(write, words, pairs, text, at, out, pos),
-        Entry::Inline => lay_nameless(write, words, pairs, text, at, out, pos),
-        Entry::Lined => lay_nameless(write, words, pairs, text, at, out, pos),
+        Entry::Named => lay_field(write, words, pairs, text, true, at, out, pos),
+        Entry::Inline => lay_field(write, words, pairs, text, false, at, out, pos),
+        Entry::Lined => lay_field(write, words, pairs, text, false, at, out, pos),
     }
 }
 

@@ -14,11 +14,6 @@ use Rattle.encoding.specs.Reading.{Reading, got, stop, _>>=_, mapReading, readB
 use Rattle.encoding.specs.Tables.{nameBytes, nameCount}
 use Rattle.encoding.specs.Types.{typeAt}
 use Rattle.encoding.specs.Declarations.{readName, readFormal}
-use Rattle.encoding.proofs.Tables.{impossible}
-use Rattle.measure.specs.declared.Measure.{Measure}
-use Rattle.measure.specs.declared.Measure.the-variants.{Measured, Stopped}
-use Rattle.measure.specs.Lengths.{measureOf}
-use Rattle.writing.specs.Written.{EndsAt}
 use Rattle.laying.specs.declared.Place.{Place}
 use Rattle.laying.specs.Passes.{last, _then_, run, Ready, Went}
 use Rattle.laying.specs.Texts.{typeTextAt}
@@ -155,13 +150,3 @@ module _ (ws pairs : List ℕ) (text : Bytes) (x at : ℕ) where
       → WentChain write o pos (got (nameBytes pairs text x) at then λ p. got (ascii ": ") p then λ q. last (typeTextAt ws pairs text q)) o′ r
       → Went write o pos (typedAt ws pairs text x at) o′ r
   typed-went w = went-runs typed-runs w
-
--- ---- what a measure says
-
-pub measured-ends : (x : Reading (Ty Bytes)) {r : Measure} {n b : ℕ} → r ≡ measureOf x → r ≡ Measured n b → EndsAt x n
-measured-ends (got t m) {r} {n} {b} e d = let q : m ≡ n = cc in record { value = t; reads = ap (got t) q }
-measured-ends (stop k) e d = impossible (cc)
-
-pub measured-stops : (x : Reading (Ty Bytes)) {r : Measure} {k : Refusal} → r ≡ measureOf x → r ≡ Stopped k → x ≡ stop k
-measured-stops (got t m) e d = impossible (cc)
-measured-stops (stop j) e d = cc

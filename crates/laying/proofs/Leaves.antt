@@ -30,6 +30,7 @@ use Rattle.encoding.proofs.Reading.{word-got, word-stop, path-got, path-stop}
 use Rattle.measure.specs.declared.Measure.{Measure}
 use Rattle.measure.specs.declared.Measure.the-variants.{Measured, Stopped as Refused}
 use Rattle.measure.specs.Lengths.{measureOf}
+use Rattle.measure.proofs.Measured.{measured-got, measured-stop}
 use Rattle.writing.specs.declared.Spot.{Spot}
 use Rattle.writing.specs.Written.{Room, Written}
 use Rattle.laying.specs.declared.Place.the-variants.{At, Stopped}
@@ -106,22 +107,13 @@ module _ {write : Bool} {o : List ℕ} {p : ℕ} (x : Reading (Ty Bytes)) where
   went-written s e w = came (record { bytes = Type·ToString (w .value); reads = map-got Type·ToString (w .reads); laid = laid-wrote e (w .wrote) })
 
   pub went-measured : {r : Measure} {n b p′ : ℕ} → write ≡ false → r ≡ measureOf x → r ≡ Measured n b → p′ ≡ clamp (p + b) → Went write o p (mapReading Type·ToString x) o (At n p′)
-  went-measured {r} {n} {b} {p′} w e d c = go x e
-    where
-      go : (y : Reading (Ty Bytes)) → r ≡ measureOf y → Went write o p (mapReading Type·ToString y) o (At n p′)
-      go (got t m) f =
-          let q : m ≡ n = cc in
-          let l : b ≡ length (Type·ToString t) = cc in
-          came (record {
-            bytes = Type·ToString t;
-            reads = map-got Type·ToString (ap (got t) q);
-            laid = laid-counted w (ap clamp c ∙ clamp-twice (p + b) ∙ ap (λ (z : ℕ). clamp (p + z)) l);
-          })
-      go (stop k) f = impossible (cc)
+  went-measured {b = b} w e d c =
+      let s = measured-got x e d in
+      came (record {
+        bytes = Type·ToString (s .value);
+        reads = map-got Type·ToString (s .reads);
+        laid = laid-counted w (ap clamp c ∙ clamp-twice (p + b) ∙ ap (λ (z : ℕ). clamp (p + z)) (s .size));
+      })
 
   pub went-refused : {r : Measure} {k : Refusal} → r ≡ measureOf x → r ≡ Refused k → Went write o p (mapReading Type·ToString x) o (Stopped k)
-  went-refused {r} {k} e d = go x e
-    where
-      go : (y : Reading (Ty Bytes)) → r ≡ measureOf y → Went write o p (mapReading Type·ToString y) o (Stopped k)
-      go (got t m) f = impossible (cc)
-      go (stop j) f = let q : j ≡ k = cc in stops-here (map-stop Type·ToString (ap stop q))
+  went-refused e d = stops-here (map-stop Type·ToString (measured-stop x e d))

@@ -199,23 +199,6 @@ module _ {A : Type 0} (g s : List A → Bytes) (a b : Bytes) (e : (x : A) (l : L
   around item zero at h = absurd (let z : ⊥ = omega arith in z)
   around item (suc n) at h = around-read at (item at) (readList item n)
 
--- the same with nothing behind it
-module _ {A : Type 0} (g s : List A → Bytes) (a : Bytes) (e : (x : A) (l : List A) → g (x ∷ l) ≡ a ++ s (x ∷ l)) where
-  ahead-read : (at : ℕ) (x : Reading A) (m : ℕ → Reading (List A))
-      → mapReading g (x >>= λ y q. m q >>= λ l r. got (y ∷ l) r) ≡ run (got a at then λ p. last (mapReading s (x >>= λ y q. m q >>= λ l r. got (y ∷ l) r)))
-  unfolding mapReading run
-  ahead-read at (got y q) m = go (m q)
-    where
-      go : (z : Reading (List A)) → mapReading g (z >>= λ l r. got (y ∷ l) r) ≡ run (got a at then λ p. last (mapReading s (z >>= λ l r. got (y ∷ l) r)))
-      go (got l r) = ap (λ (t : Bytes). got t r) (e y l)
-      go (stop k) = refl
-  ahead-read at (stop k) m = refl
-
-  pub ahead : (item : ℕ → Reading A) (n at : ℕ) → 0 < n → mapReading g (readList item n at) ≡ run (got a at then λ p. last (mapReading s (readList item n p)))
-  unfolding readList run mapReading
-  ahead item zero at h = absurd (let z : ⊥ = omega arith in z)
-  ahead item (suc n) at h = ahead-read at (item at) (readList item n)
-
 -- ---- a count, and that many
 
 module _ {A : Type 0} (f : List A → Bytes) (ws : List ℕ) (item : ℕ → Reading A) (at : ℕ) where
@@ -237,7 +220,3 @@ pub within-same : (a b : Bytes) (at : ℕ) (x y : ℕ → Reading Bytes) → x a
     → run (got a at then λ p. x p then λ q. last (got b q)) ≡ run (got a at then λ p. y p then λ q. last (got b q))
 unfolding run
 within-same a b at x y e = ap (λ (z : Reading Bytes). run (got a at then λ p. z then λ q. last (got b q))) e
-
-pub behind-same : (a : Bytes) (at : ℕ) (x y : ℕ → Reading Bytes) → x at ≡ y at → run (got a at then λ p. last (x p)) ≡ run (got a at then λ p. last (y p))
-unfolding run
-behind-same a at x y e = ap (λ (z : Reading Bytes). run (got a at then λ p. last z)) e

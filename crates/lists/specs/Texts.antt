@@ -12,11 +12,17 @@ use Rattle.laying.specs.Passes.{last, _then_, run, listed}
 use Rattle.laying.specs.Texts.{nameAt, typeTextAt}
 use Rattle.lists.specs.declared.Leaf.{Leaf}
 use Rattle.lists.specs.declared.Leaf.the-variants.{Argument, Constraint}
+use Rattle.lists.specs.declared.Mark.{Mark}
+use Rattle.lists.specs.declared.Mark.the-variants.{Front, Between, Behind}
 
--- what stands between two of a list
-unfoldable pub leafGap : Leaf → Bytes
-leafGap Argument = ascii ", "
-leafGap Constraint = ascii " + "
+-- the fixed texts of a list that is not empty
+unfoldable pub markText : Leaf → Mark → Bytes
+markText Argument Front = ascii "("
+markText Argument Between = ascii ", "
+markText Argument Behind = ascii ")"
+markText Constraint Front = ascii ": "
+markText Constraint Between = ascii " + "
+markText Constraint Behind = ascii ""
 
 module _ (ws pairs : List ℕ) (text : Bytes) where
   -- one of a list, and n of them
@@ -25,21 +31,16 @@ module _ (ws pairs : List ℕ) (text : Bytes) where
   leafAt Constraint at = typeTextAt ws pairs text at
 
   abbrev pub leavesAt : Leaf → ℕ → ℕ → Reading Bytes
-  leavesAt leaf n at = listed (leafAt leaf) (leafGap leaf) n at
+  leavesAt leaf n at = listed (leafAt leaf) (markText leaf Between) n at
 
-  abbrev pub derivedAt : ℕ → Reading Bytes
-  derivedAt at = mapReading derivedText (readCounted ws (nameAt ws pairs text) at)
+  -- n of them, one at least, with what stands around them
+  abbrev pub someAt : Leaf → ℕ → ℕ → Reading Bytes
+  someAt leaf n at = run (got (markText leaf Front) at then λ p. leavesAt leaf n p then λ q. last (got (markText leaf Behind) q))
 
-  -- n arguments, one at least
-  abbrev pub derivedSome : ℕ → ℕ → Reading Bytes
-  derivedSome n at = run (got (ascii "(") at then λ p. leavesAt Argument n p then λ q. last (got (ascii ")") q))
-
-  abbrev pub constraintsAt : ℕ → Reading Bytes
-  constraintsAt at = mapReading constraintsText (readCounted ws (typeAt ws pairs text) at)
-
-  -- n constraints, one at least
-  abbrev pub constraintsSome : ℕ → ℕ → Reading Bytes
-  constraintsSome n at = run (got (ascii ": ") at then λ p. last (leavesAt Constraint n p))
+  -- a count and that many of them: the arguments of an attribute, the constraints of a parameter
+  unfoldable pub countedAt : Leaf → ℕ → Reading Bytes
+  countedAt Argument at = mapReading derivedText (readCounted ws (nameAt ws pairs text) at)
+  countedAt Constraint at = mapReading constraintsText (readCounted ws (typeAt ws pairs text) at)
 
   -- an attribute on its line: an item of `Attribute.ToStringMultiple`
   abbrev pub attributeAt : ℕ → ℕ → Reading Bytes

@@ -2,7 +2,7 @@
 ghost use Prim.Native.Nat.{_<_};
 ghost use Rattle.output.specs.Laid.{Laid, Fits};
 ghost use Rattle.laying.specs.Passes.{Checked, Ready, Went};
-ghost use Rattle.lists.specs.Texts.{leafGap, leafAt, leavesAt, derivedSome, derivedAt, constraintsSome, constraintsAt, attributeAt, parameterAt};
+ghost use Rattle.lists.specs.Texts.{markText, leafAt, leavesAt, someAt, countedAt, attributeAt, parameterAt};
 use encoding::WordScan;
 use laying::Place;
 
@@ -10,6 +10,13 @@ use laying::Place;
 enum Leaf {
     Argument,
     Constraint,
+}
+
+// Where a fixed text of a list stands.
+enum Mark {
+    Front,
+    Between,
+    Behind,
 }
 
 // One of a list.
@@ -32,14 +39,22 @@ fn lay_leaf(
     }
 }
 
-// What stands between two of them.
-fn lay_leaf_gap(write: bool, leaf: Leaf, out: &mut [u8], pos: usize) -> usize
-    requires { ⌜ Fits write (now out) pos (leafGap leaf) ⌝ }
-    ensures { λ r. ⌜ Laid write (now (out .entry)) pos (leafGap leaf) (now (out .exit)) r ⌝ }
+// A fixed text of a list: in front of it, between two of it, behind it.
+fn lay_mark(write: bool, leaf: Leaf, mark: Mark, out: &mut [u8], pos: usize) -> usize
+    requires { ⌜ Fits write (now out) pos (markText leaf mark) ⌝ }
+    ensures { λ r. ⌜ Laid write (now (out .entry)) pos (markText leaf mark) (now (out .exit)) r ⌝ }
 {
     match leaf {
-        Leaf::Argument => output::lay(write, b", ", out, pos),
-        Leaf::Constraint => output::lay(write, b" + ", out, pos),
+        Leaf::Argument => match mark {
+            Mark::Front => output::lay(write, b"(", out, pos),
+            Mark::Between => output::lay(write, b", ", out, pos),
+            Mark::Behind => output::lay(write, b")", out, pos),
+        },
+        Leaf::Constraint => match mark {
+            Mark::Front => output::lay(write, b": ", out, pos),
+            Mark::Between => output::lay(write, b" + ", out, pos),
+            Mark::Behind => pos,
+        },
     }
 }
 
@@ -71,96 +86,56 @@ fn lay_leaves(
             return one;
         }
         place = next;
-        p = lay_leaf_gap(write, leaf, out, end);
+        p = lay_mark(write, leaf, Mark::Between, out, end);
     }
 }
 
-// An attribute's arguments, one at least.
-fn lay_derived_some(
+// The same with what stands around them.
+fn lay_some(
     write: bool,
     words: &[u32],
     pairs: &[u32],
     text: &[u8],
+    leaf: Leaf,
     n: u32,
     at: usize,
     out: &mut [u8],
     pos: usize,
 ) -> Place
-    requires { ⌜ Checked (now words) (now pairs) (now text) × (0 < n) × Ready write (now out) pos (derivedSome (now words) (now pairs) (now text) n at) ⌝ }
-    ensures { λ r. ⌜ Went write (now (out .entry)) pos (derivedSome (now (words .entry)) (now (pairs .entry)) (now (text .entry)) n at) (now (out .exit)) r ⌝ }
+    requires { ⌜ Checked (now words) (now pairs) (now text) × (0 < n) × Ready write (now out) pos (someAt (now words) (now pairs) (now text) leaf n at) ⌝ }
+    ensures { λ r. ⌜ Went write (now (out .entry)) pos (someAt (now (words .entry)) (now (pairs .entry)) (now (text .entry)) leaf n at) (now (out .exit)) r ⌝ }
 {
-    let p = output::lay(write, b"(", out, pos);
-    let list = lay_leaves(write, words, pairs, text, Leaf::Argument, n, at, out, p);
+    let p = lay_mark(write, leaf, Mark::Front, out, pos);
+    let list = lay_leaves(write, words, pairs, text, leaf, n, at, out, p);
     let Place::At { next, pos: end } = list else {
         return list;
     };
     Place::At {
         next,
-        pos: output::lay(write, b")", out, end),
+        pos: lay_mark(write, leaf, Mark::Behind, out, end),
     }
 }
 
-// An attribute's arguments.
-fn lay_derived(
+// A whole list, its count first. An empty list has no text.
+fn lay_counted(
     write: bool,
     words: &[u32],
     pairs: &[u32],
     text: &[u8],
+    leaf: Leaf,
     at: usize,
     out: &mut [u8],
     pos: usize,
 ) -> Place
-    requires { ⌜ Checked (now words) (now pairs) (now text) × Ready write (now out) pos (derivedAt (now words) (now pairs) (now text) at) ⌝ }
-    ensures { λ r. ⌜ Went write (now (out .entry)) pos (derivedAt (now (words .entry)) (now (pairs .entry)) (now (text .entry)) at) (now (out .exit)) r ⌝ }
+    requires { ⌜ Checked (now words) (now pairs) (now text) × Ready write (now out) pos (countedAt (now words) (now pairs) (now text) leaf at) ⌝ }
+    ensures { λ r. ⌜ Went write (now (out .entry)) pos (countedAt (now (words .entry)) (now (pairs .entry)) (now (text .entry)) leaf at) (now (out .exit)) r ⌝ }
 {
     match encoding::scan_word(words, at) {
         WordScan::Word { value, next } => {
             if value == 0 {
                 return Place::At { next, pos };
             }
-            lay_derived_some(write, words, pairs, text, value, next, out, pos)
-        }
-        WordScan::NoWord(r) => Place::Stopped(r),
-    }
-}
-
-// A parameter's constraints, one at least.
-fn lay_constraints_some(
-    write: bool,
-    words: &[u32],
-    pairs: &[u32],
-    text: &[u8],
-    n: u32,
-    at: usize,
-    out: &mut [u8],
-    pos: usize,
-) -> Place
-    requires { ⌜ Checked (now words) (now pairs) (now text) × (0 < n) × Ready write (now out) pos (constraintsSome (now words) (now pairs) (now text) n at) ⌝ }
-    ensures { λ r. ⌜ Went write (now (out .entry)) pos (constraintsSome (now (words .entry)) (now (pairs .entry)) (now (text .entry)) n at) (now (out .exit)) r ⌝ }
-{
-    let p = output::lay(write, b": ", out, pos);
-    lay_leaves(write, words, pairs, text, Leaf::Constraint, n, at, out, p)
-}
-
-// A parameter's constraints.
-fn lay_constraints(
-    write: bool,
-    words: &[u32],
-    pairs: &[u32],
-    text: &[u8],
-    at: usize,
-    out: &mut [u8],
-    pos: usize,
-) -> Place
-    requires { ⌜ Checked (now words) (now pairs) (now text) × Ready write (now out) pos (constraintsAt (now words) (now pairs) (now text) at) ⌝ }
-    ensures { λ r. ⌜ Went write (now (out .entry)) pos (constraintsAt (now (words .entry)) (now (pairs .entry)) (now (text .entry)) at) (now (out .exit)) r ⌝ }
-{
-    match encoding::scan_word(words, at) {
-        WordScan::Word { value, next } => {
-            if value == 0 {
-                return Place::At { next, pos };
-            }
-            lay_constraints_some(write, words, pairs, text, value, next, out, pos)
+            lay_some(write, words, pairs, text, leaf, value, next, out, pos)
         }
         WordScan::NoWord(r) => Place::Stopped(r),
     }
@@ -185,7 +160,7 @@ pub fn lay_attribute(
     let Place::At { next: q, pos: p } = name else {
         return name;
     };
-    let derived = lay_derived(write, words, pairs, text, q, out, p);
+    let derived = lay_counted(write, words, pairs, text, Leaf::Argument, q, out, p);
     let Place::At { next, pos: p } = derived else {
         return derived;
     };
@@ -213,5 +188,5 @@ pub fn lay_parameter(
     let Place::At { next, pos: p } = name else {
         return name;
     };
-    lay_constraints(write, words, pairs, text, next, out, p)
+    lay_counted(write, words, pairs, text, Leaf::Constraint, next, out, p)
 }

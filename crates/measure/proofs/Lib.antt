@@ -1,6 +1,7 @@
--- Laws of lengths, of the texts of types, and of the pass.
+-- Laws of lengths, of the texts of types, of the pass, and of what it gives.
 pub mod Lengths
 pub mod Texts
 pub mod Rests
 pub mod Steps
 pub mod Scans
+pub mod Measured

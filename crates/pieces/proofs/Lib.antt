@@ -1,5 +1,4 @@
 -- Laws of a declaration's pieces and of the walk over them.
-pub mod Measured
 pub mod Scans
 pub mod Ahead
 pub mod Steps

@@ -5,6 +5,7 @@ use mathlib.Core.List.{List}
 use native.Mathlib.Omega.{arith}
 use lib.ListN.{length, length-map}
 use Rattle.rast.specs.Bytes.{Bytes}
+use Rattle.rast.specs.Tree.{Ty}
 use Rattle.encoding.specs.declared.Refusal.{Refusal}
 use Rattle.encoding.specs.declared.Scan.the-variants.{At, Refused}
 use Rattle.encoding.specs.Reading.{Reading, got, stop, _>>=_, mapReading}
@@ -15,7 +16,6 @@ use Rattle.encoding.specs.Declarations.{declarationAt}
 use Rattle.encoding.proofs.Tables.{impossible}
 use Rattle.encoding.proofs.Types.{type-lies}
 use Rattle.trees.specs.Encode.{tokenWord}
-use Rattle.writing.specs.Written.{EndsAt}
 use Rattle.pieces.specs.declared.Walk.{Walk}
 use Rattle.pieces.specs.declared.Next.{Next}
 use Rattle.pieces.specs.declared.Passing.{Passing}
@@ -56,12 +56,12 @@ module _ (ws pairs : List ℕ) (text : Bytes) where
       within : {w′ : Walk} → OwnStep (nameCount pairs) ws (nameBytes pairs text) (typeAt ws pairs text) w w′ → w′ .place ≤ length ws
       within o = omega (arith, o .run .ends, o .end, length-map (o .tokens) tokenWord)
 
-  pub pass-type : (w : Walk) {w′ : Walk} {q : ℕ} → w .place ≤ length ws → Stepped (nameCount pairs) ws w (TypeDue w′) → EndsAt (typeAt ws pairs text (w .place)) q
+  pub pass-type : (w : Walk) {w′ : Walk} {t : Ty Bytes} {q : ℕ} → w .place ≤ length ws → Stepped (nameCount pairs) ws w (TypeDue w′) → typeAt ws pairs text (w .place) ≡ got t q
       → Passed ws pairs text w (Behind (moved w′ q))
-  pass-type w {w′} {q} l s e =
+  pass-type w {w′} {t} {q} l s e =
       let o = due-step (nameCount pairs) ws (nameBytes pairs text) (typeAt ws pairs text) w s in
-      let lies = type-lies ws pairs text (w .place) l (e .reads) in
-      behind (ap ended (o .reads ∙ bind-at (typeAt ws pairs text (w .place)) _ (e .reads)) ∙ ended-ahead (typePiece (e .value)) (rest′ (moved w′ q))) (lies .starts) (lies .ends)
+      let lies = type-lies ws pairs text (w .place) l e in
+      behind (ap ended (o .reads ∙ bind-at (typeAt ws pairs text (w .place)) _ e) ∙ ended-ahead (typePiece t) (rest′ (moved w′ q))) (lies .starts) (lies .ends)
 
   pub pass-no-type : (w : Walk) {w′ : Walk} {r : Refusal} → Stepped (nameCount pairs) ws w (TypeDue w′) → typeAt ws pairs text (w .place) ≡ stop r → Passed ws pairs text w (NotThrough r)
   pass-no-type w s e =

@@ -22,7 +22,7 @@ use Rattle.trees.specs.Numbered.{treeAt}
 use Rattle.writing.specs.Written.{Readable}
 use Rattle.replace.specs.Rules.{rulesOf, mappingOf}
 use Rattle.pieces.proofs.RenamedReading.{declaration-spelled}
-use Rattle.rules.proofs.Lists.{measured-tree, measured-stop}
+use Rattle.rules.proofs.Lists.{measured-tree, measured-no-tree}
 use Rattle.rebuild.specs.declared.RebuildAnswer.{RebuildAnswer}
 use Rattle.rebuild.specs.declared.RebuildAnswer.the-variants.{Refused}
 use Rattle.rebuild.specs.Laid.{ruleList, mapping}
@@ -58,7 +58,7 @@ type-ends what ws pairs text m w e d = let t = measured-tree ws pairs text 0 e d
 
 pub type-stops : (what : Whole) (ws pairs : List ℕ) (text : Bytes) (m : Ty ℕ → Ty ℕ) {r : Measure} {k : Refusal} → what ≡ AType → r ≡ measureOf (typeAt ws pairs text 0) → r ≡ Stopped k → Halted k ≡ ended (laidBy what ws pairs m)
 unfolding mapReading
-type-stops what ws pairs text m w e d = rw (w, measured-stop ws pairs text 0 e d) refl
+type-stops what ws pairs text m w e d = rw (w, measured-no-tree ws pairs text 0 e d) refl
 
 pub declaration-ends : (what : Whole) (ws pairs : List ℕ) (text : Bytes) (m : Ty ℕ → Ty ℕ) {r : Scan} → what ≡ ADeclaration → r ≡ ended (declarationAt ws pairs text 0) → r ≡ ended (laidBy what ws pairs m)
 declaration-ends what ws pairs text m w e =

@@ -23,6 +23,7 @@ use Rattle.encoding.proofs.Tables.{impossible, tables-passed}
 use Rattle.measure.specs.declared.Measure.{Measure}
 use Rattle.measure.specs.declared.Measure.the-variants.{Measured, Stopped}
 use Rattle.measure.specs.Lengths.{measureOf}
+use Rattle.measure.proofs.Measured.{measured-got, measured-stop}
 use Rattle.trees.specs.Renamed.{renamed}
 use Rattle.trees.specs.Numbered.{treeAt}
 use Rattle.trees.specs.Encode.{encode}
@@ -42,17 +43,13 @@ use Rattle.rules.proofs.Tables.{entered-length, tabled-kept, tabled-mor
 -- ---- from the measure of a type to its tree
 
 pub measured-tree : (ws pairs : List ℕ) (text : Bytes) (at : ℕ) {r : Measure} {n b : ℕ} → r ≡ measureOf (typeAt ws pairs text at) → r ≡ Measured n b → (t : Ty ℕ) × (treeAt ws pairs at ≡ got t n)
-measured-tree ws pairs text at {r} {n} {b} e d = go (typeAt ws pairs text at) refl e
-  where
-    go : (x : Reading (Ty Bytes)) → typeAt ws pairs text at ≡ x → r ≡ measureOf x → (t : Ty ℕ) × (treeAt ws pairs at ≡ got t n)
-    go (got t m) k e = let i : m ≡ n = cc in let u = numbered ws pairs text at k in (u .tree, u .reads ∙ ap (got (u .tree)) i)
-    go (stop q) k e = impossible (cc)
+measured-tree ws pairs text at e d = let u = numbered ws pairs text at (measured-got (typeAt ws pairs text at) e d .reads) in (u .tree, u .reads)
 
-pub measured-stop : (ws pairs : List ℕ) (text : Bytes) (at : ℕ) {r : Measure} {k : Refusal} → r ≡ measureOf (typeAt ws pairs text at) → r ≡ Stopped k → treeAt ws pairs at ≡ stop k
+pub measured-no-tree : (ws pairs : List ℕ) (text : Bytes) (at : ℕ) {r : Measure} {k : Refusal} → r ≡ measureOf (typeAt ws pairs text at) → r ≡ Stopped k → treeAt ws pairs at ≡ stop k
 unfolding mapReading
-measured-stop ws pairs text at {r} {k} e d = go (treeAt ws pairs at) (ap measureOf (spelled ws pairs text at))
+measured-no-tree ws pairs text at {r} {k} e d = go (treeAt ws pairs at) (sym (spelled ws pairs text at) ∙ measured-stop (typeAt ws pairs text at) e d)
   where
-    go : (x : Reading (Ty ℕ)) → measureOf (typeAt ws pairs text at) ≡ measureOf (mapReading (renamed (nameBytes pairs text)) x) → x ≡ stop k
+    go : (x : Reading (Ty ℕ)) → mapReading (renamed (nameBytes pairs text)) x ≡ stop k → x ≡ stop k
     go (got t m) g = impossible (cc)
     go (stop q) g = cc
 

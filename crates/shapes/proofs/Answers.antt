@@ -20,6 +20,7 @@ use Rattle.encoding.proofs.Tables.{impossible, tables-passed}
 use Rattle.measure.specs.declared.Measure.{Measure}
 use Rattle.measure.specs.declared.Measure.the-variants.{Measured, Stopped}
 use Rattle.measure.specs.Lengths.{measureOf}
+use Rattle.measure.proofs.Measured.{measured-got, measured-stop}
 use Rattle.writing.specs.Written.{Readable}
 use Rattle.wrappers.specs.Asked.{Judges}
 use Rattle.shapes.specs.declared.ShapeAnswer.the-variants.{Yes, No, Refused}
@@ -30,22 +31,15 @@ use Rattle.shapes.specs.Asked.{shapeAnswer, acceptance}
 module _ (size : ℕ) where
   pub whole-left : (x : Reading (Ty Bytes)) {m : Measure} {n b : ℕ} → m ≡ measureOf x → m ≡ Measured n b → (n ≡ size → ⊥) → Failed LeftOver ≡ acceptance (whole size x)
   unfolding whole
-  whole-left (got t k) {m} {n} {b} e d h =
-      let q : k ≡ n = cc in
-      rw (ne-eqb k size (λ i. h (sym q ∙ i))) refl
-  whole-left (stop r) e d h = impossible (cc)
+  whole-left x {n = n} e d h = rw (measured-got x e d .reads, ne-eqb n size h)
 
   pub whole-passed : (x : Reading (Ty Bytes)) {m : Measure} {n b : ℕ} → m ≡ measureOf x → m ≡ Measured n b → n ≡ size → Passed ≡ acceptance (whole size x)
   unfolding whole
-  whole-passed (got t k) {m} {n} {b} e d h =
-      let q : k ≡ n = cc in
-      rw (eq-eqb k size (q ∙ h)) refl
-  whole-passed (stop r) e d h = impossible (cc)
+  whole-passed x {n = n} e d h = rw (measured-got x e d .reads, eq-eqb n size h)
 
   pub whole-stopped : (x : Reading (Ty Bytes)) {m : Measure} {r : Refusal} → m ≡ measureOf x → m ≡ Stopped r → Failed r ≡ acceptance (whole size x)
   unfolding whole
-  whole-stopped (got t k) e d = impossible (cc)
-  whole-stopped (stop r) e d = cc
+  whole-stopped x e d = rw (measured-stop x e d)
 
   whole-given : (x : Reading (Ty Bytes)) (t : Ty Bytes) → whole size x ≡ given t → x ≡ got t size
   unfolding whole

@@ -10,34 +10,14 @@ use lib.ListN.{length, drop, length-append}
 use lib.Seq.{sets}
 use Rattle.rast.specs.Bytes.{Bytes}
 use Rattle.output.proofs.Laws.{sets-front}
-use Rattle.rast.specs.Tree.{Ty}
-use Rattle.rast.specs.ToString.{Type·ToString}
 use Rattle.encoding.specs.declared.Refusal.{Refusal}
 use Rattle.encoding.specs.declared.Refusal.the-variants.{LeftOver, BufferTooShort}
 use Rattle.encoding.specs.Refusals.{pick, Answer, given, refused, mapAnswer}
 use Rattle.encoding.specs.Reading.{Reading, got, stop, whole}
 use Rattle.encoding.proofs.Tables.{impossible}
-use Rattle.measure.specs.declared.Measure.{Measure}
-use Rattle.measure.specs.declared.Measure.the-variants.{Measured, Stopped}
-use Rattle.measure.specs.Lengths.{measureOf}
 use Rattle.text.specs.declared.TextAnswer.{TextAnswer}
 use Rattle.text.specs.declared.TextAnswer.the-variants.{Length, Refused}
 use Rattle.text.specs.Calls.{filled}
-
--- ---- what a measure says
-
-pub record Sized (x : Reading (Ty Bytes)) (n bytes : ℕ) : Type 0 where
-  pub type : Ty Bytes
-  pub reads : x ≡ got type n
-  pub size : bytes ≡ length (Type·ToString type)
-
-pub measured-got : (x : Reading (Ty Bytes)) {r : Measure} {n b : ℕ} → r ≡ measureOf x → r ≡ Measured n b → Sized x n b
-measured-got (got t m) {r} {n} {b} e d = let q : m ≡ n = cc in record { type = t; reads = ap (got t) q; size = cc }
-measured-got (stop k) e d = impossible (cc)
-
-pub measured-stop : (x : Reading (Ty Bytes)) {r : Measure} {k : Refusal} → r ≡ measureOf x → r ≡ Stopped k → x ≡ stop k
-measured-stop (got t m) e d = impossible (cc)
-measured-stop (stop k) e d = cc
 
 -- ---- answers
 

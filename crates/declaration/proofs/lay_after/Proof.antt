@@ -1,6 +1,5 @@
 use Rattle.declaration.proofs.Declarations.{after-enum, after-none, after-struct, after-synonym, after-use}
 use Rattle.laying.proofs.Passes.{ready-as, stops-here, went-as}
-use Rattle.measure.proofs.Steps.{start}
 use mathlib.Core.Path.{sym}
 use native.Mathlib.Omega.{arith}
 use borrow.Author.Needs.{needs}

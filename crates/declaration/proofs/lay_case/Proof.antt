@@ -1,6 +1,5 @@
 use Rattle.declaration.proofs.Declarations.{case-runs}
 use Rattle.laying.proofs.Passes.{came-to, ready-first, ready-last, ready-next, ready-runs, stops-then, went-last, went-runs, went-then}
-use Rattle.measure.proofs.Steps.{start}
 use borrow.Author.Needs.{needs}
 use Rattle.declaration.proofs.lay_case.Statement.{statement}
 use Rattle.declaration.proofs.lay_case.Tie as tie
@@ -43,8 +42,8 @@ returns-2 c =
     let start = c .before .before .before .before .before .before .before .before .before .before .before .before .before .before .before .before .before in
     went-runs (case-runs (start .args .words .now) (start .args .pairs .now) (start .args .text .now) (start .args .level) (start .args .at)) (went-then (came-to (c .before .before .before .before .before .before .before .before .before .before .before .lay-doc .ensures) (c .before .before .before .before .before .before .before .doc .given .1)) (stops-then (c .before .before .before .before .lay-name .ensures) (c .enum-told2 .given .1)))
 
-lay-case-fields-requires : tie.Need-lay-case-fields-requires
-lay-case-fields-requires c κs =
+lay-fields-requires : tie.Need-lay-fields-requires
+lay-fields-requires c κs =
     let start = c .before .before .before .before .before .before .before .before .before .before .before .before .before .before .before .before .before .before .before in
     (start .pre .0, start .pre .1, ready-last (ready-next (ready-next (ready-runs (case-runs (start .args .words .now) (start .args .pairs .now) (start .args .text .now) (start .args .level) (start .args .at)) (start .pre .2)) (came-to (c .before .before .before .before .before .before .before .before .before .before .before .before .before .lay-doc .ensures) (c .before .before .before .before .before .before .before .before .before .doc .given .1))) (came-to (c .before .before .before .before .before .before .lay-name .ensures) (c .before .before .name .given .1))))
 
@@ -54,7 +53,7 @@ same-length-3 c = search needs
 returns-3 : tie.Need-returns-3
 returns-3 c =
     let start = c .before .before .before .before .before .before .before .before .before .before .before .before .before .before .before .before .before .before .before .before .before .before in
-    went-runs (case-runs (start .args .words .now) (start .args .pairs .now) (start .args .text .now) (start .args .level) (start .args .at)) (went-then (came-to (c .before .before .before .before .before .before .before .before .before .before .before .before .before .before .before .before .lay-doc .ensures) (c .before .before .before .before .before .before .before .before .before .before .before .before .doc .given .1)) (went-then (came-to (c .before .before .before .before .before .before .before .before .before .lay-name .ensures) (c .before .before .before .before .before .name .given .1)) (went-last (c .before .before .lay-case-fields .ensures))))
+    went-runs (case-runs (start .args .words .now) (start .args .pairs .now) (start .args .text .now) (start .args .level) (start .args .at)) (went-then (came-to (c .before .before .before .before .before .before .before .before .before .before .before .before .before .before .before .before .lay-doc .ensures) (c .before .before .before .before .before .before .before .before .before .before .before .before .doc .given .1)) (went-then (came-to (c .before .before .before .before .before .before .before .before .before .lay-name .ensures) (c .before .before .before .before .before .name .given .1)) (went-last (c .before .before .lay-fields .ensures))))
 
 pub lay-case-spec : {M : Type 1} → statement M
 lay-case-spec =
@@ -70,6 +69,6 @@ lay-case-spec =
     enum-told-2
     same-length-2
     returns-2
-    lay-case-fields-requires
+    lay-fields-requires
     same-length-3
     returns-3)

@@ -1,6 +1,5 @@
 use Rattle.declaration.proofs.Declarations.{case-line-runs}
 use Rattle.laying.proofs.Passes.{came-bytes, ready-bytes, ready-first, ready-last, ready-next, ready-runs, went-last, went-runs, went-then}
-use Rattle.measure.proofs.Steps.{start}
 use native.Mathlib.Omega.{arith}
 use borrow.Author.Needs.{needs}
 use Rattle.declaration.proofs.lay_case_line.Statement.{statement}

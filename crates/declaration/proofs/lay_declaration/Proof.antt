@@ -2,7 +2,6 @@ use Rattle.declaration.proofs.Declarations.{declaration-got, declaratio
 use Rattle.encoding.proofs.Reading.{word-got, word-stop}
 use Rattle.encoding.specs.Reading.{readWord}
 use Rattle.laying.proofs.Passes.{ready-as, stops-here, went-as}
-use Rattle.measure.proofs.Steps.{start}
 use mathlib.Core.Path.{sym}
 use borrow.Author.Needs.{needs}
 use Rattle.declaration.proofs.lay_declaration.Statement.{statement}

@@ -1,6 +1,5 @@
 use Rattle.declaration.proofs.Declarations.{front-runs}
 use Rattle.laying.proofs.Passes.{came-to, ready-first, ready-last, ready-next, ready-runs, stops-then, went-last, went-runs, went-then}
-use Rattle.measure.proofs.Steps.{start}
 use borrow.Author.Needs.{needs}
 use Rattle.declaration.proofs.lay_front.Statement.{statement}
 use Rattle.declaration.proofs.lay_front.Tie as tie

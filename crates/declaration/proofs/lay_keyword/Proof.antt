@@ -1,6 +1,5 @@
 use Rattle.declaration.proofs.Declarations.{keyword-type}
 use Rattle.declaration.specs.Texts.{keywordText}
-use Rattle.measure.proofs.Steps.{start}
 use Rattle.output.proofs.Passes.{fits-as, laid-as}
 use Rattle.rast.specs.Bytes.{ascii}
 use mathlib.Core.Path.{ap, sym}

@@ -1,6 +1,5 @@
 use Rattle.declaration.proofs.Declarations.{struct-runs}
 use Rattle.laying.proofs.Passes.{came-to, ready-first, ready-last, ready-next, ready-runs, stops-then, went-last, went-runs, went-then}
-use Rattle.measure.proofs.Steps.{start}
 use borrow.Author.Needs.{needs}
 use Rattle.declaration.proofs.lay_struct.Statement.{statement}
 use Rattle.declaration.proofs.lay_struct.Tie as tie
@@ -24,8 +23,8 @@ returns c =
     let start = c .before .before .before .before .before .before .before .before .before .before in
     went-runs (struct-runs (start .args .words .now) (start .args .pairs .now) (start .args .text .now) (start .args .level) (start .args .at)) (stops-then (c .before .before .before .before .lay-front .ensures) (c .enum-told .given .1))
 
-lay-struct-fields-requires : tie.Need-lay-struct-fields-requires
-lay-struct-fields-requires c κs =
+lay-fields-requires : tie.Need-lay-fields-requires
+lay-fields-requires c κs =
     let start = c .before .before .before .before .before .before .before .before .before .before .before .before in
     (start .pre .0, start .pre .1, ready-last (ready-next (ready-runs (struct-runs (start .args .words .now) (start .args .pairs .now) (start .args .text .now) (start .args .level) (start .args .at)) (start .pre .2)) (came-to (c .before .before .before .before .before .before .lay-front .ensures) (c .before .before .front .given .1))))
 
@@ -35,7 +34,7 @@ same-length-2 c = search needs
 returns-2 : tie.Need-returns-2
 returns-2 c =
     let start = c .before .before .before .before .before .before .before .before .before .before .before .before .before .before .before in
-    went-runs (struct-runs (start .args .words .now) (start .args .pairs .now) (start .args .text .now) (start .args .level) (start .args .at)) (went-then (came-to (c .before .before .before .before .before .before .before .before .before .lay-front .ensures) (c .before .before .before .before .before .front .given .1)) (went-last (c .before .before .lay-struct-fields .ensures)))
+    went-runs (struct-runs (start .args .words .now) (start .args .pairs .now) (start .args .text .now) (start .args .level) (start .args .at)) (went-then (came-to (c .before .before .before .before .before .before .before .before .before .lay-front .ensures) (c .before .before .before .before .before .front .given .1)) (went-last (c .before .before .lay-fields .ensures)))
 
 pub lay-struct-spec : {M : Type 1} → statement M
 lay-struct-spec =
@@ -46,6 +45,6 @@ lay-struct-spec =
     enum-told
     same-length
     returns
-    lay-struct-fields-requires
+    lay-fields-requires
     same-length-2
     returns-2)

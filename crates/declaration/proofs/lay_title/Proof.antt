@@ -1,6 +1,5 @@
 use Rattle.declaration.proofs.Declarations.{title-runs}
 use Rattle.laying.proofs.Passes.{came-bytes, came-to, ready-bytes, ready-first, ready-last, ready-next, ready-runs, stops-then, went-last, went-runs, went-then}
-use Rattle.measure.proofs.Steps.{start}
 use borrow.Author.Needs.{needs}
 use Rattle.declaration.proofs.lay_title.Statement.{statement}
 use Rattle.declaration.proofs.lay_title.Tie as tie

@@ -3,7 +3,6 @@ use Rattle.encoding.proofs.Reading.{word-got, word-stop}
 use Rattle.encoding.specs.Reading.{readWord}
 use Rattle.laying.proofs.Passes.{came-nothing, ready-as, stops-here, went-as}
 use Rattle.laying.specs.Passes.{came}
-use Rattle.measure.proofs.Steps.{start}
 use mathlib.Core.Path.{sym}
 use native.Mathlib.Omega.{arith}
 use borrow.Author.Needs.{needs}

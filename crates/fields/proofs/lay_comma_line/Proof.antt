@@ -1,5 +1,4 @@
 use Rattle.fields.proofs.Fields.{comma-line}
-use Rattle.measure.proofs.Steps.{start}
 use Rattle.output.proofs.Passes.{fits-as, fits-behind, fits-front, laid-as, laid-then}
 use Rattle.rast.specs.Bytes.{ascii}
 use mathlib.Core.Path.{sym}

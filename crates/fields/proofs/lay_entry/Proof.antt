@@ -1,7 +1,6 @@
 use Rattle.fields.specs.Texts.{entryAt}
 use Rattle.fields.specs.declared.Entry.{Entry}
 use Rattle.laying.proofs.Passes.{ready-as, went-as}
-use Rattle.measure.proofs.Steps.{start}
 use mathlib.Core.Path.{ap, sym}
 use borrow.Author.Needs.{needs}
 use Rattle.fields.proofs.lay_entry.Statement.{statement}
@@ -37,18 +36,18 @@ lay-field-requires c κs =
 enum-told-4 : tie.Need-enum-told-4
 enum-told-4 c = search needs
 
-lay-nameless-requires : tie.Need-lay-nameless-requires
+lay-field-requires-2 : tie.Need-lay-field-requires-2
 unfolding entryAt
-lay-nameless-requires c κs =
+lay-field-requires-2 c κs =
     let start = c .before .before .before .before .before .before .before in
     (start .pre .0, ready-as (ap (λ (e : Entry). entryAt (start .args .words .now) (start .args .pairs .now) (start .args .text .now) e (start .args .level) (start .args .at)) (c .before .enum-told4 .given .1)) (start .pre .1))
 
 enum-told-5 : tie.Need-enum-told-5
 enum-told-5 c = search needs
 
-lay-nameless-requires-2 : tie.Need-lay-nameless-requires-2
+lay-field-requires-3 : tie.Need-lay-field-requires-3
 unfolding entryAt
-lay-nameless-requires-2 c κs =
+lay-field-requires-3 c κs =
     let start = c .before .before .before .before .before .before .before in
     (start .pre .0, ready-as (ap (λ (e : Entry). entryAt (start .args .words .now) (start .args .pairs .now) (start .args .text .now) e (start .args .level) (start .args .at)) (c .before .enum-told5 .given .1)) (start .pre .1))
 
@@ -86,7 +85,7 @@ returns-4 : tie.Need-returns-4
 unfolding entryAt
 returns-4 c =
     let start = c .before .before .before .before .before .before .before .before .before .before in
-    went-as (ap (λ (e : Entry). entryAt (start .args .words .now) (start .args .pairs .now) (start .args .text .now) e (start .args .level) (start .args .at)) (sym (c .before .before .before .before .enum-told4 .given .1))) (c .before .before .lay-nameless .ensures)
+    went-as (ap (λ (e : Entry). entryAt (start .args .words .now) (start .args .pairs .now) (start .args .text .now) e (start .args .level) (start .args .at)) (sym (c .before .before .before .before .enum-told4 .given .1))) (c .before .before .lay-field2 .ensures)
 
 same-length-5 : tie.Need-same-length-5
 same-length-5 c = search needs
@@ -95,7 +94,7 @@ returns-5 : tie.Need-returns-5
 unfolding entryAt
 returns-5 c =
     let start = c .before .before .before .before .before .before .before .before .before .before in
-    went-as (ap (λ (e : Entry). entryAt (start .args .words .now) (start .args .pairs .now) (start .args .text .now) e (start .args .level) (start .args .at)) (sym (c .before .before .before .before .enum-told5 .given .1))) (c .before .before .lay-nameless2 .ensures)
+    went-as (ap (λ (e : Entry). entryAt (start .args .words .now) (start .args .pairs .now) (start .args .text .now) e (start .args .level) (start .args .at)) (sym (c .before .before .before .before .enum-told5 .given .1))) (c .before .before .lay-field3 .ensures)
 
 pub lay-entry-spec : {M : Type 1} → statement M
 lay-entry-spec =
@@ -108,9 +107,9 @@ lay-entry-spec =
     enum-told-3
     lay-field-requires
     enum-told-4
-    lay-nameless-requires
+    lay-field-requires-2
     enum-told-5
-    lay-nameless-requires-2
+    lay-field-requires-3
     same-length
     returns
     same-length-2

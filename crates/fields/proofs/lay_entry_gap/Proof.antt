@@ -1,6 +1,5 @@
 use Rattle.fields.specs.Texts.{entryGap}
 use Rattle.fields.specs.declared.Entry.{Entry}
-use Rattle.measure.proofs.Steps.{start}
 use Rattle.output.proofs.Passes.{fits-as, laid-as, laid-nothing}
 use Rattle.rast.specs.Bytes.{ascii}
 use Rattle.rast.specs.DeclarationToString.{separatorText}

@@ -3,7 +3,6 @@ use Rattle.encoding.specs.Reading.{readWord}
 use Rattle.fields.proofs.Fields.{named-none, named-some, named-stop}
 use Rattle.laying.proofs.Passes.{came-bytes, ready-as, ready-bytes, stops-here, went-as}
 use Rattle.laying.specs.Passes.{came}
-use Rattle.measure.proofs.Steps.{start}
 use Rattle.rast.specs.Bytes.{ascii}
 use mathlib.Core.Path.{sym}
 use native.Mathlib.Omega.{arith}

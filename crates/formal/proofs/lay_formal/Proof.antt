@@ -3,7 +3,6 @@ use Rattle.formal.proofs.Texts.{formal-got, formal-stop}
 use Rattle.laying.proofs.Leaves.{scanned-none, scanned-word}
 use Rattle.laying.proofs.Passes.{ready-as, stops-here, went-as}
 use Rattle.measure.proofs.Scans.{below-less}
-use Rattle.measure.proofs.Steps.{start}
 use Rattle.rast.specs.Bytes.{ascii}
 use mathlib.Core.Path.{_∙_, refl, sym}
 use native.Mathlib.Omega.{arith}

@@ -1,7 +1,6 @@
 use Rattle.formal.proofs.Texts.{receiver-text, receiverText, self-and-type}
 use Rattle.laying.proofs.Passes.{came-bytes, ready-as, ready-bytes, went-as}
 use Rattle.laying.specs.Passes.{came}
-use Rattle.measure.proofs.Steps.{start}
 use Rattle.output.proofs.Passes.{fits-behind, fits-front, laid-then}
 use Rattle.rast.specs.Bytes.{ascii}
 use mathlib.Core.Path.{_∙_, sym}

@@ -1,8 +1,7 @@
 use Rattle.encoding.specs.Types.{typeAt}
-use Rattle.formal.proofs.Texts.{measured-ends, measured-stops}
 use Rattle.laying.proofs.Passes.{stops-here}
 use Rattle.laying.proofs.Splits.{map-stop}
-use Rattle.measure.proofs.Steps.{start}
+use Rattle.measure.proofs.Measured.{measured-got, measured-stop}
 use borrow.Author.Needs.{needs}
 use Rattle.formal.proofs.lay_self.Statement.{statement}
 use Rattle.formal.proofs.lay_self.Tie as tie
@@ -18,7 +17,8 @@ enum-known-next c = search needs
 lay-receiver-requires : tie.Need-lay-receiver-requires
 lay-receiver-requires c κs =
     let start = c .before .before .before .before .before .before .before .before .before in
-    (start .pre .0, start .pre .1, start .pre .2, measured-ends (typeAt (start .args .words .now) (start .args .pairs .now) (start .args .text .now) (start .args .at)) (c .before .before .before .before .measure-type .ensures) (c .before .before .next .given .1), start .pre .3)
+    let m = measured-got (typeAt (start .args .words .now) (start .args .pairs .now) (start .args .text .now) (start .args .at)) (c .before .before .before .before .measure-type .ensures) (c .before .before .next .given .1) in
+    (start .pre .0, start .pre .1, start .pre .2, record { value = m .value; reads = m .reads }, start .pre .3)
 
 enum-known-r : tie.Need-enum-known-r
 enum-known-r c = search needs
@@ -32,7 +32,7 @@ returns c = c .before .before .lay-receiver .ensures
 returns-2 : tie.Need-returns-2
 returns-2 c =
     let start = c .before .before .before .before .before .before .before .before in
-    stops-here (map-stop _ (measured-stops (typeAt (start .args .words .now) (start .args .pairs .now) (start .args .text .now) (start .args .at)) (c .before .before .before .measure-type .ensures) (c .before .r .given .1)))
+    stops-here (map-stop _ (measured-stop (typeAt (start .args .words .now) (start .args .pairs .now) (start .args .text .now) (start .args .at)) (c .before .before .before .measure-type .ensures) (c .before .r .given .1)))
 
 pub lay-self-spec : {M : Type 1} → statement M
 lay-self-spec =

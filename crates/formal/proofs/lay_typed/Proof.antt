@@ -1,7 +1,6 @@
 use Rattle.formal.proofs.Texts.{name-and-type, only-name}
 use Rattle.laying.proofs.Passes.{came-bytes, ready-as, ready-bytes, went-as}
 use Rattle.laying.specs.Passes.{came}
-use Rattle.measure.proofs.Steps.{start}
 use Rattle.writing.proofs.Accepted.{type-here}
 use mathlib.Core.Path.{_∙_, sym}
 use native.Mathlib.Omega.{arith}

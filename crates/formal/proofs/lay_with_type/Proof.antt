@@ -1,6 +1,5 @@
 use Rattle.formal.proofs.Texts.{typed-chain, typed-went}
 use Rattle.laying.proofs.Passes.{came-bytes, ready-bytes, ready-first, ready-last, ready-next, went-last, went-then}
-use Rattle.measure.proofs.Steps.{start}
 use Rattle.rast.specs.Bytes.{ascii}
 use borrow.Author.Needs.{needs}
 use Rattle.formal.proofs.lay_with_type.Statement.{statement}

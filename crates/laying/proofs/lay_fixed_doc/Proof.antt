@@ -1,7 +1,6 @@
 use Rattle.laying.proofs.Leaves.{fixed-short}
 use Rattle.output.proofs.Laws.{wrote-front, wrote-kept}
 use Rattle.output.proofs.Passes.{fits-as, laid-as}
-use Rattle.rast.proofs.Parser.{name}
 use Rattle.rast.specs.Bytes.{Bytes}
 use Rattle.rast.specs.Doc.{ToDocstringPrefix}
 use Rattle.rast.specs.Indent.{indent}

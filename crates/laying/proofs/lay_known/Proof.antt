@@ -2,7 +2,6 @@ use Prim.Native.Nat.{_+_, ℕ}
 use Rattle.encoding.proofs.Tables.{name-length}
 use Rattle.output.proofs.Passes.{clamp-twice, laid-counted, laid-wrote}
 use Rattle.output.specs.Laid.{clamp}
-use Rattle.rast.proofs.Parser.{name}
 use mathlib.Core.Path.{_∙_, ap, sym}
 use borrow.Author.Needs.{needs}
 use Rattle.laying.proofs.lay_known.Statement.{statement}

@@ -38,9 +38,9 @@ returns c =
     went-runs (attribute-runs (start .args .words .now) (start .args .pairs .now) (start .args .text .now) (start .args .level) (start .args .at))
     (went-then (came-bytes _ (c .before .before .before .before .before .before .before .before .lay .ensures)) (stops-then (c .before .before .before .before .lay-name .ensures) (c .enum-told .given .1)))
 
-lay-derived-requires : tie.Need-lay-derived-requires
+lay-counted-requires : tie.Need-lay-counted-requires
 unfolding ascii
-lay-derived-requires c κs =
+lay-counted-requires c κs =
     let start = c .before .before .before .before .before .before .before .before .before .before .before .before .before .before .before .before .before in
     let r = ready-runs (attribute-runs (start .args .words .now) (start .args .pairs .now) (start .args .text .now) (start .args .level) (start .args .at)) (start .pre .1) in
     (start .pre .0, ready-first (ready-next (ready-next r (came-bytes _ (c .before .before .before .before .before .before .before .before .before .before .lay .ensures))) (came-to (c .before .before .before .before .before .before .lay-name .ensures) (c .before .before .name .given .1))))
@@ -59,7 +59,7 @@ unfolding ascii
 returns-2 c =
     let start = c .before .before .before .before .before .before .before .before .before .before .before .before .before .before .before .before .before .before .before .before .before .before in
     went-runs (attribute-runs (start .args .words .now) (start .args .pairs .now) (start .args .text .now) (start .args .level) (start .args .at))
-    (went-then (came-bytes _ (c .before .before .before .before .before .before .before .before .before .before .before .before .before .before .before .lay .ensures)) (went-then (came-to (c .before .before .before .before .before .before .before .before .before .before .before .lay-name .ensures) (c .before .before .before .before .before .before .before .name .given .1)) (stops-then (c .before .before .before .before .lay-derived .ensures) (c .enum-told2 .given .1))))
+    (went-then (came-bytes _ (c .before .before .before .before .before .before .before .before .before .before .before .before .before .before .before .lay .ensures)) (went-then (came-to (c .before .before .before .before .before .before .before .before .before .before .before .lay-name .ensures) (c .before .before .before .before .before .before .before .name .given .1)) (stops-then (c .before .before .before .before .lay-counted .ensures) (c .enum-told2 .given .1))))
 
 slice-aggregate-lay-2 : tie.Need-slice-aggregate-lay-2
 slice-aggregate-lay-2 c = search needs
@@ -69,14 +69,14 @@ unfolding ascii
 lay-requires-2 c κs =
     let start = c .before .before .before .before .before .before .before .before .before .before .before .before .before .before .before .before .before .before .before .before .before .before .before .before .before in
     let r = ready-runs (attribute-runs (start .args .words .now) (start .args .pairs .now) (start .args .text .now) (start .args .level) (start .args .at)) (start .pre .1) in
-    ready-bytes (ready-first (ready-next (ready-next (ready-next r (came-bytes _ (c .before .before .before .before .before .before .before .before .before .before .before .before .before .before .before .before .before .before .lay .ensures))) (came-to (c .before .before .before .before .before .before .before .before .before .before .before .before .before .before .lay-name .ensures) (c .before .before .before .before .before .before .before .before .before .before .name .given .1))) (came-to (c .before .before .before .before .before .before .before .lay-derived .ensures) (c .before .before .before .derived .given .1))))
+    ready-bytes (ready-first (ready-next (ready-next (ready-next r (came-bytes _ (c .before .before .before .before .before .before .before .before .before .before .before .before .before .before .before .before .before .before .lay .ensures))) (came-to (c .before .before .before .before .before .before .before .before .before .before .before .before .before .before .lay-name .ensures) (c .before .before .before .before .before .before .before .before .before .before .name .given .1))) (came-to (c .before .before .before .before .before .before .before .lay-counted .ensures) (c .before .before .before .derived .given .1))))
 
 lay-line-requires : tie.Need-lay-line-requires
 unfolding ascii
 lay-line-requires c κs =
     let start = c .before .before .before .before .before .before .before .before .before .before .before .before .before .before .before .before .before .before .before .before .before .before .before .before .before .before .before .before .before in
     let r = ready-runs (attribute-runs (start .args .words .now) (start .args .pairs .now) (start .args .text .now) (start .args .level) (start .args .at)) (start .pre .1) in
-    ready-bytes (ready-last (ready-next (ready-next (ready-next (ready-next r (came-bytes _ (c .before .before .before .before .before .before .before .before .before .before .before .before .before .before .before .before .before .before .before .before .before .before .lay .ensures))) (came-to (c .before .before .before .before .before .before .before .before .before .before .before .before .before .before .before .before .before .before .lay-name .ensures) (c .before .before .before .before .before .before .before .before .before .before .before .before .before .before .name .given .1))) (came-to (c .before .before .before .before .before .before .before .before .before .before .before .lay-derived .ensures) (c .before .before .before .before .before .before .before .derived .given .1))) (came-bytes _ (c .before .before .before .lay2 .ensures))))
+    ready-bytes (ready-last (ready-next (ready-next (ready-next (ready-next r (came-bytes _ (c .before .before .before .before .before .before .before .before .before .before .before .before .before .before .before .before .before .before .before .before .before .before .lay .ensures))) (came-to (c .before .before .before .before .before .before .before .before .before .before .before .before .before .before .before .before .before .before .lay-name .ensures) (c .before .before .before .before .before .before .before .before .before .before .before .before .before .before .name .given .1))) (came-to (c .before .before .before .before .before .before .before .before .before .before .before .lay-counted .ensures) (c .before .before .before .before .before .before .before .derived .given .1))) (came-bytes _ (c .before .before .before .lay2 .ensures))))
 
 same-length-3 : tie.Need-same-length-3
 same-length-3 c = search needs
@@ -86,7 +86,7 @@ unfolding ascii
 returns-3 c =
     let start = c .before .before .before .before .before .before .before .before .before .before .before .before .before .before .before .before .before .before .before .before .before .before .before .before .before .before .before .before .before .before .before .before in
     went-runs (attribute-runs (start .args .words .now) (start .args .pairs .now) (start .args .text .now) (start .args .level) (start .args .at))
-    (went-then (came-bytes _ (c .before .before .before .before .before .before .before .before .before .before .before .before .before .before .before .before .before .before .before .before .before .before .before .before .before .lay .ensures)) (went-then (came-to (c .before .before .before .before .before .before .before .before .before .before .before .before .before .before .before .before .before .before .before .before .before .lay-name .ensures) (c .before .before .before .before .before .before .before .before .before .before .before .before .before .before .before .before .before .name .given .1)) (went-then (came-to (c .before .before .before .before .before .before .before .before .before .before .before .before .before .before .lay-derived .ensures) (c .before .before .before .before .before .before .before .before .before .before .derived .given .1)) (went-then (came-bytes _ (c .before .before .before .before .before .before .lay2 .ensures)) (went-last (came (came-bytes _ (c .before .before .lay-line .ensures))))))))
+    (went-then (came-bytes _ (c .before .before .before .before .before .before .before .before .before .before .before .before .before .before .before .before .before .before .before .before .before .before .before .before .before .lay .ensures)) (went-then (came-to (c .before .before .before .before .before .before .before .before .before .before .before .before .before .before .before .before .before .before .before .before .before .lay-name .ensures) (c .before .before .before .before .before .before .before .before .before .before .before .before .before .before .before .before .before .name .given .1)) (went-then (came-to (c .before .before .before .before .before .before .before .before .before .before .before .before .before .before .lay-counted .ensures) (c .before .before .before .before .before .before .before .before .before .before .derived .given .1)) (went-then (came-bytes _ (c .before .before .before .before .before .before .lay2 .ensures)) (went-last (came (came-bytes _ (c .before .before .lay-line .ensures))))))))
 
 pub lay-attribute-spec : {M : Type 1} → statement M
 lay-attribute-spec =
@@ -99,7 +99,7 @@ lay-attribute-spec =
     enum-told
     same-length
     returns
-    lay-derived-requires
+    lay-counted-requires
     enum-known-derived
     enum-told-2
     same-length-2

@@ -2,7 +2,6 @@ use Prim.Native.Nat.{_<_}
 use Rattle.laying.proofs.Passes.{Along, along-gap, along-item, along-last, along-next, along-start, along-stop, came-to}
 use Rattle.laying.specs.Passes.{came}
 use Rattle.lists.specs.Texts.{leavesAt}
-use Rattle.rast.proofs.Parser.{leaf}
 use lib.ListN.{length}
 use mathlib.Core.Path.{_≡_, refl}
 use native.Mathlib.Omega.{arith}
@@ -47,8 +46,8 @@ same-length-2 c = search needs
 returns-2 : tie.Need-returns-2 Inv-loop μ-loop
 returns-2 c = along-last _ _ (c .before .before .before .before .before .before .before .before .loop .left) (c .before .before .before .before .before .before .before .before .loop .place) (c .before .before .before .before .before .before .before .before .loop .inv .2) (omega (arith, c .if1 .taken, c .before .before .before .before .before .before .before .before .loop .inv .1)) (came (came-to (c .before .before .before .before .before .before .lay-leaf .ensures) (c .before .before .one .given .1)))
 
-lay-leaf-gap-requires : tie.Need-lay-leaf-gap-requires Inv-loop μ-loop
-lay-leaf-gap-requires c κs = along-gap _ _ (c .before .before .before .before .before .before .before .before .before .loop .left) (c .before .before .before .before .before .before .before .before .before .loop .place) (c .before .before .before .before .before .before .before .before .before .loop .inv .2) (omega (arith, c .before .if1 .left, c .before .before .before .before .before .before .before .before .before .loop .inv .1)) (came-to (c .before .before .before .before .before .before .before .lay-leaf .ensures) (c .before .before .before .one .given .1))
+lay-mark-requires : tie.Need-lay-mark-requires Inv-loop μ-loop
+lay-mark-requires c κs = along-gap _ _ (c .before .before .before .before .before .before .before .before .before .loop .left) (c .before .before .before .before .before .before .before .before .before .loop .place) (c .before .before .before .before .before .before .before .before .before .loop .inv .2) (omega (arith, c .before .if1 .left, c .before .before .before .before .before .before .before .before .before .loop .inv .1)) (came-to (c .before .before .before .before .before .before .before .lay-leaf .ensures) (c .before .before .before .one .given .1))
 
 loop-less : tie.Need-loop-less Inv-loop μ-loop
 loop-less c = search needs
@@ -57,7 +56,7 @@ loop-again : tie.Need-loop-again Inv-loop μ-loop
 loop-again c = (
   search needs,
   omega (arith, c .before .before .before .before .if1 .left, c .before .before .before .before .before .before .before .before .before .before .before .before .loop .inv .1),
-  along-next _ _ (c .before .before .before .before .before .before .before .before .before .before .before .before .loop .left) (c .before .before .before .before .before .before .before .before .before .before .before .before .loop .place) (c .before .before .before .before .before .before .before .before .before .before .before .before .loop .inv .2) (omega (arith, c .before .before .before .before .if1 .left, c .before .before .before .before .before .before .before .before .before .before .before .before .loop .inv .1)) (came-to (c .before .before .before .before .before .before .before .before .before .before .lay-leaf .ensures) (c .before .before .before .before .before .before .one .given .1)) (c .before .before .lay-leaf-gap .ensures),
+  along-next _ _ (c .before .before .before .before .before .before .before .before .before .before .before .before .loop .left) (c .before .before .before .before .before .before .before .before .before .before .before .before .loop .place) (c .before .before .before .before .before .before .before .before .before .before .before .before .loop .inv .2) (omega (arith, c .before .before .before .before .if1 .left, c .before .before .before .before .before .before .before .before .before .before .before .before .loop .inv .1)) (came-to (c .before .before .before .before .before .before .before .before .before .before .lay-leaf .ensures) (c .before .before .before .before .before .before .one .given .1)) (c .before .before .lay-mark .ensures),
 )
 
 pub lay-leaves-spec : {M : Type 1} → statement M
@@ -75,6 +74,6 @@ lay-leaves-spec =
     sub-left
     same-length-2
     returns-2
-    lay-leaf-gap-requires
+    lay-mark-requires
     loop-less
     loop-again)

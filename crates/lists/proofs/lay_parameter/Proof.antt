@@ -23,8 +23,8 @@ returns c =
     let start = c .before .before .before .before .before .before .before .before .before .before in
     went-runs (parameter-runs (start .args .words .now) (start .args .pairs .now) (start .args .text .now) (start .args .at)) (stops-then (c .before .before .before .before .lay-name .ensures) (c .enum-told .given .1))
 
-lay-constraints-requires : tie.Need-lay-constraints-requires
-lay-constraints-requires c κs =
+lay-counted-requires : tie.Need-lay-counted-requires
+lay-counted-requires c κs =
     let start = c .before .before .before .before .before .before .before .before .before .before .before .before in
     let r = ready-runs (parameter-runs (start .args .words .now) (start .args .pairs .now) (start .args .text .now) (start .args .at)) (start .pre .1) in
     (start .pre .0, ready-last (ready-next r (came-to (c .before .before .before .before .before .before .lay-name .ensures) (c .before .before .name .given .1))))
@@ -35,7 +35,7 @@ same-length-2 c = search needs
 returns-2 : tie.Need-returns-2
 returns-2 c =
     let start = c .before .before .before .before .before .before .before .before .before .before .before .before .before .before .before in
-    went-runs (parameter-runs (start .args .words .now) (start .args .pairs .now) (start .args .text .now) (start .args .at)) (went-then (came-to (c .before .before .before .before .before .before .before .before .before .lay-name .ensures) (c .before .before .before .before .before .name .given .1)) (went-last (c .before .before .lay-constraints .ensures)))
+    went-runs (parameter-runs (start .args .words .now) (start .args .pairs .now) (start .args .text .now) (start .args .at)) (went-then (came-to (c .before .before .before .before .before .before .before .before .before .lay-name .ensures) (c .before .before .before .before .before .name .given .1)) (went-last (c .before .before .lay-counted .ensures)))
 
 pub lay-parameter-spec : {M : Type 1} → statement M
 lay-parameter-spec =
@@ -46,6 +46,6 @@ lay-parameter-spec =
     enum-told
     same-length
     returns
-    lay-constraints-requires
+    lay-counted-requires
     same-length-2
     returns-2)

@@ -1,5 +1,5 @@
 use Rattle.encoding.specs.Types.{typeAt}
-use Rattle.pieces.proofs.Measured.{measured-end, measured-stop}
+use Rattle.measure.proofs.Measured.{measured-got, measured-stop}
 use Rattle.pieces.proofs.Passes.{pass-end, pass-halt, pass-no-type, pass-own, pass-type, stepped}
 use borrow.Author.Needs.{needs}
 use Rattle.pieces.proofs.pass_piece.Statement.{statement}
@@ -38,7 +38,7 @@ returns c =
 
 returns-2 : tie.Need-returns-2
 returns-2 c =
-    rw (c .move-to .ensures) (pass-type (c .before .before .before .before .before .before .before .before .before .before .before .before .args .words .now) (c .before .before .before .before .before .before .before .before .before .before .before .before .args .pairs .now) (c .before .before .before .before .before .before .before .before .before .before .before .before .args .text .now) (c .before .before .before .before .before .before .before .before .before .before .before .before .args .walk) (c .before .before .before .before .before .before .before .before .before .before .before .before .pre .3) (stepped (c .before .before .before .before .before .before .before .before .before .before .before .before .args .words .now) (c .before .before .before .before .before .before .before .before .before .before .before .before .args .pairs .now) (c .before .before .before .before .before .before .before .before .before .before .before .before .args .text .now) (c .before .before .before .before .before .before .before .before .before .before .before .before .pre .0) (c .before .before .before .before .before .before .w2 .given .1) (c .before .before .before .before .before .before .before .before .next-piece .ensures)) (measured-end (typeAt (c .before .before .before .before .before .before .before .before .before .before .before .before .args .words .now) (c .before .before .before .before .before .before .before .before .before .before .before .before .args .pairs .now) (c .before .before .before .before .before .before .before .before .before .before .before .before .args .text .now) (c .before .before .before .before .before .before .before .before .before .before .before .before .args .walk .place)) (c .before .before .before .before .measure-type .ensures) (c .before .before .next .given .1)))
+    rw (c .move-to .ensures) (pass-type (c .before .before .before .before .before .before .before .before .before .before .before .before .args .words .now) (c .before .before .before .before .before .before .before .before .before .before .before .before .args .pairs .now) (c .before .before .before .before .before .before .before .before .before .before .before .before .args .text .now) (c .before .before .before .before .before .before .before .before .before .before .before .before .args .walk) (c .before .before .before .before .before .before .before .before .before .before .before .before .pre .3) (stepped (c .before .before .before .before .before .before .before .before .before .before .before .before .args .words .now) (c .before .before .before .before .before .before .before .before .before .before .before .before .args .pairs .now) (c .before .before .before .before .before .before .before .before .before .before .before .before .args .text .now) (c .before .before .before .before .before .before .before .before .before .before .before .before .pre .0) (c .before .before .before .before .before .before .w2 .given .1) (c .before .before .before .before .before .before .before .before .next-piece .ensures)) (measured-got (typeAt (c .before .before .before .before .before .before .before .before .before .before .before .before .args .words .now) (c .before .before .before .before .before .before .before .before .before .before .before .before .args .pairs .now) (c .before .before .before .before .before .before .before .before .before .before .before .before .args .text .now) (c .before .before .before .before .before .before .before .before .before .before .before .before .args .walk .place)) (c .before .before .before .before .measure-type .ensures) (c .before .before .next .given .1) .reads))
 
 returns-3 : tie.Need-returns-3
 returns-3 c =

@@ -1,4 +1,4 @@
-use Rattle.rules.proofs.Lists.{from-stops, measured-stop, measured-tree, one-type, rule-read, rule-stops, to-stops}
+use Rattle.rules.proofs.Lists.{from-stops, measured-no-tree, measured-tree, one-type, rule-read, rule-stops, to-stops}
 use Rattle.trees.proofs.Heads.{tree-here}
 use Rattle.trees.specs.Numbered.{treeAt}
 use native.Mathlib.Omega.{arith}
@@ -42,12 +42,12 @@ returns-2 : tie.Need-returns-2
 returns-2 c =
     let a = c .before .before .before .before .before .before .before .before .before .before .before .args in
     let f = measured-tree (a .rules .now) (a .pairs .now) (a .text .now) (a .at) (c .before .before .before .before .before .before .before .measure-type .ensures) (c .before .before .before .before .before .middle .given .1) in
-    rule-stops (to-stops (treeAt (a .rules .now) (a .pairs .now)) (a .at) (f .1) (measured-stop (a .rules .now) (a .pairs .now) (a .text .now) (c .before .before .before .before .before .middle .given .0 .0) (c .before .before .before .measure-type2 .ensures) (c .before .r .given .1)))
+    rule-stops (to-stops (treeAt (a .rules .now) (a .pairs .now)) (a .at) (f .1) (measured-no-tree (a .rules .now) (a .pairs .now) (a .text .now) (c .before .before .before .before .before .middle .given .0 .0) (c .before .before .before .measure-type2 .ensures) (c .before .r .given .1)))
 
 returns-3 : tie.Need-returns-3
 returns-3 c =
     let a = c .before .before .before .before .before .before .before .args in
-    rule-stops (from-stops (treeAt (a .rules .now) (a .pairs .now)) (a .at) (measured-stop (a .rules .now) (a .pairs .now) (a .text .now) (a .at) (c .before .before .before .measure-type .ensures) (c .before .r2 .given .1)))
+    rule-stops (from-stops (treeAt (a .rules .now) (a .pairs .now)) (a .at) (measured-no-tree (a .rules .now) (a .pairs .now) (a .text .now) (a .at) (c .before .before .before .measure-type .ensures) (c .before .r2 .given .1)))
 
 pub scan-rule-spec : {M : Type 1} → statement M
 scan-rule-spec =

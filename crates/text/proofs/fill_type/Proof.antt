@@ -5,7 +5,8 @@ use Rattle.rast.specs.Bytes.{Bytes}
 use Rattle.rast.specs.Tree.{Ty}
 use Rattle.rast.specs.ToString.{Type·ToString}
 use Rattle.encoding.specs.Types.{typeAt}
-use Rattle.text.proofs.Calls.{measured-got, measured-stop, text-stop, text-left, text-short, text-done}
+use Rattle.measure.proofs.Measured.{measured-got, measured-stop}
+use Rattle.text.proofs.Calls.{text-stop, text-left, text-short, text-done}
 use native.Mathlib.Omega.{arith}
 use borrow.Author.Needs.{needs}
 use Rattle.text.proofs.fill_type.Statement.{statement}
@@ -34,7 +35,7 @@ write-type-requires : tie.Need-write-type-requires
 write-type-requires c κs =
     let a = c .before .before .before .before .before .before .before .before .before .before .before .args in
     let m = measured-got (typeAt (a .words .now) (a .pairs .now) (a .text .now) 0) (c .before .before .before .before .before .before .measure-type .ensures) (c .before .before .before .before .next .given .1) in
-    (c .before .before .before .before .before .before .before .before .before .before .before .pre .0, record { value = m .type; end = _; reads = m .reads; room = omega (arith, c .before .if2 .left, m .size) })
+    (c .before .before .before .before .before .before .before .before .before .before .before .pre .0, record { value = m .value; end = _; reads = m .reads; room = omega (arith, c .before .if2 .left, m .size) })
 
 enum-known-r : tie.Need-enum-known-r
 enum-known-r c = search needs
@@ -47,7 +48,7 @@ returns-3 c =
     let a = c .before .before .before .before .before .before .before .before .before .before .before .before .before .before .args in
     let m = measured-got (typeAt (a .words .now) (a .pairs .now) (a .text .now) 0) (c .before .before .before .before .before .before .before .before .before .measure-type .ensures) (c .before .before .before .before .before .before .before .next .given .1) in
     let w = c .before .before .write-type .ensures in
-    let v : w .value ≡ m .type = cc (w .reads, m .reads) in
+    let v : w .value ≡ m .value = cc (w .reads, m .reads) in
     text-done Type·ToString (length (a .words .now)) (a .out .now) (typeAt (a .words .now) (a .pairs .now) (a .text .now) 0) _ (m .reads) (c .before .before .before .before .before .if1 .left) (omega (arith, c .before .before .before .before .if2 .left, m .size)) (m .size) (w .wrote .bytes ∙ ap (λ (t : Ty Bytes). sets (a .out .now) 0 (Type·ToString t)) v)
 
 returns-4 : tie.Need-returns-4
