@@ -1,6 +1,7 @@
 -- Laws of the tables, of reading, and of heads.
 pub mod Tables
 pub mod Names
+pub mod Primitives
 pub mod Reading
 pub mod Heads
 pub mod Inside

@@ -5,10 +5,13 @@ ghost use mathlib.Core.List.{[]};
 ghost use Prim.Native.Nat.{_+_, _*_, _-_, _^_, _≤_, _<_};
 ghost use lib.ListN.{length, getD, take, drop};
 ghost use Rattle.rast.specs.Bytes.{same};
+ghost use Rattle.rast.specs.Tree.{U8};
+ghost use Rattle.rast.specs.ToString.{Primitive·ToString};
 ghost use Rattle.output.specs.Wrote.{Wrote};
 ghost use Rattle.encoding.specs.Refusals.{number};
 ghost use Rattle.encoding.specs.Tables.{checkLevel, checkTables, goodPairs, fixedNames, nameBytes, nameLength, nameCount, Good};
 ghost use Rattle.encoding.specs.Reading.{readWord, readBelow, readNames};
+ghost use Rattle.encoding.specs.Types.{primitives};
 ghost use Rattle.encoding.specs.Heads.{readPath, pathHead, headAfter, readHead, kids};
 ghost use Rattle.encoding.specs.Scans.{wordScan, ended, pathScan, headScan, headOf, ownWord};
 
@@ -151,6 +154,17 @@ pub fn put_name(pairs: &[u32], text: &[u8], name: u32, out: &mut [u8], pos: usiz
     let start = pairs[2 * i] as usize;
     let count = pairs[2 * i + 1] as usize;
     output::put_part(text, start, count, out, pos)
+}
+
+// How long the plain types' texts are, by their kinds.
+const PRIMITIVE_LENGTHS: [u8; 12] = [2, 3, 3, 3, 4, 2, 3, 3, 3, 4, 5, 4];
+
+// How long a plain type's text is.
+pub fn primitive_length(kind: u32) -> usize
+    requires { ⌜ kind < 12 ⌝ }
+    ensures { λ r. ⌜ (r ≡ length (Primitive·ToString (getD primitives kind U8))) × (r ≤ 5) ⌝ }
+{
+    PRIMITIVE_LENGTHS[kind as usize] as usize
 }
 
 pub fn same_bytes(a: &[u8], b: &[u8]) -> bool

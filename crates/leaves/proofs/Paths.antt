@@ -13,7 +13,6 @@ use Rattle.rast.proofs.SourceEquations.{path-text as segments-text}
 use Rattle.output.specs.Wrote.{Wrote}
 use Rattle.encoding.specs.declared.PathAt.{PathAt}
 use Rattle.encoding.specs.Types.{rootOf, pathOf, sizeOf}
-use Rattle.encoding.proofs.Heads.{past-six}
 use Rattle.leaves.specs.Texts.{memberText, endText}
 
 -- the text of the names, each behind its colons
@@ -36,14 +35,6 @@ root-global = refl
 pub root-self : (r : ℕ) → (r ≡ 0 → ⊥) → (r ≡ 1 → ⊥) → Path·ToString (rootOf r) ≡ ascii "Self"
 unfolding rootOf Path·ToString
 root-self r h k = rw (ne-eqb r 0 h, ne-eqb r 1 k)
-
--- below twelve, the last kind is the eleventh
-pub last-kind : (w : ℕ) → w < 12 → (w ≡ 0 → ⊥) → (w ≡ 1 → ⊥) → (w ≡ 2 → ⊥) → (w ≡ 3 → ⊥) → (w ≡ 4 → ⊥) → (w ≡ 5 → ⊥)
-    → (w ≡ 6 → ⊥) → (w ≡ 7 → ⊥) → (w ≡ 8 → ⊥) → (w ≡ 9 → ⊥) → (w ≡ 10 → ⊥) → w ≡ 11
-last-kind w h h₀ h₁ h₂ h₃ h₄ h₅ h₆ h₇ h₈ h₉ h₁₀ = five w h (past-six w 0 (omega arith) h₀ h₁ h₂ h₃ h₄ h₅) h₆ h₇ h₈ h₉ h₁₀
-  where
-    five : (w : ℕ) → w < 12 → 0 + 6 ≤ w → (w ≡ 6 → ⊥) → (w ≡ 7 → ⊥) → (w ≡ 8 → ⊥) → (w ≡ 9 → ⊥) → (w ≡ 10 → ⊥) → w ≡ 11
-    five w h k a b c d e = omega arith
 
 -- the end of a sized array's text
 pub sized-end : (name : ℕ → Bytes) (s : ℕ) → (s ≡ 0 → ⊥) → endText (sizeOf name s) ≡ ascii "; " ++ (name (s - 1) ++ ascii "]")

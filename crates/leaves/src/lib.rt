@@ -10,24 +10,18 @@ ghost use Rattle.encoding.specs.Types.{primitives, rootOf, pathOf, sizeOf};
 ghost use Rattle.leaves.specs.Texts.{memberText, endText};
 use encoding::PathAt;
 
+// Where the plain types' texts stand in the byte string below, by their kinds.
+const STARTS: [u8; 12] = [0, 2, 5, 8, 11, 15, 17, 20, 23, 26, 30, 35];
+
+// No jump to one of twelve strings: which of them comes next is hard to foresee.
 pub fn put_primitive(kind: u32, out: &mut [u8], pos: usize) -> usize
     requires { ⌜ (kind < 12) × (pos + length (Primitive·ToString (getD primitives kind U8)) ≤ length (now out)) ⌝ }
     ensures { λ r. ⌜ Wrote (now (out .entry)) pos (Primitive·ToString (getD primitives kind U8)) (now (out .exit)) r ⌝ }
 {
-    match kind {
-        0 => output::put(b"u8", out, pos),
-        1 => output::put(b"u16", out, pos),
-        2 => output::put(b"u32", out, pos),
-        3 => output::put(b"u64", out, pos),
-        4 => output::put(b"u128", out, pos),
-        5 => output::put(b"i8", out, pos),
-        6 => output::put(b"i16", out, pos),
-        7 => output::put(b"i32", out, pos),
-        8 => output::put(b"i64", out, pos),
-        9 => output::put(b"i128", out, pos),
-        10 => output::put(b"usize", out, pos),
-        _ => output::put(b"bool", out, pos),
-    }
+    let all = b"u8u16u32u64u128i8i16i32i64i128usizebool";
+    let start = STARTS[kind as usize] as usize;
+    let count = encoding::primitive_length(kind);
+    output::put_part(all, start, count, out, pos)
 }
 
 fn put_root(root: u32, out: &mut [u8], pos: usize) -> usize

@@ -1,22 +1,20 @@
--- Laws of the lengths of names, paths and plain types.
+-- Laws of the lengths of names and paths.
 use Prim.Native.Nat.{ℕ, zero, suc, _+_, _*_, _-_, _^_, _≤_, _<_}
-use mathlib.Core.Path.{_≡_, refl, _∙_}
-use mathlib.Core.List.{List, [], _∷_, map}
+use mathlib.Core.Path.{_≡_, _∙_}
+use mathlib.Core.List.{List, map}
 use native.Mathlib.Omega.{arith}
 use native.Mathlib.Numerals.{add-one}
 use native.Mathlib.Decide.{decLt}
 use lib.ListN.{length, getD, take, drop, length-append}
 use lib.Seq.{drop-cons}
-use Rattle.rast.specs.Bytes.{Bytes, ascii, _and_}
-use Rattle.rast.specs.Tree.{Path, PMemberSelect, MSels, U8}
-use Rattle.rast.specs.ToString.{Path·ToString, Primitive·ToString}
+use Rattle.rast.specs.Bytes.{Bytes, ascii}
+use Rattle.rast.specs.Tree.{Path, PMemberSelect, MSels}
+use Rattle.rast.specs.ToString.{Path·ToString}
 use Rattle.encoding.specs.declared.PathAt.{PathAt}
 use Rattle.encoding.specs.Tables.{Good, nameBytes, nameLength, nameCount}
 use Rattle.encoding.specs.Heads.{InsidePath}
-use Rattle.encoding.specs.Types.{primitives, rootOf, pathOf}
-use borrow.Author.Tests.{eqb-true, leb-true}
-use lib.Dec.{eqb, leb}
-use Rattle.encoding.proofs.Tables.{everyBelow, every-at, fixed-inside, fixed-length, length-fixed, length-pair, name-length}
+use Rattle.encoding.specs.Types.{rootOf, pathOf}
+use Rattle.encoding.proofs.Tables.{fixed-inside, fixed-length, length-fixed, length-pair, name-length}
 use Rattle.measure.specs.Lengths.{namesLength, pathLength}
 
 -- a name's length is a word of the pairs, or that of a fixed name
@@ -29,20 +27,6 @@ name-short pairs h x = go (decLt x 16)
 
 pub name-fits : (pairs : List ℕ) → ((i : ℕ) → getD pairs i 0 < 2 ^ 32) → (x n : ℕ) → n ≡ nameLength pairs x → n < 2 ^ 32
 name-fits pairs h x n e = omega (arith, name-short pairs h x)
-
--- how long the plain types' texts are, by their kinds
-unfoldable pub plainLengths : List ℕ
-plainLengths = 2 ∷ 3 ∷ 3 ∷ 3 ∷ 4 ∷ 2 ∷ 3 ∷ 3 ∷ 3 ∷ 4 ∷ 5 ∷ 4 ∷ []
-
-pub plain-length : (w : ℕ) → w < 12 → getD plainLengths w 0 ≡ length (Primitive·ToString (getD primitives w U8))
-unfolding everyBelow plainLengths primitives Primitive·ToString ascii _and_
-plain-length w h =
-    eqb-true (getD plainLengths w 0) (length (Primitive·ToString (getD primitives w U8)))
-    (every-at (λ i. eqb (getD plainLengths i 0) (length (Primitive·ToString (getD primitives i U8)))) 12 refl w h)
-
-pub plain-short : (w : ℕ) → w < 12 → getD plainLengths w 0 ≤ 5
-unfolding everyBelow plainLengths _and_
-plain-short w h = leb-true (getD plainLengths w 0) 5 (every-at (λ i. leb (getD plainLengths i 0) 5) 12 refl w h)
 
 -- ---- paths
 

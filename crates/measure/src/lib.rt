@@ -1,14 +1,13 @@
 // One pass over the words of a type, with no recursion: it accepts or refuses the type, and finds how long its text is.
 ghost use mathlib.Core.Path.{_≡_};
 ghost use Prim.Native.Nat.{_+_, _*_, _-_, _^_, _/_, _≤_, _<_};
-ghost use lib.ListN.{length, getD};
-ghost use Rattle.rast.specs.Tree.{U8};
-ghost use Rattle.rast.specs.ToString.{Path·ToString, Primitive·ToString};
+ghost use lib.ListN.{length};
+ghost use Rattle.rast.specs.ToString.{Path·ToString};
 ghost use Rattle.encoding.specs.Refusals.{pick};
 ghost use Rattle.encoding.specs.Reading.{readWord, readBelow};
 ghost use Rattle.encoding.specs.Tables.{Good, nameBytes, nameLength, nameCount};
 ghost use Rattle.encoding.specs.Heads.{InsidePath, pathHead, headAfter, readHead};
-ghost use Rattle.encoding.specs.Types.{primitives, rootOf, pathOf, typeAt};
+ghost use Rattle.encoding.specs.Types.{rootOf, pathOf, typeAt};
 ghost use Rattle.encoding.specs.declared.Head.the-variants.{Name, Apply, Tuple, Function, ArrayOf, Meta};
 ghost use Rattle.measure.specs.Lengths.{measureOf, pathLength, arrayLength, worded, Scanned};
 ghost use Rattle.measure.specs.Levels.{shows, leaving, entering, pushed, Kept, Stepped};
@@ -49,17 +48,6 @@ enum Step {
     On(Pass),
     Ended,
     Halt(Refusal),
-}
-
-// How long the plain types' texts are, by their kinds.
-const PRIMITIVE_LENGTHS: [u8; 12] = [2, 3, 3, 3, 4, 2, 3, 3, 3, 4, 5, 4];
-
-// How long a plain type's text is.
-fn primitive_length(kind: u32) -> usize
-    requires { ⌜ kind < 12 ⌝ }
-    ensures { λ r. ⌜ (r ≡ length (Primitive·ToString (getD primitives kind U8))) × (r ≤ 5) ⌝ }
-{
-    PRIMITIVE_LENGTHS[kind as usize] as usize
 }
 
 // How long a path's root is.
@@ -251,7 +239,7 @@ fn scan_own(words: &[u32], pairs: &[u32], bound: usize, at: usize) -> OwnScan
     }
     let w = words[at];
     if w < 12 {
-        return own_node(at + 1, 0, primitive_length(w), 1);
+        return own_node(at + 1, 0, encoding::primitive_length(w), 1);
     }
     own_after(words, pairs, bound, w, at + 1)
 }

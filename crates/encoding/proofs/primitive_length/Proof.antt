@@ -1,8 +1,8 @@
-use Rattle.measure.proofs.Lengths.{plainLengths, plain-length, plain-short}
+use Rattle.encoding.proofs.Primitives.{plainLengths, plain-length, plain-short}
 use native.Mathlib.Omega.{arith}
 use borrow.Author.Needs.{needs}
-use Rattle.measure.proofs.primitive_length.Statement.{statement}
-use Rattle.measure.proofs.primitive_length.Tie as tie
+use Rattle.encoding.proofs.primitive_length.Statement.{statement}
+use Rattle.encoding.proofs.primitive_length.Tie as tie
 
 array-read-result : tie.Need-array-read-result
 array-read-result c = search needs
