@@ -22,7 +22,7 @@ use Rattle.encoding.specs.declared.HeadScan.the-variants.{Own, NoHead}
 use Rattle.encoding.specs.Refusals.{pick}
 use Rattle.encoding.specs.Tables.{nameBytes, nameCount}
 use Rattle.encoding.specs.Reading.{Reading, got, stop, readWord}
-use Rattle.encoding.specs.Heads.{headAfter, readHead, InsideHead}
+use Rattle.encoding.specs.Heads.{headKind, headAfter, readHead, InsideHead}
 use Rattle.encoding.specs.Scans.{headScan}
 use Rattle.encoding.specs.Types.{pathOf, readTypes, readNode, readType, typeAt}
 use Rattle.encoding.proofs.Head.{the-type}
@@ -31,7 +31,7 @@ use Rattle.encoding.proofs.Reading.{head-got, head-stop}
 use Rattle.encoding.proofs.Heads.{head-at}
 use Rattle.encoding.proofs.Inside.{head-lies}
 use Rattle.encoding.proofs.Types.{Made₂, made-got, made₂-got, node-of}
-use Rattle.encoding.proofs.TypeKinds.{kind, headKind, head-kind, node-kind}
+use Rattle.encoding.proofs.TypeKinds.{kind, head-kind, node-kind}
 use Rattle.writing.specs.Written.{Readable}
 use Rattle.trees.specs.Encode.{words}
 use Rattle.trees.specs.Places.{Place, place}

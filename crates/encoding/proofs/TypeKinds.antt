@@ -15,7 +15,7 @@ use Rattle.encoding.specs.declared.Head.the-variants.{Plain, Name, FromP
 use Rattle.encoding.specs.Refusals.{pick}
 use Rattle.encoding.specs.Tables.{nameBytes, nameCount}
 use Rattle.encoding.specs.Reading.{Reading, got, stop, _>>=_, readWord, readBelow}
-use Rattle.encoding.specs.Heads.{readPath, pathHead, headAfter, readHead, InsideHead}
+use Rattle.encoding.specs.Heads.{headKind, readPath, pathHead, headAfter, readHead, InsideHead}
 use Rattle.encoding.specs.Types.{primitives, readTypes, readNode, readType, typeAt}
 use Rattle.encoding.proofs.Tables.{impossible, everyBelow, every-at}
 use Rattle.encoding.proofs.Heads.{head-at}
@@ -51,22 +51,6 @@ kind (IntersectionType l r) = 21
 kind (Array t s) = 22
 kind (TSynonym d b) = 23
 kind (TMetaData d c o) = 24
-
-abbrev pub headKind : Head → ℕ
-headKind (Plain w) = w
-headKind (Name x) = 12
-headKind (FromPath p) = 13
-headKind (Apply n) = 14
-headKind Ref = 15
-headKind RefMut = 16
-headKind Impl = 17
-headKind Dyn = 18
-headKind (Tuple n) = 19
-headKind (Function n) = 20
-headKind Both = 21
-headKind (ArrayOf s) = 22
-headKind Synonym = 23
-headKind (Meta x) = 24
 
 pub primitive-kind : (w : ℕ) → w < 12 → primitiveKind (getD primitives w U8) ≡ w
 unfolding everyBelow _and_ primitives

@@ -10,6 +10,23 @@ use Rattle.encoding.specs.declared.Head.the-variants.{Plain, Name, FromP
 use Rattle.encoding.specs.Refusals.{pick}
 use Rattle.encoding.specs.Reading.{Reading, got, stop, _>>=_, readWord, readBelow, readNames}
 
+-- document 01's number for each head
+abbrev pub headKind : Head → ℕ
+headKind (Plain w) = w
+headKind (Name x) = 12
+headKind (FromPath p) = 13
+headKind (Apply n) = 14
+headKind Ref = 15
+headKind RefMut = 16
+headKind Impl = 17
+headKind Dyn = 18
+headKind (Tuple n) = 19
+headKind (Function n) = 20
+headKind Both = 21
+headKind (ArrayOf s) = 22
+headKind Synonym = 23
+headKind (Meta x) = 24
+
 -- a path: its root, how many names, and the names; it is kept by the place of its names
 unfoldable pub readPath : ℕ → List ℕ → ℕ → Reading PathAt
 readPath bound ws at =

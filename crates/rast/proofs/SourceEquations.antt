@@ -10,7 +10,7 @@ use Rattle.rast.specs.Bytes.{Bytes, ascii}
 use Rattle.rast.specs.ToString.{Path·ToString, Type·ToString, commaText}
 use Rattle.rast.specs.Indent.{SeqToString}
 use Rattle.rast.specs.Sound.{isEmpty}
-use Rattle.rast.specs.DeclarationToString.{Expand, isSelfPath, isSelfOwned}
+use Rattle.rast.specs.DeclarationToString.{Expand, isSelfPath, isSelfOwned, isSelfBorrowed, isSelfBorrowedMut}
 use Rattle.rast.specs.Tree.{Path, Global, Crate, Self, PMemberSelect, MSels, Ty, Tys, Primitive, TIdentifier, TypeFromPath, TypeApp, Borrowed, BorrowedMut, ImplType, DynType, TupleType, FnType, IntersectionType, Array, TSynonym, TMetaData, nil, cons}
 
 -- `seq<Type>` as a list
@@ -139,3 +139,41 @@ self-owned (IntersectionType l r) e = never (sym e)
 self-owned (Array t s) e = never (sym e)
 self-owned (TSynonym d b) e = never (sym e)
 self-owned (TMetaData d c o) e = never (sym e)
+
+pub self-borrowed : {N : Type 0} (t : Ty N) → isSelfBorrowed t ≡ true → t ≡ Borrowed (TypeFromPath Self)
+unfolding isSelfBorrowed
+self-borrowed (Primitive p) e = never (sym e)
+self-borrowed (TIdentifier x) e = never (sym e)
+self-borrowed (TypeFromPath p) e = never (sym e)
+self-borrowed (TypeApp b ts) e = never (sym e)
+self-borrowed (Borrowed t) e = ap Borrowed (self-owned t e)
+self-borrowed (BorrowedMut t) e = never (sym e)
+self-borrowed (ImplType t) e = never (sym e)
+self-borrowed (DynType t) e = never (sym e)
+self-borrowed (TupleType ts) e = never (sym e)
+self-borrowed (FnType ts t) e = never (sym e)
+self-borrowed (IntersectionType l r) e = never (sym e)
+self-borrowed (Array t s) e = never (sym e)
+self-borrowed (TSynonym d b) e = never (sym e)
+self-borrowed (TMetaData d c o) e = never (sym e)
+
+pub self-borrowed-mut : {N : Type 0} (t : Ty N) → isSelfBorrowedMut t ≡ true → t ≡ BorrowedMut (TypeFromPath Self)
+unfolding isSelfBorrowedMut
+self-borrowed-mut (Primitive p) e = never (sym e)
+self-borrowed-mut (TIdentifier x) e = never (sym e)
+self-borrowed-mut (TypeFromPath p) e = never (sym e)
+self-borrowed-mut (TypeApp b ts) e = never (sym e)
+self-borrowed-mut (Borrowed t) e = never (sym e)
+self-borrowed-mut (BorrowedMut t) e = ap BorrowedMut (self-owned t e)
+self-borrowed-mut (ImplType t) e = never (sym e)
+self-borrowed-mut (DynType t) e = never (sym e)
+self-borrowed-mut (TupleType ts) e = never (sym e)
+self-borrowed-mut (FnType ts t) e = never (sym e)
+self-borrowed-mut (IntersectionType l r) e = never (sym e)
+self-borrowed-mut (Array t s) e = never (sym e)
+self-borrowed-mut (TSynonym d b) e = never (sym e)
+self-borrowed-mut (TMetaData d c o) e = never (sym e)
+
+pub selves : (N : Type 0) → (isSelfOwned {N = N} (TypeFromPath Self) ≡ true) × (isSelfBorrowed {N = N} (Borrowed (TypeFromPath Self)) ≡ true) × (isSelfBorrowedMut {N = N} (BorrowedMut (TypeFromPath Self)) ≡ true)
+unfolding isSelfOwned isSelfPath isSelfBorrowed isSelfBorrowedMut
+selves N = (refl, refl, refl)

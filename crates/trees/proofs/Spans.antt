@@ -15,12 +15,12 @@ use Rattle.encoding.specs.declared.Head.{Head}
 use Rattle.encoding.specs.declared.Head.the-variants.{Plain, Name, FromPath, Apply, Ref, RefMut, Impl, Dyn, Tuple, Function, Both, ArrayOf, Synonym, Meta}
 use Rattle.encoding.specs.Refusals.{pick}
 use Rattle.encoding.specs.Reading.{Reading, got, stop, _>>=_, readWord, readBelow, readNames}
-use Rattle.encoding.specs.Heads.{readPath, pathHead, headAfter, readHead, kids}
+use Rattle.encoding.specs.Heads.{headKind, readPath, pathHead, headAfter, readHead, kids}
 use Rattle.encoding.specs.Types.{primitives, rootOf, pathOf, sizeOf, readTypes, readType}
 use Rattle.encoding.proofs.Tables.{impossible, everyBelow, every-at}
 use Rattle.encoding.proofs.Heads.{head-at}
 use Rattle.encoding.proofs.Inside.{head-lies, path-lies, path-end}
-use Rattle.encoding.proofs.TypeKinds.{headKind, head-kind}
+use Rattle.encoding.proofs.TypeKinds.{head-kind}
 use Rattle.encoding.proofs.Types.{bind-got, made₂-got}
 use Rattle.trees.specs.Encode.{Token, name, size, tokenWord, primitiveWord, flagsWord, rootWord, names, pathTokens, count, tokens, tokensAll, encode, encodeAll}
 use Rattle.trees.proofs.Nodes.{Node, plain, ident, path, apply, ref, refMut, impl, dyn, tuple, function, both, array, synonym, meta, snoc, node-below, types-count, count-snoc}
