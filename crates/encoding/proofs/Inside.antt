@@ -16,16 +16,16 @@ use Rattle.encoding.specs.Reading.{Reading, got, stop, _>>=_, readWord, 
 use Rattle.encoding.specs.Heads.{readPath, pathHead, headAfter, readHead, InsidePath, InsideHead}
 
 -- P of what was read, if anything was
-abbrev Holds : {A : Type 0} → (A → ℕ → Type 0) → Reading A → Type 0
+abbrev pub Holds : {A : Type 0} → (A → ℕ → Type 0) → Reading A → Type 0
 Holds P (got a n) = P a n
 Holds P (stop r) = Unit {0}
 
-holds-on : {A B : Type 0} (Q : A → ℕ → Type 0) (P : B → ℕ → Type 0) (x : Reading A) (g : A → ℕ → Reading B)
+pub holds-on : {A B : Type 0} (Q : A → ℕ → Type 0) (P : B → ℕ → Type 0) (x : Reading A) (g : A → ℕ → Reading B)
     → Holds Q x → ((a : A) (n : ℕ) → Q a n → Holds P (g a n)) → Holds P (x >>= g)
 holds-on Q P (got a n) g h k = k a n h
 holds-on Q P (stop r) g h k = tt
 
-holds-pick : {A : Type 0} (P : A → ℕ → Type 0) (t : Bool) (x y : Reading A)
+pub holds-pick : {A : Type 0} (P : A → ℕ → Type 0) (t : Bool) (x y : Reading A)
     → (t ≡ true → Holds P x) → Holds P y → Holds P (pick t x y)
 holds-pick P true x y h k = h refl
 holds-pick P false x y h k = k
@@ -35,34 +35,34 @@ holds-weaker Q P (got a n) f h = f a n h
 holds-weaker Q P (stop r) f h = tt
 
 -- a word below b was there
-record Next (b : ℕ) (ws : List ℕ) (at w n : ℕ) : Type 0 where
-  here : at < length ws
-  next : n ≡ at + 1
-  same : w ≡ getD ws at 0
-  below : w < b
+pub record Next (b : ℕ) (ws : List ℕ) (at w n : ℕ) : Type 0 where
+  pub here : at < length ws
+  pub next : n ≡ at + 1
+  pub same : w ≡ getD ws at 0
+  pub below : w < b
 
-record There (ws : List ℕ) (at w n : ℕ) : Type 0 where
-  here : at < length ws
-  next : n ≡ at + 1
-  same : w ≡ getD ws at 0
+pub record There (ws : List ℕ) (at w n : ℕ) : Type 0 where
+  pub here : at < length ws
+  pub next : n ≡ at + 1
+  pub same : w ≡ getD ws at 0
 
-word-holds : (ws : List ℕ) (at : ℕ) → Holds (There ws at) (readWord ws at)
+pub word-holds : (ws : List ℕ) (at : ℕ) → Holds (There ws at) (readWord ws at)
 unfolding readWord
 word-holds ws at = holds-pick (There ws at) (ltb at (length ws)) _ _ (λ t. record { here = ltb-true at (length ws) t; next = refl; same = refl }) tt
 
-below-holds : (b : ℕ) (ws : List ℕ) (at : ℕ) → Holds (Next b ws at) (readBelow b ws at)
+pub below-holds : (b : ℕ) (ws : List ℕ) (at : ℕ) → Holds (Next b ws at) (readBelow b ws at)
 unfolding readBelow
 below-holds b ws at =
     holds-on (There ws at) (Next b ws at) (readWord ws at) _ (word-holds ws at)
     (λ w n h. holds-pick (Next b ws at) (ltb w b) _ _ (λ t. record { here = h .here; next = h .next; same = h .same; below = ltb-true w b t }) tt)
 
 -- n names stand from `at` on
-record Names (b : ℕ) (ws : List ℕ) (n at : ℕ) (u : Unit {0}) (r : ℕ) : Type 0 where
-  end : r ≡ at + n
-  inside : at + n ≤ length ws
-  below : (i : ℕ) → at ≤ i → i < at + n → getD ws i 0 < b
+pub record Names (b : ℕ) (ws : List ℕ) (n at : ℕ) (u : Unit {0}) (r : ℕ) : Type 0 where
+  pub end : r ≡ at + n
+  pub inside : at + n ≤ length ws
+  pub below : (i : ℕ) → at ≤ i → i < at + n → getD ws i 0 < b
 
-names-hold : (b : ℕ) (ws : List ℕ) (n at : ℕ) → at ≤ length ws → Holds (Names b ws n at) (readNames b ws n at)
+pub names-hold : (b : ℕ) (ws : List ℕ) (n at : ℕ) → at ≤ length ws → Holds (Names b ws n at) (readNames b ws n at)
 unfolding readNames
 names-hold b ws zero at h = record { end = omega arith; inside = omega arith; below = λ i k m. absurd (let z : ⊥ = omega arith in z) }
 names-hold b ws (suc n) at h =

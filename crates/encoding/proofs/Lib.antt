@@ -5,5 +5,6 @@ pub mod Primitives
 pub mod Reading
 pub mod Heads
 pub mod Inside
+pub mod HeadWords
 pub mod Types
 pub mod TypeKinds

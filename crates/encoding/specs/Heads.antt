@@ -1,5 +1,6 @@
 -- A type's head: its kind with the words of its own, as document 01 lists them.
 use Prim.Native.Nat.{ℕ, _+_, _≤_, _<_}
+use mathlib.Core.Path.{_≡_}
 use mathlib.Core.List.{List}
 use lib.Dec.{ltb, eqb}
 use lib.ListN.{length, getD}
@@ -74,6 +75,34 @@ kids Both = 2
 kids (ArrayOf s) = 1
 kids Synonym = 2
 kids (Meta x) = 1
+
+-- a head was read at a position, whichever names there are
+pub record HeadHere (ws : List ℕ) (at : ℕ) : Type 0 where
+  pub bound : ℕ
+  pub head : Head
+  pub next : ℕ
+  pub reads : readHead bound ws at ≡ got head next
+
+-- how many types follow such a head, by its words: `kids` (`words-kids`)
+unfoldable pub typesBelow : List ℕ → ℕ → ℕ
+typesBelow ws at =
+    pick (ltb (getD ws at 0) 14) 0
+    (pick (eqb (getD ws at 0) 14) (getD ws (at + 1) 0 + 1)
+    (pick (eqb (getD ws at 0) 19) (getD ws (at + 1) 0)
+    (pick (eqb (getD ws at 0) 20) (getD ws (at + 1) 0 + 1)
+    (pick (eqb (getD ws at 0) 21) 2
+    (pick (eqb (getD ws at 0) 23) 2 1)))))
+
+-- where its own words end, likewise (`words-end`)
+unfoldable pub ownEnd : List ℕ → ℕ → ℕ
+ownEnd ws at =
+    pick (eqb (getD ws at 0) 12) (at + 2)
+    (pick (eqb (getD ws at 0) 13) (at + 3 + getD ws (at + 2) 0)
+    (pick (eqb (getD ws at 0) 14) (at + 2)
+    (pick (eqb (getD ws at 0) 19) (at + 2)
+    (pick (eqb (getD ws at 0) 20) (at + 2)
+    (pick (eqb (getD ws at 0) 22) (at + 2)
+    (pick (eqb (getD ws at 0) 24) (at + 2) (at + 1)))))))
 
 -- what is true of a path that was read: its root is one of three, and its names stand within the words and are names
 pub record InsidePath (bound : ℕ) (ws : List ℕ) (p : PathAt) : Type 0 where

@@ -12,7 +12,7 @@ ghost use Rattle.encoding.specs.Refusals.{number};
 ghost use Rattle.encoding.specs.Tables.{checkLevel, checkTables, goodPairs, fixedNames, nameBytes, nameLength, nameCount, Good};
 ghost use Rattle.encoding.specs.Reading.{readWord, readBelow, readNames};
 ghost use Rattle.encoding.specs.Types.{primitives};
-ghost use Rattle.encoding.specs.Heads.{readPath, pathHead, headAfter, readHead, kids};
+ghost use Rattle.encoding.specs.Heads.{readPath, pathHead, headAfter, readHead, kids, HeadHere, typesBelow, ownEnd};
 ghost use Rattle.encoding.specs.Scans.{wordScan, ended, pathScan, headScan, headOf, ownWord};
 
 // Document 01's refusals. `Refusals.number` gives the number of each.
@@ -453,5 +453,44 @@ pub fn kids_of(head: Head) -> usize
         Head::ArrayOf(_) => 1,
         Head::Synonym => 2,
         Head::Meta(_) => 1,
+    }
+}
+
+// ---- heads that were read before: their words alone say what follows, and nothing is tested again
+
+// How many types follow the head at `at`.
+pub fn types_below(words: &[u32], at: usize) -> usize
+    requires { ⌜ HeadHere (now words) at ⌝ }
+    ensures { λ r. ⌜ r ≡ typesBelow (now (words .entry)) at ⌝ }
+{
+    let w = words[at];
+    if w < 14 {
+        return 0;
+    }
+    match w {
+        14 => words[at + 1] as usize + 1,
+        19 => words[at + 1] as usize,
+        20 => words[at + 1] as usize + 1,
+        21 => 2,
+        23 => 2,
+        _ => 1,
+    }
+}
+
+// Where the own words of the head at `at` end.
+pub fn own_end(words: &[u32], at: usize) -> usize
+    requires { ⌜ HeadHere (now words) at ⌝ }
+    ensures { λ r. ⌜ r ≡ ownEnd (now (words .entry)) at ⌝ }
+{
+    let w = words[at];
+    match w {
+        12 => at + 2,
+        13 => at + 3 + words[at + 2] as usize,
+        14 => at + 2,
+        19 => at + 2,
+        20 => at + 2,
+        22 => at + 2,
+        24 => at + 2,
+        _ => at + 1,
     }
 }

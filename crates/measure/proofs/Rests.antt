@@ -5,6 +5,7 @@ use mathlib.Core.List.{List, [], _∷_}
 use native.Mathlib.Omega.{arith}
 use native.Mathlib.Nat.{add-assoc, add-zero}
 use native.Mathlib.Numerals.{add-one}
+use lib.Dec.{eqb}
 use lib.ListN.{length, getD, set}
 use lib.Seq.{getD-set-same, getD-set-other}
 use Rattle.rast.specs.Bytes.{Bytes}
@@ -19,16 +20,16 @@ use Rattle.encoding.specs.Heads.{kids, readHead}
 use Rattle.encoding.specs.Types.{readTypes, readNode, readType}
 use Rattle.encoding.proofs.Inside.{head-lies}
 use Rattle.measure.specs.Lengths.{ownLength, modeOf}
-use Rattle.measure.specs.Levels.{shows, shownLength, levelsAt, restAt, stacked}
+use Rattle.measure.specs.Levels.{shownLength, levelsAt, restAt, stacked}
 use Rattle.measure.proofs.Texts.{bind-assoc, bind-same, node-length}
 
 -- ---- levels
 
-pub level-due : (k m : ℕ) → m < 4 → (4 * k + m) / 4 ≡ k
-level-due k m h = omega arith
+pub level-due : (k m : ℕ) → (4 * k + m % 2) / 4 ≡ k
+level-due k m = omega arith
 
-pub level-mode : (k m : ℕ) → m < 4 → (4 * k + m) % 4 ≡ m
-level-mode k m h = omega arith
+pub level-mode : (k m : ℕ) → (4 * k + m % 2) % 4 ≡ m % 2
+level-mode k m = omega arith
 
 stacked-below : (levels : List ℕ) (i v d : ℕ) → d ≤ i → stacked (set levels i v) d ≡ stacked levels d
 unfolding stacked
@@ -70,14 +71,14 @@ module _ (ws pairs : List ℕ) (text : Bytes) (good : Good pairs text) where
   rest-stop d m k ls p total e = rw e
 
   -- behind a type's head its types are due, one level down
-  pub rest-down : (d m k : ℕ) (ls : List ℕ) (p total : ℕ) {h : Head} {q : ℕ} → m < 4 → readHead (nameCount pairs) ws p ≡ got h q
+  pub rest-down : (d m k : ℕ) (ls : List ℕ) (p total : ℕ) {h : Head} {q : ℕ} → readHead (nameCount pairs) ws p ≡ got h q
       → restAt types (suc d) m (suc k) ls p total
-      ≡ restAt types d (pick (shows m k) (modeOf h) 0) (kids h) ((4 * k + m) ∷ ls) q (total + pick (shows m k) (ownLength ws (nameLength pairs) h) 0)
+      ≡ restAt types d (pick (eqb m 0) 0 (modeOf h)) (kids h) ((4 * k + m % 2) ∷ ls) q (total + pick (eqb m 0) 0 (ownLength ws (nameLength pairs) h))
   unfolding restAt readTypes readType levelsAt shownLength
-  rest-down d m k ls p total {h} {q} l e =
-      let g : ℕ → ℕ → Reading ℕ = λ n r. readTypes (types (suc d)) k r >>= λ ts s. levelsAt types (suc d) ls s (total + (n + shownLength m k ts)) in
-      rw (e, level-due k m l, level-mode k m l)
+  rest-down d m k ls p total {h} {q} e =
+      let g : ℕ → ℕ → Reading ℕ = λ n r. readTypes (types (suc d)) k r >>= λ ts s. levelsAt types (suc d) ls s (total + (n + shownLength (m % 2) k ts)) in
+      rw (e, level-due k m, level-mode k m)
       (bind-assoc (readNode ws (nameBytes pairs text) (types d) h q) _ _
       ∙ bind-same (readNode ws (nameBytes pairs text) (types d) h q) _ _ (λ t r i. bind-assoc (readTypes (types (suc d)) k r) _ _)
-      ∙ node-length ws pairs text good (types d) g (shows m k) h q (head-lies (nameCount pairs) ws p e .own)
+      ∙ node-length ws pairs text good (types d) g (eqb m 0) h q (head-lies (nameCount pairs) ws p e .own)
       ∙ simp add-assoc)

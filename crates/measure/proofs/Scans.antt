@@ -16,8 +16,8 @@ use Rattle.encoding.specs.Heads.{kids}
 use Rattle.encoding.proofs.Tables.{impossible}
 use Rattle.encoding.proofs.Types.{bind-got}
 use Rattle.measure.specs.declared.OwnScan.{OwnScan}
-use Rattle.measure.specs.declared.OwnScan.the-variants.{Node, NoNode}
-use Rattle.measure.specs.Lengths.{ownLength, modeOf, Scanned}
+use Rattle.measure.specs.declared.OwnScan.the-variants.{Leaf, Node, NoNode}
+use Rattle.measure.specs.Lengths.{ownLength, modeOf, Scanned, leaf, node, none}
 
 -- a word that was read below a bound is below it
 pub below-less : (b : ℕ) (ws : List ℕ) (at : ℕ) {w n : ℕ} → readBelow b ws at ≡ got w n → w < b
@@ -31,12 +31,16 @@ below-less b ws at {w} {n} e =
     go v m false h d = impossible (cc)
 
 module _ (ws pairs : List ℕ) {x : Reading Head} where
-  pub scanned-got : (h : Head) {r : OwnScan} {n k b m : ℕ} → x ≡ got h n → r ≡ Node n k b m
-      → k ≡ kids h → b ≡ ownLength ws (nameLength pairs) h → m ≡ modeOf h → k ≤ 2 ^ 32 → b ≤ 2 ^ 46 → Scanned ws pairs x r
-  scanned-got h e d k b m few short = record { same = rw (e, d, k, b, m); small = rw d (few, short) }
+  pub scanned-leaf : (h : Head) {r : OwnScan} {n b : ℕ} → x ≡ got h n → r ≡ Leaf n b
+      → kids h ≡ 0 → b ≡ ownLength ws (nameLength pairs) h → b ≤ 2 ^ 46 → Scanned ws pairs x r
+  scanned-leaf h e d k b short = rw d (leaf e k b short)
+
+  pub scanned-node : (h : Head) {r : OwnScan} {n k b m : ℕ} → x ≡ got h n → r ≡ Node n k b m
+      → k ≡ kids h → b ≡ ownLength ws (nameLength pairs) h → m ≡ modeOf h → 0 < k → k ≤ 2 ^ 32 → b ≤ 2 ^ 46 → Scanned ws pairs x r
+  scanned-node h e d k b m some few short = rw d (node e k b m some few short)
 
   pub scanned-stop : {r : OwnScan} {k : Refusal} → x ≡ stop k → r ≡ NoNode k → Scanned ws pairs x r
-  scanned-stop e d = record { same = rw (e, d); small = rw d tt }
+  scanned-stop e d = rw d (none e)
 
   pub scanned-as : {y : Reading Head} {r : OwnScan} → x ≡ y → Scanned ws pairs y r → Scanned ws pairs x r
   scanned-as e s = rw e s

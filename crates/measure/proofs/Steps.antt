@@ -4,8 +4,7 @@ use mathlib.Core.Path.{_≡_, refl, ap, sym, _∙_}
 use mathlib.Core.Bool.{Bool, true, false}
 use mathlib.Core.List.{List, _∷_}
 use native.Mathlib.Omega.{arith}
-use native.Mathlib.Decide.{ℕ-discrete}
-use borrow.Author.Tests.{eq-eqb, ne-eqb}
+use lib.Dec.{eqb}
 use lib.ListN.{length, length-set}
 use Rattle.rast.specs.Bytes.{Bytes}
 use Rattle.rast.specs.Tree.{Ty, nil, cons}
@@ -13,7 +12,6 @@ use Rattle.rast.specs.ToString.{Type·ToString}
 use Rattle.encoding.specs.declared.Refusal.{Refusal}
 use Rattle.encoding.specs.declared.Refusal.the-variants.{TooDeep}
 use Rattle.encoding.specs.declared.Head.{Head}
-use Rattle.encoding.specs.declared.Head.the-variants.{Plain, Name, FromPath, Apply, Ref, RefMut, Impl, Dyn, Tuple, Function, Both, ArrayOf, Synonym, Meta}
 use Rattle.encoding.specs.Refusals.{pick}
 use Rattle.encoding.specs.Reading.{Reading, got, stop, _>>=_}
 use Rattle.encoding.specs.Tables.{Good, nameBytes, nameLength, nameCount}
@@ -24,54 +22,60 @@ use Rattle.encoding.proofs.Tables.{impossible}
 use Rattle.measure.specs.declared.Measure.{Measure}
 use Rattle.measure.specs.declared.Measure.the-variants.{Measured, Stopped}
 use Rattle.measure.specs.declared.OwnScan.{OwnScan}
-use Rattle.measure.specs.declared.OwnScan.the-variants.{Node, NoNode}
+use Rattle.measure.specs.declared.OwnScan.the-variants.{Leaf, Node, NoNode}
 use Rattle.measure.specs.declared.Pass.{Pass}
 use Rattle.measure.specs.declared.Step.{Step}
 use Rattle.measure.specs.declared.Step.the-variants.{On, Ended, Halt}
-use Rattle.measure.specs.Lengths.{measureOf, ownLength, modeOf, Scanned}
-use Rattle.measure.specs.Levels.{shownLength, levelsAt, restAt, stacked, restOf, leaving, nextShows, beside, under, entering, levelOf, pushed, Kept, Stepped, on, ended, halt}
+use Rattle.measure.specs.Lengths.{measureOf, ownLength, modeOf, Scanned, leaf, node, none}
+use Rattle.measure.specs.Levels.{shownLength, levelsAt, restAt, stacked, restOf, leaving, beside, under, levelOf, pushed, Outward, Kept, Stepped, on, ended, halt}
 use Rattle.measure.proofs.Rests.{level-due, level-mode, stacked-push, stacked-top, rest-above, rest-ended, rest-deep, rest-stop, rest-down}
 
 -- ---- heads
 
--- the head behind an answer
-pub record Owned (ws pairs : List ℕ) (x : Reading Head) (next kids′ bytes below : ℕ) : Type 0 where
+-- the head behind an answer with no types
+pub record OwnLeaf (ws pairs : List ℕ) (x : Reading Head) (next bytes : ℕ) : Type 0 where
+  pub head : Head
+  pub read : x ≡ got head next
+  pub no-kids : kids head ≡ 0
+  pub same-bytes : bytes ≡ ownLength ws (nameLength pairs) head
+  pub short : bytes ≤ 2 ^ 46
+
+-- the head behind an answer with types
+pub record OwnNode (ws pairs : List ℕ) (x : Reading Head) (next kids′ bytes below : ℕ) : Type 0 where
   pub head : Head
   pub read : x ≡ got head next
   pub same-kids : kids′ ≡ kids head
   pub same-bytes : bytes ≡ ownLength ws (nameLength pairs) head
   pub same-below : below ≡ modeOf head
+  pub some : 0 < kids′
   pub few : kids′ ≤ 2 ^ 32
   pub short : bytes ≤ 2 ^ 46
 
-pub own-got : (ws pairs : List ℕ) (x : Reading Head) {r : OwnScan} {n k b m : ℕ} → Scanned ws pairs x r → r ≡ Node n k b m → Owned ws pairs x n k b m
-own-got ws pairs (got h q) {r} {n} {k} {b} {m} s e =
-    let d = s .same in
-    let c = rw e at s .small in
-    record { head = h; read = let f : q ≡ n = cc in ap (got h) f; same-kids = cc; same-bytes = cc; same-below = cc; few = c .0; short = c .1 }
-own-got ws pairs (stop k) s e = let d = s .same in impossible (cc)
+module _ {ws pairs : List ℕ} {x : Reading Head} where
+  pub own-leaf : {r : OwnScan} {n b : ℕ} → Scanned ws pairs x r → r ≡ Leaf n b → OwnLeaf ws pairs x n b
+  own-leaf {n = n′} {b = b′} (leaf {h} {n} {b} e k l s) d =
+      let f : n′ ≡ n = cc in
+      let g : b′ ≡ b = cc in
+      rw (f, g) (record { head = h; read = e; no-kids = k; same-bytes = l; short = s })
+  own-leaf (node e k b m o f s) d = impossible (cc)
+  own-leaf (none e) d = impossible (cc)
 
-pub own-stop : (ws pairs : List ℕ) (x : Reading Head) {r : OwnScan} {k : Refusal} → Scanned ws pairs x r → r ≡ NoNode k → x ≡ stop k
-own-stop ws pairs (got h n) s e = let d = s .same in impossible (cc)
-own-stop ws pairs (stop r) s e = let d = s .same in cc
+  pub own-node : {r : OwnScan} {n k b m : ℕ} → Scanned ws pairs x r → r ≡ Node n k b m → OwnNode ws pairs x n k b m
+  own-node (leaf e k l s) d = impossible (cc)
+  own-node {n = n′} {k = k′} {b = b′} {m = m′} (node {h} {n} {k} {b} {m} e i j l o f s) d =
+      let en : n′ ≡ n = cc in
+      let ek : k′ ≡ k = cc in
+      let eb : b′ ≡ b = cc in
+      let em : m′ ≡ m = cc in
+      rw (en, ek, eb, em) (record { head = h; read = e; same-kids = i; same-bytes = j; same-below = l; some = o; few = f; short = s })
+  own-node (none e) d = impossible (cc)
 
-mode-small : (h : Head) → modeOf h ≤ 2
-mode-small (Plain w) = omega arith
-mode-small (Name x) = omega arith
-mode-small (FromPath p) = omega arith
-mode-small (Apply n) = omega arith
-mode-small Ref = omega arith
-mode-small RefMut = omega arith
-mode-small Impl = omega arith
-mode-small Dyn = omega arith
-mode-small (Tuple n) = omega arith
-mode-small (Function n) = omega arith
-mode-small Both = omega arith
-mode-small (ArrayOf s) = omega arith
-mode-small Synonym = omega arith
-mode-small (Meta x) = omega arith
+  pub own-stop : {r : OwnScan} {k : Refusal} → Scanned ws pairs x r → r ≡ NoNode k → x ≡ stop k
+  own-stop (leaf e k l s) d = impossible (cc)
+  own-stop (node e k b m o f s) d = impossible (cc)
+  own-stop {k = k} (none {r} e) d = let f : r ≡ k = cc in rw f at e
 
-pub picked : (s : Bool) (n : ℕ) → pick s n 0 ≤ n
+pub picked : (s : Bool) (n : ℕ) → pick s 0 n ≤ n
 picked true n = omega arith
 picked false n = omega arith
 
@@ -93,103 +97,116 @@ module _ (ws pairs : List ℕ) (text : Bytes) where
   unfolding restOf restAt levelsAt stacked readTypes
   start levels at e = sym (ap measured e) ∙ sym (start-of (typeAt ws pairs text at))
 
-module _ (ws pairs : List ℕ) (text : Bytes) (good : Good pairs text) (levels : List ℕ) (p : Pass) (kept : Kept ws levels p) where
-  pub step-ended : p .due ≡ 0 → p .depth ≡ 0 → Stepped ws pairs text levels p levels Ended
+-- ---- levels that have ended
+
+module _ (levels : List ℕ) (p : Pass) where
+  -- nothing is left
+  rest-none : p .due ≡ 0 → p .depth ≡ 0 → (ws pairs : List ℕ) (text : Bytes) → restOf ws pairs text levels p ≡ got (p .bytes) (p .place)
   unfolding restOf stacked
-  step-ended e d = ended (rw (e, d) (rest-ended _ 64 (p .mode) (p .place) (p .bytes)))
+  rest-none e d ws pairs text = rw (e, d) (rest-ended _ 64 (p .mode) (p .place) (p .bytes))
 
-  pub step-above : p .due ≡ 0 → 0 < p .depth → (p′ : Pass) → p′ ≡ leaving levels p → p′ .due < 2 ^ 62 → Stepped ws pairs text levels p levels (On p′)
+  rest-leaving : p .due ≡ 0 → 0 < p .depth → p .depth ≤ 64 → (ws pairs : List ℕ) (text : Bytes)
+      → restOf ws pairs text levels (leaving levels p) ≡ restOf ws pairs text levels p
   unfolding restOf
-  step-above e d p′ same small =
-      let k = kept .depth in
-      let l = kept .place in
-      let b = kept .bytes in
+  rest-leaving e d k ws pairs text =
       let f : 64 - (p .depth - 1) ≡ suc (64 - p .depth) = omega arith in
-      let r : restOf ws pairs text levels (leaving levels p) ≡ restOf ws pairs text levels p =
-      rw (e, f, stacked-top levels (p .depth) d) (sym (rest-above _ (64 - p .depth) (p .mode) _ _ (p .place) (p .bytes))) in
-      rw same (on {p′ = leaving levels p} (record { room = kept .room; place = l; bytes = b; depth = omega arith; due = omega (arith, rw same at small); mode = omega arith }) r (omega arith))
+      rw (e, f, stacked-top levels (p .depth) d) (sym (rest-above _ (64 - p .depth) (p .mode) _ _ (p .place) (p .bytes)))
 
-  pub step-deep : 0 < p .due → p .depth ≡ 64 → Stepped ws pairs text levels p levels (Halt TooDeep)
+  pub outward-here : p .due ≤ 2 ^ 62 → Outward levels p p
+  outward-here h = record { place = refl; bytes = refl; depth = omega arith; due = h; rest = λ ws pairs text. refl }
+
+  -- one level more has ended
+  pub outward-more : {q r : Pass} → Outward levels q p → p .due ≡ 0 → 0 < p .depth → p .depth ≤ 64 → r ≡ leaving levels p → r .due < 2 ^ 62 → Outward levels q r
+  outward-more {q} {r} o e d k same small =
+      let w : leaving levels p .due ≤ 2 ^ 62 = omega (arith, rw same at small) in
+      let j = o .depth in
+      rw same (record { place = o .place; bytes = o .bytes; depth = omega arith; due = w; rest = λ ws pairs text. rest-leaving e d k ws pairs text ∙ o .rest ws pairs text })
+
+-- ---- a step
+
+module _ (ws pairs : List ℕ) (text : Bytes) (good : Good pairs text) (levels : List ℕ) (p : Pass) (kept : Kept ws levels p) where
+  pub step-deep : p .depth ≡ 64 → Stepped ws pairs text levels p levels (Halt TooDeep)
   unfolding restOf
-  step-deep h e =
+  step-deep e =
+      let h = kept .some in
       let f : p .due ≡ suc (p .due - 1) = omega arith in
       halt {r = TooDeep} (rw (e, f) (rest-deep ws pairs text good (p .mode) (p .due - 1) (stacked levels 64) (p .place) (p .bytes)))
 
-  pub step-stop : 0 < p .due → p .depth < 64 → {r : Refusal} → readHead (nameCount pairs) ws (p .place) ≡ stop r → Stepped ws pairs text levels p levels (Halt r)
+  pub step-stop : p .depth < 64 → {r : Refusal} → readHead (nameCount pairs) ws (p .place) ≡ stop r → Stepped ws pairs text levels p levels (Halt r)
   unfolding restOf
-  step-stop h d {r} e =
+  step-stop d {r} e =
+      let h = kept .some in
       let f : p .due ≡ suc (p .due - 1) = omega arith in
       let i : 64 - p .depth ≡ suc (64 - (p .depth + 1)) = omega arith in
       halt {r = r} (rw (f, i) (rest-stop ws pairs text good (64 - (p .depth + 1)) (p .mode) (p .due - 1) (stacked levels (p .depth)) (p .place) (p .bytes) e))
 
-  module _ (h : 0 < p .due) (d : p .depth < 64) {n k b m : ℕ} (o : Owned ws pairs (readHead (nameCount pairs) ws (p .place)) n k b m) where
-    -- behind a head
-    head-down : restOf ws pairs text levels p
-        ≡ restAt (readType (nameCount pairs) ws (nameBytes pairs text)) (64 - (p .depth + 1)) (pick (nextShows p) m 0) k
-        ((levelOf p) ∷ stacked levels (p .depth)) n (p .bytes + pick (nextShows p) b 0)
-    unfolding restOf
-    head-down =
-        let f : p .due ≡ suc (p .due - 1) = omega arith in
-        let i : 64 - p .depth ≡ suc (64 - (p .depth + 1)) = omega arith in
-        let types = readType (nameCount pairs) ws (nameBytes pairs text) in
-        rw (o .same-kids, o .same-bytes, o .same-below)
-        (ap (λ x. restAt types x (p .mode) (p .due) (stacked levels (p .depth)) (p .place) (p .bytes)) i
-        ∙ ap (λ x. restAt types (suc (64 - (p .depth + 1))) (p .mode) x (stacked levels (p .depth)) (p .place) (p .bytes)) f
-        ∙ rest-down ws pairs text good (64 - (p .depth + 1)) (p .mode) (p .due - 1) (stacked levels (p .depth)) (p .place) (p .bytes) (kept .mode) (o .read))
+  -- behind a head
+  head-down : p .depth < 64 → (h : Head) {n : ℕ} → readHead (nameCount pairs) ws (p .place) ≡ got h n
+      → restOf ws pairs text levels p
+      ≡ restAt (readType (nameCount pairs) ws (nameBytes pairs text)) (64 - (p .depth + 1)) (pick (eqb (p .mode) 0) 0 (modeOf h)) (kids h)
+      ((levelOf p) ∷ stacked levels (p .depth)) n (p .bytes + pick (eqb (p .mode) 0) 0 (ownLength ws (nameLength pairs) h))
+  unfolding restOf
+  head-down d h e =
+      let k = kept .some in
+      let f : p .due ≡ suc (p .due - 1) = omega arith in
+      let i : 64 - p .depth ≡ suc (64 - (p .depth + 1)) = omega arith in
+      let types = readType (nameCount pairs) ws (nameBytes pairs text) in
+      ap (λ x. restAt types x (p .mode) (p .due) (stacked levels (p .depth)) (p .place) (p .bytes)) i
+      ∙ ap (λ x. restAt types (suc (64 - (p .depth + 1))) (p .mode) x (stacked levels (p .depth)) (p .place) (p .bytes)) f
+      ∙ rest-down ws pairs text good (64 - (p .depth + 1)) (p .mode) (p .due - 1) (stacked levels (p .depth)) (p .place) (p .bytes) e
+
+  -- a head adds no more than its words allow
+  bytes-kept : {n b : ℕ} → p .place < n → b ≤ 2 ^ 46 → p .bytes + pick (eqb (p .mode) 0) 0 b ≤ n * 2 ^ 46
+  bytes-kept {n} {b} l s =
+      let e = picked (eqb (p .mode) 0) b in
+      omega (arith, kept .bytes)
+
+  module _ (d : p .depth < 64) {n b : ℕ} (o : OwnLeaf ws pairs (readHead (nameCount pairs) ws (p .place)) n b) where
+    lies : HeadLies (nameCount pairs) ws (p .place) (o .head) n
+    lies = head-lies (nameCount pairs) ws (p .place) (o .read)
 
     -- a head with no type behind it
-    head-leaf : k ≡ 0 → restOf ws pairs text levels p
-        ≡ restOf ws pairs text levels (beside p n b)
+    head-leaf : restOf ws pairs text levels p ≡ restOf ws pairs text levels (beside p n b)
     unfolding restOf
-    head-leaf z =
+    head-leaf =
         let i : suc (64 - (p .depth + 1)) ≡ 64 - p .depth = omega arith in
         let types = readType (nameCount pairs) ws (nameBytes pairs text) in
-        let up = rest-above types (64 - (p .depth + 1)) (pick (nextShows p) m 0) (levelOf p)
-        (stacked levels (p .depth)) n (p .bytes + pick (nextShows p) b 0) in
-        (rw z at head-down) ∙ (rw (i, level-due (p .due - 1) (p .mode) (kept .mode), level-mode (p .due - 1) (p .mode) (kept .mode)) at up)
+        let up = rest-above types (64 - (p .depth + 1)) (pick (eqb (p .mode) 0) 0 (modeOf (o .head))) (levelOf p)
+        (stacked levels (p .depth)) n (p .bytes + pick (eqb (p .mode) 0) 0 b) in
+        (rw (o .no-kids, ← o .same-bytes) at (head-down d (o .head) (o .read))) ∙ (rw (i, level-due (p .due - 1) (p .mode), level-mode (p .due - 1) (p .mode)) at up)
 
-    bytes-kept : p .bytes + pick (nextShows p) b 0 ≤ n * 2 ^ 46
-    bytes-kept =
-        let l = head-lies (nameCount pairs) ws (p .place) (o .read) .starts in
-        let e = picked (nextShows p) b in
-        omega (arith, kept .bytes, o .short)
+    module _ {q : Pass} (w : Outward levels (beside p n b) q) where
+      pub step-past : 0 < q .due → Stepped ws pairs text levels p levels (On q)
+      step-past h =
+          let s = bytes-kept (lies .starts) (o .short) in
+          on {p′ = q} (record { room = kept .room; place = omega (arith, w .place, lies .ends); bytes = omega (arith, w .place, w .bytes); depth = omega (arith, w .depth); some = h; due = w .due })
+          (w .rest ws pairs text ∙ sym head-leaf) (omega (arith, w .place, lies .starts))
 
-    mode-kept : pick (nextShows p) m 0 < 4
-    mode-kept = omega (arith, picked (nextShows p) m, mode-small (o .head), o .same-below)
+      pub step-ended : q .due ≡ 0 → q .depth ≡ 0 → Stepped ws pairs text levels p levels (Ended q)
+      step-ended e z = ended {p′ = q} (head-leaf ∙ sym (w .rest ws pairs text) ∙ rest-none levels q e z ws pairs text)
 
-    pub step-on : Stepped ws pairs text levels p (pushed levels p k) (On (entering p n k b m))
-    unfolding restOf
-    step-on = go (ℕ-discrete k 0)
-      where
-        lies : HeadLies (nameCount pairs) ws (p .place) (o .head) n
-        lies = head-lies (nameCount pairs) ws (p .place) (o .read)
-
-        go : Dec (k ≡ 0) → Stepped ws pairs text levels p (pushed levels p k) (On (entering p n k b m))
-        go (yes z) =
-            rw (eq-eqb k 0 z) (on {p′ = beside p n b}
-            (record { room = kept .room; place = lies .ends; bytes = bytes-kept; depth = kept .depth; due = omega (arith, kept .due); mode = kept .mode })
-            (sym (head-leaf z)) (omega (arith, lies .starts, lies .ends)))
-        go (no z) =
-            rw (ne-eqb k 0 z) (on {p′ = under p n k b m}
-            (record { room = simp length-set (kept .room); place = lies .ends; bytes = bytes-kept; depth = omega arith; due = omega (arith, o .few); mode = mode-kept })
-            (rw (stacked-push levels (p .depth) (levelOf p) (omega (arith, kept .room))) (sym head-down)) (omega (arith, lies .starts, lies .ends)))
+  -- a head with types behind it
+  pub step-under : p .depth < 64 → {n k b m : ℕ} → OwnNode ws pairs (readHead (nameCount pairs) ws (p .place)) n k b m
+      → {levels′ : List ℕ} {q : Pass} → levels′ ≡ pushed levels p → q ≡ under p n k b m → Stepped ws pairs text levels p levels′ (On q)
+  unfolding restOf
+  step-under d {n} {k} {b} {m} o same-levels same =
+      let lies = head-lies (nameCount pairs) ws (p .place) (o .read) in
+      rw (same-levels, same) (on {p′ = under p n k b m}
+      (record { room = simp length-set (kept .room); place = lies .ends; bytes = bytes-kept (lies .starts) (o .short); depth = omega arith; some = o .some; due = omega (arith, o .few) })
+      (rw (stacked-push levels (p .depth) (levelOf p) (omega (arith, kept .room)), o .same-kids, o .same-bytes, o .same-below) (sym (head-down d (o .head) (o .read)))) (lies .starts))
 
 -- ---- what a step says
 
 module _ {ws pairs : List ℕ} {text : Bytes} {levels : List ℕ} {p : Pass} {levels′ : List ℕ} where
-  pub step-to : {l : List ℕ} {q q′ : Pass} → levels′ ≡ l → q′ ≡ q → Stepped ws pairs text levels p l (On q) → Stepped ws pairs text levels p levels′ (On q′)
-  step-to e d s = rw (e, d) s
-
   pub went-on : {r : Step} {q : Pass} → Stepped ws pairs text levels p levels′ r → r ≡ On q
-      → Kept ws levels′ q × (restOf ws pairs text levels′ q ≡ restOf ws pairs text levels p)
-      × (2 * (length ws - q .place) + q .depth < 2 * (length ws - p .place) + p .depth)
+      → Kept ws levels′ q × (restOf ws pairs text levels′ q ≡ restOf ws pairs text levels p) × (p .place < q .place)
   went-on {q = q} (on {p′} k e l) d = let f : q ≡ p′ = cc in rw f (k, e, l)
   went-on (ended e) d = impossible (cc)
   went-on (halt e) d = impossible (cc)
 
-  pub came-to-end : {r : Step} → Stepped ws pairs text levels p levels′ r → r ≡ Ended → restOf ws pairs text levels p ≡ got (p .bytes) (p .place)
+  pub came-to-end : {r : Step} {q : Pass} → Stepped ws pairs text levels p levels′ r → r ≡ Ended q → restOf ws pairs text levels p ≡ got (q .bytes) (q .place)
   came-to-end (on k e l) d = impossible (cc)
-  came-to-end (ended e) d = e
+  came-to-end {q = q} (ended {p′} e) d = let f : p′ ≡ q = cc in rw f at e
   came-to-end (halt e) d = impossible (cc)
 
   pub was-halted : {r : Step} {k : Refusal} → Stepped ws pairs text levels p levels′ r → r ≡ Halt k → restOf ws pairs text levels p ≡ stop k

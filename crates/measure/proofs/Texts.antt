@@ -122,10 +122,10 @@ snoc-count (cons u us) t = ap suc (snoc-count us t)
 
 -- ---- a type and its head
 
--- a text, if it shows, from its parts
-part-length : (s : Bool) (m k own : ℕ) (ts : Tys Bytes) {n : ℕ} → n ≡ own + shownLength m k ts → pick s n 0 ≡ pick s own 0 + shownLength (pick s m 0) k ts
-part-length true m k own ts e = e
-part-length false m k own ts e = omega (arith, shown-none k ts)
+-- a text from its parts, unless it is hidden
+part-length : (s : Bool) (m k own : ℕ) (ts : Tys Bytes) {n : ℕ} → n ≡ own + shownLength m k ts → pick s 0 n ≡ pick s 0 own + shownLength (pick s 0 m) k ts
+part-length true m k own ts e = omega (arith, shown-none k ts)
+part-length false m k own ts e = e
 
 bracketed : (x y : Bytes) → length (ascii "[" ++ x ++ y ++ ascii "]") ≡ 2 + length y + length x
 unfolding ascii
@@ -143,45 +143,45 @@ array-length pairs text good s h = go (ℕ-discrete s 0)
 module _ (ws pairs : List ℕ) (text : Bytes) (good : Good pairs text) (again : ℕ → Reading (Ty Bytes)) {B : Type 0} (g : ℕ → ℕ → Reading B) (s : Bool) where
   one-read : {A : Type 0} (x : Reading A) (c : A → Ty Bytes) (l : A → Tys Bytes) (m k own : ℕ)
       → ((a : A) (q : ℕ) → x ≡ got a q → length (Type·ToString (c a)) ≡ own + shownLength m k (l a))
-      → ((x >>= λ a q. got (c a) q) >>= λ t r. g (pick s (length (Type·ToString t)) 0) r)
-      ≡ ((x >>= λ a q. got (l a) q) >>= λ ts r. g (pick s own 0 + shownLength (pick s m 0) k ts) r)
+      → ((x >>= λ a q. got (c a) q) >>= λ t r. g (pick s 0 (length (Type·ToString t))) r)
+      ≡ ((x >>= λ a q. got (l a) q) >>= λ ts r. g (pick s 0 own + shownLength (pick s 0 m) k ts) r)
   one-read (got a q) c l m k own e = ap (λ n. g n q) (part-length s m k own (l a) (e a q refl))
   one-read (stop r) c l m k own e = refl
 
   two-read : {A C : Type 0} (x : Reading A) (y : A → ℕ → Reading C) (c : A → C → Ty Bytes) (l : A → C → Tys Bytes) (m k own : ℕ)
       → ((a : A) (b : C) (q r : ℕ) → x ≡ got a q → y a q ≡ got b r → length (Type·ToString (c a b)) ≡ own + shownLength m k (l a b))
-      → ((x >>= λ a q. y a q >>= λ b r. got (c a b) r) >>= λ t r. g (pick s (length (Type·ToString t)) 0) r)
-      ≡ ((x >>= λ a q. y a q >>= λ b r. got (l a b) r) >>= λ ts r. g (pick s own 0 + shownLength (pick s m 0) k ts) r)
+      → ((x >>= λ a q. y a q >>= λ b r. got (c a b) r) >>= λ t r. g (pick s 0 (length (Type·ToString t))) r)
+      ≡ ((x >>= λ a q. y a q >>= λ b r. got (l a b) r) >>= λ ts r. g (pick s 0 own + shownLength (pick s 0 m) k ts) r)
   two-read (got a q) y c l m k own e = one-read (y a q) (c a) (l a) m k own (λ b r d. e a b q r refl d)
   two-read (stop r) y c l m k own e = refl
 
   -- a head that adds `own` bytes to those of its one type
   around : (c : Ty Bytes → Ty Bytes) (own p : ℕ) → ((t : Ty Bytes) → length (Type·ToString (c t)) ≡ own + length (Type·ToString t))
-      → ((again p >>= λ t q. got (c t) q) >>= λ t r. g (pick s (length (Type·ToString t)) 0) r)
-      ≡ (readTypes again 1 p >>= λ ts r. g (pick s own 0 + shownLength (pick s 1 0) 1 ts) r)
+      → ((again p >>= λ t q. got (c t) q) >>= λ t r. g (pick s 0 (length (Type·ToString t))) r)
+      ≡ (readTypes again 1 p >>= λ ts r. g (pick s 0 own + shownLength (pick s 0 1) 1 ts) r)
   unfolding readTypes shownLength
   around c own p e = one-read (again p) c (λ t. cons t nil) 1 1 own (λ t q d. omega (arith, e t))
 
   apply-length : (n p : ℕ)
-      → ((again p >>= λ b q. readTypes again n q >>= λ ts r. got (TypeApp b ts) r) >>= λ t r. g (pick s (length (Type·ToString t)) 0) r)
-      ≡ (readTypes again (n + 1) p >>= λ ts r. g (pick s (2 * n) 0 + shownLength (pick s 1 0) (n + 1) ts) r)
+      → ((again p >>= λ b q. readTypes again n q >>= λ ts r. got (TypeApp b ts) r) >>= λ t r. g (pick s 0 (length (Type·ToString t))) r)
+      ≡ (readTypes again (n + 1) p >>= λ ts r. g (pick s 0 (2 * n) + shownLength (pick s 0 1) (n + 1) ts) r)
   unfolding readTypes shownLength Type·ToString
   apply-length n p =
       rw (add-one n) (two-read (again p) (λ b q. readTypes again n q) TypeApp cons 1 (suc n) (2 * n)
       (λ b ts q r d e. simp length-append (omega (arith, arguments-length ts, types-count again n q e, shown-all n ts (types-count again n q e)))))
 
   tuple-length : (n p : ℕ)
-      → ((readTypes again n p >>= λ ts q. got (TupleType ts) q) >>= λ t r. g (pick s (length (Type·ToString t)) 0) r)
-      ≡ (readTypes again n p >>= λ ts r. g (pick s (2 + 2 * (n - 1)) 0 + shownLength (pick s 1 0) n ts) r)
+      → ((readTypes again n p >>= λ ts q. got (TupleType ts) q) >>= λ t r. g (pick s 0 (length (Type·ToString t))) r)
+      ≡ (readTypes again n p >>= λ ts r. g (pick s 0 (2 + 2 * (n - 1)) + shownLength (pick s 0 1) n ts) r)
   unfolding Type·ToString ascii
   tuple-length n p =
       one-read (readTypes again n p) TupleType (λ ts. ts) 1 n (2 + 2 * (n - 1))
       (λ ts q e. simp length-append (omega (arith, comma-length ts, types-count again n p e, shown-all n ts (types-count again n p e))))
-      ∙ ap (λ x. x >>= λ ts r. g (pick s (2 + 2 * (n - 1)) 0 + shownLength (pick s 1 0) n ts) r) (bind-got (readTypes again n p))
+      ∙ ap (λ x. x >>= λ ts r. g (pick s 0 (2 + 2 * (n - 1)) + shownLength (pick s 0 1) n ts) r) (bind-got (readTypes again n p))
 
   function-length : (n p : ℕ)
-      → ((readTypes again n p >>= λ ts q. again q >>= λ t r. got (FnType ts t) r) >>= λ t r. g (pick s (length (Type·ToString t)) 0) r)
-      ≡ (readTypes again (n + 1) p >>= λ ts r. g (pick s (20 + 2 * (n - 1)) 0 + shownLength (pick s 1 0) (n + 1) ts) r)
+      → ((readTypes again n p >>= λ ts q. again q >>= λ t r. got (FnType ts t) r) >>= λ t r. g (pick s 0 (length (Type·ToString t))) r)
+      ≡ (readTypes again (n + 1) p >>= λ ts r. g (pick s 0 (20 + 2 * (n - 1)) + shownLength (pick s 0 1) (n + 1) ts) r)
   unfolding Type·ToString ascii
   function-length n p =
       rw (add-one n, types-snoc again n p) (two-read (readTypes again n p) (λ ts q. again q) FnType snoc 1 (suc n) (20 + 2 * (n - 1))
@@ -195,15 +195,15 @@ module _ (ws pairs : List ℕ) (text : Bytes) (good : Good pairs text) (again : 
 
   both-length : (c : Ty Bytes → Ty Bytes → Ty Bytes) (m own p : ℕ)
       → ((t u : Ty Bytes) → length (Type·ToString (c t u)) ≡ own + shownLength m 2 (cons t (cons u nil)))
-      → ((again p >>= λ t q. again q >>= λ u r. got (c t u) r) >>= λ t r. g (pick s (length (Type·ToString t)) 0) r)
-      ≡ (readTypes again 2 p >>= λ ts r. g (pick s own 0 + shownLength (pick s m 0) 2 ts) r)
+      → ((again p >>= λ t q. again q >>= λ u r. got (c t u) r) >>= λ t r. g (pick s 0 (length (Type·ToString t))) r)
+      ≡ (readTypes again 2 p >>= λ ts r. g (pick s 0 own + shownLength (pick s 0 m) 2 ts) r)
   both-length c m own p e =
       rw (types-two again p) (two-read (again p) (λ t q. again q) c (λ t u. cons t (cons u nil)) m 2 own (λ t u q r d f. e t u))
 
-  -- what follows a type whose head is read takes its length, if it shows, from its head and its types
+  -- what follows a type whose head is read takes its length, unless it is hidden, from its head and its types
   pub node-length : (h : Head) (p : ℕ) → InsideHead (nameCount pairs) ws h
-      → (readNode ws (nameBytes pairs text) again h p >>= λ t r. g (pick s (length (Type·ToString t)) 0) r)
-      ≡ (readTypes again (kids h) p >>= λ ts r. g (pick s (ownLength ws (nameLength pairs) h) 0 + shownLength (pick s (modeOf h) 0) (kids h) ts) r)
+      → (readNode ws (nameBytes pairs text) again h p >>= λ t r. g (pick s 0 (length (Type·ToString t))) r)
+      ≡ (readTypes again (kids h) p >>= λ ts r. g (pick s 0 (ownLength ws (nameLength pairs) h) + shownLength (pick s 0 (modeOf h)) (kids h) ts) r)
   unfolding readNode readTypes ownLength shownLength Type·ToString ascii
   node-length (Plain w) p i = ap (λ n. g n p) (part-length s 1 0 _ nil (omega arith))
   node-length (Name x) p i = ap (λ n. g n p) (part-length s 1 0 _ nil (omega (arith, name-length pairs text x good i)))

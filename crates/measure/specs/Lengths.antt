@@ -1,5 +1,5 @@
 -- How many bytes each head adds to the texts of its types, and the code's answers that say so.
-use Prim.Native.Nat.{ℕ, _+_, _*_, _-_, _^_, _≤_}
+use Prim.Native.Nat.{ℕ, _+_, _*_, _-_, _^_, _≤_, _<_}
 use mathlib.Core.Path.{_≡_}
 use mathlib.Core.List.{List, [], _∷_}
 use lib.Dec.{eqb}
@@ -8,6 +8,7 @@ use Rattle.rast.specs.Bytes.{Bytes}
 use Rattle.rast.specs.Tree.{Ty, U8}
 use Rattle.rast.specs.ToString.{Path·ToString, Primitive·ToString, Type·ToString}
 use Rattle.encoding.specs.declared.PathAt.{PathAt}
+use Rattle.encoding.specs.declared.Refusal.{Refusal}
 use Rattle.encoding.specs.declared.Head.{Head}
 use Rattle.encoding.specs.declared.Head.the-variants.{Plain, Name, FromPath, Apply, Ref, RefMut, Impl, Dyn, Tuple, Function, Both, ArrayOf, Synonym, Meta}
 use Rattle.encoding.specs.Refusals.{pick}
@@ -18,7 +19,7 @@ use Rattle.encoding.specs.Types.{primitives, rootOf}
 use Rattle.measure.specs.declared.Measure.{Measure}
 use Rattle.measure.specs.declared.Measure.the-variants.{Measured, Stopped}
 use Rattle.measure.specs.declared.OwnScan.{OwnScan}
-use Rattle.measure.specs.declared.OwnScan.the-variants.{Node, NoNode}
+use Rattle.measure.specs.declared.OwnScan.the-variants.{Leaf, Node, NoNode}
 
 -- where a type ends and how long its text is
 abbrev pub measureOf : Reading (Ty Bytes) → Measure
@@ -58,7 +59,7 @@ ownLength ws len (ArrayOf s) = arrayLength len s
 ownLength ws len Synonym = 0
 ownLength ws len (Meta x) = 0
 
--- the mode of a head's types where the head shows: 1 if all show, 2 if all but the last do
+-- the mode of a head's types where the head shows: 1 if all show, 2 if the first alone does
 abbrev pub modeOf : Head → ℕ
 modeOf (Plain w) = 1
 modeOf (Name x) = 1
@@ -75,16 +76,9 @@ modeOf (ArrayOf s) = 1
 modeOf Synonym = 2
 modeOf (Meta x) = 1
 
-abbrev pub ownScan : List ℕ → (ℕ → ℕ) → Reading Head → OwnScan
-ownScan ws len (got h n) = Node n (kids h) (ownLength ws len h) (modeOf h)
-ownScan ws len (stop r) = NoNode r
-
--- few enough types and bytes that no sum over the words overflows
-abbrev pub Small : OwnScan → Type 0
-Small (Node n k b m) = (k ≤ 2 ^ 32) × (b ≤ 2 ^ 46)
-Small (NoNode r) = Unit {0}
-
--- the answer says what the reading of a head says
-pub record Scanned (ws pairs : List ℕ) (x : Reading Head) (r : OwnScan) : Type 0 where
-  pub same : r ≡ ownScan ws (nameLength pairs) x
-  pub small : Small r
+-- the answer says what the reading of a head says, with few enough types and bytes that no sum over the words overflows
+pub data Scanned (ws pairs : List ℕ) (x : Reading Head) : OwnScan → Type 0 where
+  leaf : {h : Head} {n b : ℕ} → x ≡ got h n → kids h ≡ 0 → b ≡ ownLength ws (nameLength pairs) h → b ≤ 2 ^ 46 → Scanned ws pairs x (Leaf n b)
+  node : {h : Head} {n k b m : ℕ} → x ≡ got h n → k ≡ kids h → b ≡ ownLength ws (nameLength pairs) h → m ≡ modeOf h → 0 < k → k ≤ 2 ^ 32 → b ≤ 2 ^ 46
+      → Scanned ws pairs x (Node n k b m)
+  none : {r : Refusal} → x ≡ stop r → Scanned ws pairs x (NoNode r)

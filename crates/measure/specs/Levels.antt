@@ -1,7 +1,6 @@
 -- The pass over the words of a type: what is left to read, from the levels that are open.
 use Prim.Native.Nat.{ℕ, zero, suc, _+_, _*_, _-_, _^_, _/_, _%_, _≤_, _<_}
 use mathlib.Core.Path.{_≡_}
-use mathlib.Core.Bool.{Bool, not}
 use mathlib.Core.List.{List, [], _∷_}
 use lib.Dec.{eqb}
 use lib.ListN.{length, getD, set}
@@ -17,15 +16,11 @@ use Rattle.measure.specs.declared.Pass.{Pass}
 use Rattle.measure.specs.declared.Step.{Step}
 use Rattle.measure.specs.declared.Step.the-variants.{On, Ended, Halt}
 
--- whether a type shows, after which k more are due at its level: mode 0 none, 1 all, 2 all but the last
-abbrev pub shows : ℕ → ℕ → Bool
-shows m k = pick (eqb m 2) (not (eqb k 0)) (eqb m 1)
-
--- how long the texts are of those of k types that show
+-- how long the texts are of those of k types that show: mode 0 none, 1 all, 2 the next one alone
 unfoldable pub shownLength : ℕ → ℕ → Tys Bytes → ℕ
 shownLength m zero ts = 0
 shownLength m (suc k) nil = 0
-shownLength m (suc k) (cons t ts) = pick (shows m k) (length (Type·ToString t)) 0 + shownLength m k ts
+shownLength m (suc k) (cons t ts) = pick (eqb m 0) 0 (length (Type·ToString t)) + shownLength (m % 2) k ts
 
 -- what is left behind the innermost level, which may go d types deep: the levels around it, the inner ones first.
 -- Each is kept as four times the number of its types that are due, plus their mode.
@@ -58,40 +53,41 @@ leaving levels p = record {
   mode = getD levels (p .depth - 1) 0 % 4;
 }
 
--- whether the type that is due next shows
-abbrev pub nextShows : Pass → Bool
-nextShows p = shows (p .mode) (p .due - 1)
-
 -- the pass behind a head that ends at `next` and adds `bytes` where it shows, if no type follows it
 abbrev pub beside : Pass → ℕ → ℕ → Pass
 beside p next bytes = record {
   place = next;
-  bytes = p .bytes + pick (nextShows p) bytes 0;
+  bytes = p .bytes + pick (eqb (p .mode) 0) 0 bytes;
   depth = p .depth;
   due = p .due - 1;
-  mode = p .mode;
+  mode = p .mode % 2;
 }
 
 -- the same if `kids` types follow it, of which those that `below` says show where it shows
 abbrev pub under : Pass → ℕ → ℕ → ℕ → ℕ → Pass
 under p next kids bytes below = record {
   place = next;
-  bytes = p .bytes + pick (nextShows p) bytes 0;
+  bytes = p .bytes + pick (eqb (p .mode) 0) 0 bytes;
   depth = p .depth + 1;
   due = kids;
-  mode = pick (nextShows p) below 0;
+  mode = pick (eqb (p .mode) 0) 0 below;
 }
-
-abbrev pub entering : Pass → ℕ → ℕ → ℕ → ℕ → Pass
-entering p next kids bytes below = pick (eqb kids 0) (beside p next bytes) (under p next kids bytes below)
 
 -- a level as it is kept: how many of its types are due behind the next one, and their mode
 abbrev pub levelOf : Pass → ℕ
-levelOf p = 4 * (p .due - 1) + p .mode
+levelOf p = 4 * (p .due - 1) + p .mode % 2
 
--- the levels behind a head
-abbrev pub pushed : List ℕ → Pass → ℕ → List ℕ
-pushed levels p kids = pick (eqb kids 0) levels (set levels (p .depth) (levelOf p))
+-- the levels behind a head that types follow
+abbrev pub pushed : List ℕ → Pass → List ℕ
+pushed levels p = set levels (p .depth) (levelOf p)
+
+-- the pass is further out, and the same is left to it
+pub record Outward (levels : List ℕ) (p p′ : Pass) : Type 0 where
+  pub place : p′ .place ≡ p .place
+  pub bytes : p′ .bytes ≡ p .bytes
+  pub depth : p′ .depth ≤ p .depth
+  pub due : p′ .due ≤ 2 ^ 62
+  pub rest : (ws pairs : List ℕ) (text : Bytes) → restOf ws pairs text levels p′ ≡ restOf ws pairs text levels p
 
 -- what holds of a pass at each step
 pub record Kept (ws levels : List ℕ) (p : Pass) : Type 0 where
@@ -99,12 +95,12 @@ pub record Kept (ws levels : List ℕ) (p : Pass) : Type 0 where
   pub place : p .place ≤ length ws
   pub bytes : p .bytes ≤ p .place * 2 ^ 46
   pub depth : p .depth ≤ 64
+  pub some : 0 < p .due
   pub due : p .due ≤ 2 ^ 62
-  pub mode : p .mode < 4
 
--- the pass goes on, and the same is left to it with fewer words or levels; or nothing is left; or it is refused
+-- the pass goes on, and the same is left to it with fewer words; or it has read all that was left; or it is refused
 pub data Stepped (ws pairs : List ℕ) (text : Bytes) (levels : List ℕ) (p : Pass) (levels′ : List ℕ) : Step → Type 0 where
-  on : {p′ : Pass} → Kept ws levels′ p′ → restOf ws pairs text levels′ p′ ≡ restOf ws pairs text levels p
-      → 2 * (length ws - p′ .place) + p′ .depth < 2 * (length ws - p .place) + p .depth → Stepped ws pairs text levels p levels′ (On p′)
-  ended : restOf ws pairs text levels p ≡ got (p .bytes) (p .place) → Stepped ws pairs text levels p levels′ Ended
+  on : {p′ : Pass} → Kept ws levels′ p′ → restOf ws pairs text levels′ p′ ≡ restOf ws pairs text levels p → p .place < p′ .place
+      → Stepped ws pairs text levels p levels′ (On p′)
+  ended : {p′ : Pass} → restOf ws pairs text levels p ≡ got (p′ .bytes) (p′ .place) → Stepped ws pairs text levels p levels′ (Ended p′)
   halt : {r : Refusal} → restOf ws pairs text levels p ≡ stop r → Stepped ws pairs text levels p levels′ (Halt r)

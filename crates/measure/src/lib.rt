@@ -1,6 +1,7 @@
 // One pass over the words of a type, with no recursion: it accepts or refuses the type, and finds how long its text is.
 ghost use mathlib.Core.Path.{_≡_};
 ghost use Prim.Native.Nat.{_+_, _*_, _-_, _^_, _/_, _≤_, _<_};
+ghost use lib.Dec.{eqb};
 ghost use lib.ListN.{length};
 ghost use Rattle.rast.specs.ToString.{Path·ToString};
 ghost use Rattle.encoding.specs.Refusals.{pick};
@@ -10,7 +11,7 @@ ghost use Rattle.encoding.specs.Heads.{InsidePath, pathHead, headAfter, readHea
 ghost use Rattle.encoding.specs.Types.{rootOf, pathOf, typeAt};
 ghost use Rattle.encoding.specs.declared.Head.the-variants.{Name, Apply, Tuple, Function, ArrayOf, Meta};
 ghost use Rattle.measure.specs.Lengths.{measureOf, pathLength, arrayLength, worded, Scanned};
-ghost use Rattle.measure.specs.Levels.{shows, leaving, entering, pushed, Kept, Stepped};
+ghost use Rattle.measure.specs.Levels.{leaving, beside, under, pushed, Outward, Kept, Stepped};
 use encoding::PathAt;
 use encoding::PathScan;
 use encoding::Refusal;
@@ -22,8 +23,13 @@ pub enum Measure {
     Stopped(Refusal),
 }
 
-// A head: where its own words end, how many types follow, how many bytes it adds to theirs, and which of them show if it shows itself.
+// A head: where its own words end, how many bytes it adds to the texts of the types that follow, and if there are any, how many they are and which of them show
+// where it shows itself.
 enum OwnScan {
+    Leaf {
+        next: usize,
+        bytes: usize,
+    },
     Node {
         next: usize,
         kids: u64,
@@ -34,7 +40,7 @@ enum OwnScan {
 }
 
 // A pass that has come to `place` with `bytes` of text: `due` types are still to be read at the innermost of `depth` open levels, and `mode` says which of them show:
-// 0 none, inside a synonym's base; 1 all; 2 all but the last, which is a synonym's base.
+// 0 none, inside a synonym's base; 1 all; 2 the next one alone, a synonym's display.
 struct Pass {
     place: usize,
     bytes: usize,
@@ -46,7 +52,7 @@ struct Pass {
 // What a step comes to: a further pass, the end, or a refusal.
 enum Step {
     On(Pass),
-    Ended,
+    Ended(Pass),
     Halt(Refusal),
 }
 
@@ -107,7 +113,14 @@ pub fn path_length(words: &[u32], pairs: &[u32], text: &[u8], path: PathAt) -> u
     path_bytes(words, pairs, path)
 }
 
-// A head whose own words are read.
+// A head with no type behind it.
+fn own_leaf(next: usize, bytes: usize) -> OwnScan
+    ensures { λ r. ⌜ r ≡ OwnScan.Leaf next bytes ⌝ }
+{
+    OwnScan::Leaf { next, bytes }
+}
+
+// A head with types behind it.
 fn own_node(next: usize, kids: u64, bytes: usize, below: u64) -> OwnScan
     ensures { λ r. ⌜ r ≡ OwnScan.Node next kids bytes below ⌝ }
 {
@@ -127,7 +140,7 @@ fn own_name(words: &[u32], pairs: &[u32], bound: usize, at: usize) -> OwnScan
     match encoding::scan_below(words, bound, at) {
         WordScan::Word { value, next } => {
             let bytes = encoding::name_length(pairs, value);
-            own_node(next, 0, bytes, 1)
+            own_leaf(next, bytes)
         }
         WordScan::NoWord(r) => OwnScan::NoNode(r),
     }
@@ -141,7 +154,7 @@ fn own_path(words: &[u32], pairs: &[u32], bound: usize, at: usize) -> OwnScan
     match encoding::scan_path(words, bound, at) {
         PathScan::OwnPath { path, next } => {
             let bytes = path_bytes(words, pairs, path);
-            own_node(next, 0, bytes, 1)
+            own_leaf(next, bytes)
         }
         PathScan::NoPath(r) => OwnScan::NoNode(r),
     }
@@ -162,7 +175,12 @@ fn own_tuple(words: &[u32], pairs: &[u32], at: usize) -> OwnScan
     ensures { λ r. ⌜ Scanned (now (words .entry)) (now (pairs .entry)) (worded Tuple (readWord (now (words .entry)) at)) r ⌝ }
 {
     match encoding::scan_word(words, at) {
-        WordScan::Word { value, next } => own_node(next, value as u64, 2 + commas_length(value), 1),
+        WordScan::Word { value, next } => {
+            if value == 0 {
+                return own_leaf(next, 2);
+            }
+            own_node(next, value as u64, 2 * value as usize, 1)
+        }
         WordScan::NoWord(r) => OwnScan::NoNode(r),
     }
 }
@@ -239,36 +257,23 @@ fn scan_own(words: &[u32], pairs: &[u32], bound: usize, at: usize) -> OwnScan
     }
     let w = words[at];
     if w < 12 {
-        return own_node(at + 1, 0, encoding::primitive_length(w), 1);
+        return own_leaf(at + 1, encoding::primitive_length(w));
     }
     own_after(words, pairs, bound, w, at + 1)
 }
 
-// Whether a type shows, after which `after` more are due at its level.
-fn is_shown(mode: u64, after: u64) -> bool
-    ensures { λ r. ⌜ r ≡ shows mode after ⌝ }
+// What shows counts, and nothing else does.
+fn bytes_if(mode: u64, bytes: usize) -> usize
+    ensures { λ r. ⌜ r ≡ pick (eqb mode 0) 0 bytes ⌝ }
 {
-    if mode == 1 {
-        return true;
-    }
-    if mode == 2 {
-        return after != 0;
-    }
-    false
-}
-
-// What shows counts, and nothing else does. (A branch here leaves the caller one way to follow.)
-fn bytes_if(shown: bool, bytes: usize) -> usize
-    ensures { λ r. ⌜ r ≡ pick shown bytes 0 ⌝ }
-{
-    if shown { bytes } else { 0 }
+    if mode == 0 { 0 } else { bytes }
 }
 
 // The mode below a head: none of its types shows where it does not.
-fn mode_if(shown: bool, mode: u64) -> u64
-    ensures { λ r. ⌜ r ≡ pick shown mode 0 ⌝ }
+fn mode_if(mode: u64, below: u64) -> u64
+    ensures { λ r. ⌜ r ≡ pick (eqb mode 0) 0 below ⌝ }
 {
-    if shown { mode } else { 0 }
+    if mode == 0 { 0 } else { below }
 }
 
 // How many types are due at a level. A parameter is known to fit its type, an element of a lent array is not.
@@ -294,7 +299,37 @@ fn leave(levels: &[u64; 64], pass: Pass) -> Pass
     }
 }
 
-// The pass behind a head that ends at `next`: at the same level if no type follows it, else one level down.
+// The pass behind all levels that have ended.
+fn settle(levels: &[u64; 64], pass: Pass) -> Pass
+    requires { ⌜ (pass .depth ≤ 64) × (pass .due ≤ 2 ^ 62) ⌝ }
+    ensures { λ r. ⌜ Outward (now (levels .entry)) pass r × (r .due ≡ 0 → r .depth ≡ 0) ⌝ }
+{
+    let mut p = pass;
+    while p.due == 0 {
+        if p.depth == 0 {
+            return p;
+        }
+        p = leave(levels, p);
+    }
+    p
+}
+
+// The pass behind a head that ends at `next` with no type behind it.
+fn past_leaf(pass: Pass, next: usize, bytes: usize) -> Pass
+    requires { ⌜ (0 < pass .due) × (pass .bytes + bytes < 2 ^ 64) ⌝ }
+    ensures { λ r. ⌜ r ≡ beside pass next bytes ⌝ }
+{
+    let mode = pass.mode;
+    Pass {
+        place: next,
+        bytes: pass.bytes + bytes_if(mode, bytes),
+        depth: pass.depth,
+        due: pass.due - 1,
+        mode: mode % 2,
+    }
+}
+
+// The pass behind a head that ends at `next`, one level down.
 fn enter(
     levels: &mut [u64; 64],
     pass: Pass,
@@ -303,34 +338,23 @@ fn enter(
     bytes: usize,
     below: u64,
 ) -> Pass
-    requires { ⌜ (0 < pass .due) × (pass .due ≤ 2 ^ 62) × (pass .mode < 4) × (pass .depth < 64) × (pass .bytes + bytes < 2 ^ 64) ⌝ }
-    ensures { λ r. ⌜ (r ≡ entering pass next kids bytes below) × (now (levels .exit) ≡ pushed (now (levels .entry)) pass kids) ⌝ }
+    requires { ⌜ (0 < pass .due) × (pass .due ≤ 2 ^ 62) × (pass .depth < 64) × (pass .bytes + bytes < 2 ^ 64) ⌝ }
+    ensures { λ r. ⌜ (r ≡ under pass next kids bytes below) × (now (levels .exit) ≡ pushed (now (levels .entry)) pass) ⌝ }
 {
     let depth = pass.depth;
     let after = pass.due - 1;
     let mode = pass.mode;
-    let shown = is_shown(mode, after);
-    let bytes = pass.bytes + bytes_if(shown, bytes);
-    if kids == 0 {
-        return Pass {
-            place: next,
-            bytes,
-            depth,
-            due: after,
-            mode,
-        };
-    }
-    levels[depth] = 4 * after + mode;
+    levels[depth] = 4 * after + mode % 2;
     Pass {
         place: next,
-        bytes,
+        bytes: pass.bytes + bytes_if(mode, bytes),
         depth: depth + 1,
         due: kids,
-        mode: mode_if(shown, below),
+        mode: mode_if(mode, below),
     }
 }
 
-// One step of the pass: a level that has ended, or a head.
+// One step of the pass: a head, and the levels that end with it.
 fn advance(
     words: &[u32],
     pairs: &[u32],
@@ -343,16 +367,17 @@ fn advance(
         × Kept (now words) (now levels) pass ⌝ }
     ensures { λ r. ⌜ Stepped (now (words .entry)) (now (pairs .entry)) (now (text .entry)) (now (levels .entry)) pass (now (levels .exit)) r ⌝ }
 {
-    if pass.due == 0 {
-        if pass.depth == 0 {
-            return Step::Ended;
-        }
-        return Step::On(leave(levels, pass));
-    }
     if pass.depth == 64 {
         return Step::Halt(Refusal::TooDeep);
     }
     match scan_own(words, pairs, bound, pass.place) {
+        OwnScan::Leaf { next, bytes } => {
+            let p = settle(levels, past_leaf(pass, next, bytes));
+            if p.due == 0 {
+                return Step::Ended(p);
+            }
+            Step::On(p)
+        }
         OwnScan::Node {
             next,
             kids,
@@ -385,10 +410,10 @@ pub fn measure_type(words: &[u32], pairs: &[u32], text: &[u8], at: usize) -> Mea
             Step::On(p) => {
                 pass = p;
             }
-            Step::Ended => {
+            Step::Ended(p) => {
                 return Measure::Measured {
-                    next: pass.place,
-                    bytes: pass.bytes,
+                    next: p.place,
+                    bytes: p.bytes,
                 };
             }
             Step::Halt(r) => {

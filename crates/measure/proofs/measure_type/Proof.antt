@@ -1,4 +1,4 @@
-use Prim.Native.Nat.{_*_, _+_, _-_}
+use Prim.Native.Nat.{_-_}
 use Rattle.encoding.proofs.Types.{type-end}
 use Rattle.measure.proofs.Steps.{came-to-end, start, was-halted, went-on}
 use Rattle.measure.specs.Lengths.{measureOf}
@@ -14,7 +14,7 @@ abbrev Inv-loop : tie.InvT-loop
 Inv-loop words pairs text at bound levels₀ pass₀ levels pass = Kept words levels pass × (restOf words pairs text levels pass ≡ restOf words pairs text levels₀ pass₀)
 
 abbrev μ-loop : tie.MeasureT-loop
-μ-loop words pairs text at bound levels₀ pass₀ levels pass = 2 * (length words - pass .place) + pass .depth
+μ-loop words pairs text at bound levels₀ pass₀ levels pass = length words - pass .place
 
 returns : tie.Need-returns Inv-loop μ-loop
 returns c =
@@ -25,7 +25,7 @@ name-count-requires : tie.Need-name-count-requires Inv-loop μ-loop
 name-count-requires c κs = search needs
 
 loop-holds : tie.Need-loop-holds Inv-loop μ-loop
-loop-holds c = (record { room = refl; place = omega (arith, c .before .if1 .left); bytes = omega arith; depth = omega arith; due = omega arith; mode = omega arith }, refl)
+loop-holds c = (record { room = refl; place = omega (arith, c .before .if1 .left); bytes = omega arith; depth = omega arith; some = omega arith; due = omega arith }, refl)
 
 advance-requires : tie.Need-advance-requires Inv-loop μ-loop
 advance-requires c κs = (c .before .before .name-count .ensures, c .before .before .before .before .before .before .before .pre .0, c .before .before .before .before .before .before .before .pre .1, c .before .loop .inv .0)
@@ -34,20 +34,22 @@ enum-known-p : tie.Need-enum-known-p Inv-loop μ-loop
 enum-known-p c = search needs
 
 loop-less : tie.Need-loop-less Inv-loop μ-loop
-loop-less c = went-on (c .before .before .before .advance .ensures) (c .before .p .given .1) .2
+loop-less c =
+    let w = went-on (c .before .before .before .advance .ensures) (c .before .p .given .1) in
+    omega (arith, w .0 .place, w .2)
 
 loop-again : tie.Need-loop-again Inv-loop μ-loop
 loop-again c =
     let w = went-on (c .before .before .before .advance .ensures) (c .before .p .given .1) in
     (w .0, w .1 ∙ c .before .before .before .before .before .loop .inv .1)
 
-enum-told : tie.Need-enum-told Inv-loop μ-loop
-enum-told c = search needs
+enum-known-p-2 : tie.Need-enum-known-p-2 Inv-loop μ-loop
+enum-known-p-2 c = search needs
 
 returns-2 : tie.Need-returns-2 Inv-loop μ-loop
 returns-2 c =
-    let a = c .before .before .before .before .before .before .before .before .before .before .args in
-    start (a .words .now) (a .pairs .now) (a .text .now) _ (a .at) (sym (c .before .before .before .before .loop .inv .1) ∙ came-to-end (c .before .before .advance .ensures) (c .enum-told .given .1))
+    let a = c .before .before .before .before .before .before .before .before .before .before .before .args in
+    start (a .words .now) (a .pairs .now) (a .text .now) _ (a .at) (sym (c .before .before .before .before .before .loop .inv .1) ∙ came-to-end (c .before .before .before .advance .ensures) (c .before .p2 .given .1))
 
 enum-known-r : tie.Need-enum-known-r Inv-loop μ-loop
 enum-known-r c = search needs
@@ -70,7 +72,7 @@ measure-type-spec =
     enum-known-p
     loop-less
     loop-again
-    enum-told
+    enum-known-p-2
     returns-2
     enum-known-r
     returns-3)

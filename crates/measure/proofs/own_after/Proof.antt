@@ -3,7 +3,7 @@ use Rattle.encoding.specs.declared.Head.the-variants.{Ref, RefMut, Impl, Dyn, B
 use Rattle.encoding.specs.Heads.{headAfter}
 use Rattle.encoding.proofs.Heads.{head-other, past-six}
 use Rattle.measure.specs.Lengths.{ownLength}
-use Rattle.measure.proofs.Scans.{scanned-got, scanned-stop, scanned-as}
+use Rattle.measure.proofs.Scans.{scanned-node, scanned-stop, scanned-as}
 use native.Mathlib.Omega.{arith}
 use borrow.Author.Needs.{needs}
 use Rattle.measure.proofs.own_after.Statement.{statement}
@@ -70,25 +70,25 @@ returns-4 : tie.Need-returns-4
 unfolding headAfter ownLength
 returns-4 c =
     let a = c .before .before .before .before .args in
-    scanned-got (a .words .now) (a .pairs .now) Ref (rw (c .before .match .keys4)) (c .own-node .ensures) refl refl refl (omega arith) (omega arith)
+    scanned-node (a .words .now) (a .pairs .now) Ref (rw (c .before .match .keys4)) (c .own-node .ensures) refl refl refl (omega arith) (omega arith) (omega arith)
 
 returns-5 : tie.Need-returns-5
 unfolding headAfter ownLength
 returns-5 c =
     let a = c .before .before .before .before .args in
-    scanned-got (a .words .now) (a .pairs .now) RefMut (rw (c .before .match .keys5)) (c .own-node2 .ensures) refl refl refl (omega arith) (omega arith)
+    scanned-node (a .words .now) (a .pairs .now) RefMut (rw (c .before .match .keys5)) (c .own-node2 .ensures) refl refl refl (omega arith) (omega arith) (omega arith)
 
 returns-6 : tie.Need-returns-6
 unfolding headAfter ownLength
 returns-6 c =
     let a = c .before .before .before .before .args in
-    scanned-got (a .words .now) (a .pairs .now) Impl (rw (c .before .match .keys6)) (c .own-node3 .ensures) refl refl refl (omega arith) (omega arith)
+    scanned-node (a .words .now) (a .pairs .now) Impl (rw (c .before .match .keys6)) (c .own-node3 .ensures) refl refl refl (omega arith) (omega arith) (omega arith)
 
 returns-7 : tie.Need-returns-7
 unfolding headAfter ownLength
 returns-7 c =
     let a = c .before .before .before .before .args in
-    scanned-got (a .words .now) (a .pairs .now) Dyn (rw (c .before .match .keys7)) (c .own-node4 .ensures) refl refl refl (omega arith) (omega arith)
+    scanned-node (a .words .now) (a .pairs .now) Dyn (rw (c .before .match .keys7)) (c .own-node4 .ensures) refl refl refl (omega arith) (omega arith) (omega arith)
 
 returns-8 : tie.Need-returns-8
 unfolding headAfter
@@ -106,7 +106,7 @@ returns-10 : tie.Need-returns-10
 unfolding headAfter ownLength
 returns-10 c =
     let a = c .before .before .before .before .args in
-    scanned-got (a .words .now) (a .pairs .now) Both (rw (c .before .match .keys10)) (c .own-node5 .ensures) refl refl refl (omega arith) (omega arith)
+    scanned-node (a .words .now) (a .pairs .now) Both (rw (c .before .match .keys10)) (c .own-node5 .ensures) refl refl refl (omega arith) (omega arith) (omega arith)
 
 returns-11 : tie.Need-returns-11
 unfolding headAfter
@@ -118,7 +118,7 @@ returns-12 : tie.Need-returns-12
 unfolding headAfter ownLength
 returns-12 c =
     let a = c .before .before .before .before .args in
-    scanned-got (a .words .now) (a .pairs .now) Synonym (rw (c .before .match .keys12)) (c .own-node6 .ensures) refl refl refl (omega arith) (omega arith)
+    scanned-node (a .words .now) (a .pairs .now) Synonym (rw (c .before .match .keys12)) (c .own-node6 .ensures) refl refl refl (omega arith) (omega arith) (omega arith)
 
 returns-13 : tie.Need-returns-13
 unfolding headAfter

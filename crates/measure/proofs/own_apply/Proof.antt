@@ -3,7 +3,7 @@ use Rattle.encoding.specs.declared.Head.the-variants.{Apply}
 use Rattle.encoding.specs.Reading.{readWord}
 use Rattle.encoding.proofs.Reading.{word-got, word-stop}
 use Rattle.measure.specs.Lengths.{worded, ownLength}
-use Rattle.measure.proofs.Scans.{scanned-got, scanned-stop}
+use Rattle.measure.proofs.Scans.{scanned-node, scanned-stop}
 use native.Mathlib.Omega.{arith}
 use borrow.Author.Needs.{needs}
 use Rattle.measure.proofs.own_apply.Statement.{statement}
@@ -38,7 +38,7 @@ unfolding ownLength
 returns c =
     let a = c .before .before .before .before .before .before .before .args in
     let e = word-got (readWord (a .words .now) (a .at)) (c .before .before .before .before .scan-word .ensures) (c .before .before .value .given .1) in
-    scanned-got (a .words .now) (a .pairs .now) (Apply _) (ap (worded Apply) e) (c .own-node .ensures) refl (refl) refl (omega arith) (omega arith)
+    scanned-node (a .words .now) (a .pairs .now) (Apply _) (ap (worded Apply) e) (c .own-node .ensures) refl (refl) refl (omega arith) (omega arith) (omega arith)
 
 returns-2 : tie.Need-returns-2
 returns-2 c =

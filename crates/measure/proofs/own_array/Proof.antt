@@ -3,7 +3,7 @@ use Rattle.encoding.specs.declared.Head.the-variants.{ArrayOf}
 use Rattle.encoding.specs.Reading.{readBelow}
 use Rattle.encoding.proofs.Reading.{word-got, word-stop}
 use Rattle.measure.specs.Lengths.{worded, ownLength}
-use Rattle.measure.proofs.Scans.{below-less, scanned-got, scanned-stop}
+use Rattle.measure.proofs.Scans.{below-less, scanned-node, scanned-stop}
 use Prim.Native.Nat.{_+_}
 use native.Mathlib.Omega.{arith}
 use borrow.Author.Needs.{needs}
@@ -37,7 +37,7 @@ unfolding ownLength
 returns c =
     let a = c .before .before .before .before .before .before .before .before .args in
     let e = word-got (readBelow (a .bound + 1) (a .words .now) (a .at)) (c .before .before .before .before .before .scan-below .ensures) (c .before .before .before .value .given .1) in
-    scanned-got (a .words .now) (a .pairs .now) (ArrayOf _) (ap (worded ArrayOf) e) (c .own-node .ensures) refl (c .before .array-length .ensures .0) refl (omega arith) (c .before .array-length .ensures .1)
+    scanned-node (a .words .now) (a .pairs .now) (ArrayOf _) (ap (worded ArrayOf) e) (c .own-node .ensures) refl (c .before .array-length .ensures .0) refl (omega arith) (omega arith) (c .before .array-length .ensures .1)
 
 returns-2 : tie.Need-returns-2
 returns-2 c =

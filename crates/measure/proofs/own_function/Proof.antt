@@ -3,7 +3,7 @@ use Rattle.encoding.specs.declared.Head.the-variants.{Function}
 use Rattle.encoding.specs.Reading.{readWord}
 use Rattle.encoding.proofs.Reading.{word-got, word-stop}
 use Rattle.measure.specs.Lengths.{worded, ownLength}
-use Rattle.measure.proofs.Scans.{scanned-got, scanned-stop}
+use Rattle.measure.proofs.Scans.{scanned-node, scanned-stop}
 use Prim.Native.Nat.{_+_}
 use native.Mathlib.Omega.{arith}
 use borrow.Author.Needs.{needs}
@@ -39,7 +39,7 @@ unfolding ownLength
 returns c =
     let a = c .before .before .before .before .before .before .before .before .args in
     let e = word-got (readWord (a .words .now) (a .at)) (c .before .before .before .before .before .scan-word .ensures) (c .before .before .before .value .given .1) in
-    scanned-got (a .words .now) (a .pairs .now) (Function _) (ap (worded Function) e) (c .own-node .ensures) refl (ap (λ n. 20 + n) (c .before .commas-length .ensures)) refl (omega arith) (omega (arith, c .before .commas-length .ensures))
+    scanned-node (a .words .now) (a .pairs .now) (Function _) (ap (worded Function) e) (c .own-node .ensures) refl (ap (λ n. 20 + n) (c .before .commas-length .ensures)) refl (omega arith) (omega arith) (omega (arith, c .before .commas-length .ensures))
 
 returns-2 : tie.Need-returns-2
 returns-2 c =

@@ -3,7 +3,7 @@ use Rattle.encoding.specs.declared.Head.the-variants.{Name}
 use Rattle.encoding.specs.Reading.{readBelow}
 use Rattle.encoding.proofs.Reading.{word-got, word-stop}
 use Rattle.measure.specs.Lengths.{worded, ownLength}
-use Rattle.measure.proofs.Scans.{below-less, scanned-got, scanned-stop}
+use Rattle.measure.proofs.Scans.{below-less, scanned-leaf, scanned-stop}
 use Rattle.measure.proofs.Lengths.{name-fits}
 use native.Mathlib.Omega.{arith}
 use borrow.Author.Needs.{needs}
@@ -23,8 +23,8 @@ name-length-requires c κs =
     let e = word-got (readBelow (a .bound) (a .words .now) (a .at)) (c .before .before .before .scan-below .ensures) (c .before .value .given .1) in
     omega (arith, s .pre, below-less (a .bound) (a .words .now) (a .at) e)
 
-own-node-requires : tie.Need-own-node-requires
-own-node-requires c κs = search needs
+own-leaf-requires : tie.Need-own-leaf-requires
+own-leaf-requires c κs = search needs
 
 enum-known-r : tie.Need-enum-known-r
 enum-known-r c = search needs
@@ -34,7 +34,7 @@ unfolding ownLength
 returns c =
     let a = c .before .before .before .before .before .before .before .before .args in
     let e = word-got (readBelow (a .bound) (a .words .now) (a .at)) (c .before .before .before .before .before .scan-below .ensures) (c .before .before .before .value .given .1) in
-    scanned-got (a .words .now) (a .pairs .now) (Name _) (ap (worded Name) e) (c .own-node .ensures) refl (c .before .name-length .ensures) refl (omega arith) (omega (arith, name-fits (a .pairs .now) (λ i. omega (arith, c .before .before .before .before .before .before .shared-slice-known2 .given i)) _ _ (c .before .name-length .ensures)))
+    scanned-leaf (a .words .now) (a .pairs .now) (Name _) (ap (worded Name) e) (c .own-leaf .ensures) refl (c .before .name-length .ensures) (omega (arith, name-fits (a .pairs .now) (λ i. omega (arith, c .before .before .before .before .before .before .shared-slice-known2 .given i)) _ _ (c .before .name-length .ensures)))
 
 returns-2 : tie.Need-returns-2
 returns-2 c =
@@ -48,7 +48,7 @@ own-name-spec =
     scan-below-requires
     enum-known-value
     name-length-requires
-    own-node-requires
+    own-leaf-requires
     enum-known-r
     returns
     returns-2)

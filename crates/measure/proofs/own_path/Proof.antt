@@ -4,8 +4,7 @@ use Rattle.encoding.specs.Heads.{readPath, pathHead}
 use Rattle.encoding.proofs.Reading.{path-got, path-stop}
 use Rattle.encoding.proofs.Inside.{path-lies}
 use Rattle.measure.specs.Lengths.{ownLength}
-use Rattle.measure.proofs.Scans.{scanned-got, scanned-stop}
-use native.Mathlib.Omega.{arith}
+use Rattle.measure.proofs.Scans.{scanned-leaf, scanned-stop}
 use borrow.Author.Needs.{needs}
 use Rattle.measure.proofs.own_path.Statement.{statement}
 use Rattle.measure.proofs.own_path.Tie as tie
@@ -23,8 +22,8 @@ path-bytes-requires c κs =
     let e = path-got (readPath (a .bound) (a .words .now) (a .at)) (c .before .before .before .scan-path .ensures) (c .before .path .given .1) in
     (rw (s .pre .0) at (path-lies (a .bound) (a .words .now) (a .at) e .own), s .pre .1)
 
-own-node-requires : tie.Need-own-node-requires
-own-node-requires c κs = search needs
+own-leaf-requires : tie.Need-own-leaf-requires
+own-leaf-requires c κs = search needs
 
 enum-known-r : tie.Need-enum-known-r
 enum-known-r c = search needs
@@ -34,7 +33,7 @@ unfolding pathHead ownLength
 returns c =
     let a = c .before .before .before .before .before .before .before .before .args in
     let e = path-got (readPath (a .bound) (a .words .now) (a .at)) (c .before .before .before .before .before .scan-path .ensures) (c .before .before .before .path .given .1) in
-    scanned-got (a .words .now) (a .pairs .now) (FromPath _) (rw e) (c .own-node .ensures) refl (c .before .path-bytes .ensures .0) refl (omega arith) (c .before .path-bytes .ensures .1)
+    scanned-leaf (a .words .now) (a .pairs .now) (FromPath _) (rw e) (c .own-leaf .ensures) refl (c .before .path-bytes .ensures .0) (c .before .path-bytes .ensures .1)
 
 returns-2 : tie.Need-returns-2
 unfolding pathHead
@@ -49,7 +48,7 @@ own-path-spec =
     scan-path-requires
     enum-known-path
     path-bytes-requires
-    own-node-requires
+    own-leaf-requires
     enum-known-r
     returns
     returns-2)

@@ -3,8 +3,7 @@ use Rattle.encoding.specs.declared.Head.the-variants.{Tuple}
 use Rattle.encoding.specs.Reading.{readWord}
 use Rattle.encoding.proofs.Reading.{word-got, word-stop}
 use Rattle.measure.specs.Lengths.{worded, ownLength}
-use Rattle.measure.proofs.Scans.{scanned-got, scanned-stop}
-use Prim.Native.Nat.{_+_}
+use Rattle.measure.proofs.Scans.{scanned-leaf, scanned-node, scanned-stop}
 use native.Mathlib.Omega.{arith}
 use borrow.Author.Needs.{needs}
 use Rattle.measure.proofs.own_tuple.Statement.{statement}
@@ -16,14 +15,25 @@ scan-word-requires c κs = search needs
 enum-known-value : tie.Need-enum-known-value
 enum-known-value c = search needs
 
+own-leaf-requires : tie.Need-own-leaf-requires
+own-leaf-requires c κs = search needs
+
+returns : tie.Need-returns
+unfolding ownLength
+returns c =
+    let a = c .before .before .before .before .before .before .before .before .args in
+    let e = word-got (readWord (a .words .now) (a .at)) (c .before .before .before .before .before .scan-word .ensures) (c .before .before .before .value .given .1) in
+    let z = c .before .if1 .taken in
+    scanned-leaf (a .words .now) (a .pairs .now) (Tuple _) (ap (worded Tuple) e) (c .own-leaf .ensures) z (omega arith) (omega arith)
+
 cast-own-node : tie.Need-cast-own-node
 cast-own-node c = search needs
 
-commas-length-requires : tie.Need-commas-length-requires
-commas-length-requires c κs = search needs
+cast-own-node-2 : tie.Need-cast-own-node-2
+cast-own-node-2 c = search needs
 
-add-own-node : tie.Need-add-own-node
-add-own-node c = search needs
+mul-own-node : tie.Need-mul-own-node
+mul-own-node c = search needs
 
 own-node-requires : tie.Need-own-node-requires
 own-node-requires c κs = search needs
@@ -31,15 +41,16 @@ own-node-requires c κs = search needs
 enum-known-r : tie.Need-enum-known-r
 enum-known-r c = search needs
 
-returns : tie.Need-returns
+returns-2 : tie.Need-returns-2
 unfolding ownLength
-returns c =
+returns-2 c =
     let a = c .before .before .before .before .before .before .before .before .args in
     let e = word-got (readWord (a .words .now) (a .at)) (c .before .before .before .before .before .scan-word .ensures) (c .before .before .before .value .given .1) in
-    scanned-got (a .words .now) (a .pairs .now) (Tuple _) (ap (worded Tuple) e) (c .own-node .ensures) refl (ap (λ n. 2 + n) (c .before .commas-length .ensures)) refl (omega arith) (omega (arith, c .before .commas-length .ensures))
+    let z = c .before .if1 .left in
+    scanned-node (a .words .now) (a .pairs .now) (Tuple _) (ap (worded Tuple) e) (c .own-node .ensures) refl (omega arith) refl (omega arith) (omega arith) (omega arith)
 
-returns-2 : tie.Need-returns-2
-returns-2 c =
+returns-3 : tie.Need-returns-3
+returns-3 c =
     let a = c .before .before .before .before .before .before .args in
     scanned-stop (a .words .now) (a .pairs .now) (ap (worded Tuple) (word-stop (readWord (a .words .now) (a .at)) (c .before .before .before .scan-word .ensures) (c .before .r .given .1))) refl
 
@@ -49,10 +60,12 @@ own-tuple-spec =
     (tie.spec
     scan-word-requires
     enum-known-value
+    own-leaf-requires
+    returns
     cast-own-node
-    commas-length-requires
-    add-own-node
+    cast-own-node-2
+    mul-own-node
     own-node-requires
     enum-known-r
-    returns
-    returns-2)
+    returns-2
+    returns-3)

@@ -4,7 +4,7 @@ use lib.ListN.{getD}
 use Rattle.encoding.specs.declared.Head.the-variants.{Plain}
 use Rattle.encoding.proofs.Heads.{head-at, head-end, head-plain}
 use Rattle.measure.specs.Lengths.{ownLength}
-use Rattle.measure.proofs.Scans.{scanned-got, scanned-stop, scanned-as}
+use Rattle.measure.proofs.Scans.{scanned-leaf, scanned-stop, scanned-as}
 use native.Mathlib.Omega.{arith}
 use borrow.Author.Needs.{needs}
 use Rattle.measure.proofs.scan_own.Statement.{statement}
@@ -21,22 +21,22 @@ mul-w c = search needs
 shared-slice-read-w : tie.Need-shared-slice-read-w
 shared-slice-read-w c = search needs
 
-add-own-node : tie.Need-add-own-node
-add-own-node c = search needs
+add-own-leaf : tie.Need-add-own-leaf
+add-own-leaf c = search needs
 
 primitive-length-requires : tie.Need-primitive-length-requires
 primitive-length-requires c κs = search needs
 
-own-node-requires : tie.Need-own-node-requires
-own-node-requires c κs = search needs
+own-leaf-requires : tie.Need-own-leaf-requires
+own-leaf-requires c κs = search needs
 
 returns-2 : tie.Need-returns-2
 unfolding ownLength
 returns-2 c =
     let a = c .before .before .before .before .before .before .before .args in
-    scanned-got (a .words .now) (a .pairs .now) (Plain _)
+    scanned-leaf (a .words .now) (a .pairs .now) (Plain _)
     (head-at (a .bound) (a .words .now) (a .at) (c .before .before .before .before .if1 .left) ∙ head-plain (a .bound) (a .words .now) (getD (a .words .now) (a .at) 0) (a .at + 1) (c .before .before .if2 .taken))
-    (c .own-node .ensures) refl (c .before .primitive-length .ensures .0) refl (omega arith) (omega (arith, c .before .primitive-length .ensures .1))
+    (c .own-leaf .ensures) refl (c .before .primitive-length .ensures .0) (omega (arith, c .before .primitive-length .ensures .1))
 
 add-own-after : tie.Need-add-own-after
 add-own-after c = search needs
@@ -56,9 +56,9 @@ scan-own-spec =
     returns
     mul-w
     shared-slice-read-w
-    add-own-node
+    add-own-leaf
     primitive-length-requires
-    own-node-requires
+    own-leaf-requires
     returns-2
     add-own-after
     own-after-requires
