@@ -11,13 +11,12 @@ use Rattle.rast.specs.Tree.{Ty, Tys, TypeApp, TupleType, FnType, nil, cons}
 use Rattle.encoding.specs.declared.Head.{Head}
 use Rattle.encoding.specs.declared.Head.the-variants.{Plain, Name, FromPath, Apply, Ref, RefMut, Impl, Dyn, Tuple, Function, Both, ArrayOf, Synonym, Meta}
 use Rattle.encoding.specs.Tables.{nameBytes, nameCount}
-use Rattle.encoding.specs.Reading.{Reading, got, stop}
-use Rattle.encoding.specs.Heads.{readHead, kids}
+use Rattle.encoding.specs.Reading.{Reading, got}
+use Rattle.encoding.specs.Heads.{readHead, kids, HeadHere, typesBelow, ownEnd}
 use Rattle.encoding.specs.Types.{readTypes, readNode, readType, typeAt}
-use Rattle.encoding.proofs.Tables.{impossible}
-use Rattle.encoding.proofs.Types.{Made₂, made-got, made₂-got, node-of, type-lies}
-use Rattle.encoding.specs.declared.Refusal.{Refusal}
+use Rattle.encoding.proofs.Types.{Made₂, bind-got, made-got, made₂-got, node-of, type-lies}
 use Rattle.encoding.proofs.Inside.{head-lies}
+use Rattle.encoding.proofs.HeadWords.{words-kids, words-end}
 use Rattle.writing.specs.Written.{Readable, EndsAt}
 
 -- some types were read up to n
@@ -95,12 +94,12 @@ module _ (ws pairs : List ℕ) (text : Bytes) (at : ℕ) where
   pub skip-start : at ≤ length ws → Readable (typeAt ws pairs text at) → Skipping ws pairs text at 1 at
   skip-start h r = record { type = r .value; end = r .end; reads = r .reads; left = types-one (typeAt ws pairs text) at (r .reads); inside = h }
 
-  pub record Stepped (due place : ℕ) (h : Head) (q : ℕ) : Type 0 where
-    pub next : Skipping ws pairs text at (due - 1 + kids h) q
-    pub few : due - 1 + kids h ≤ length ws
+  pub record Stepped (due place k q : ℕ) : Type 0 where
+    pub next : Skipping ws pairs text at (due - 1 + k) q
+    pub few : due - 1 + k ≤ length ws
     pub ahead : place < q
 
-  pub skip-step : (due place : ℕ) {h : Head} {q : ℕ} → 0 < due → Skipping ws pairs text at due place → readHead (nameCount pairs) ws place ≡ got h q → Stepped due place h q
+  skip-step : (due place : ℕ) {h : Head} {q : ℕ} → 0 < due → Skipping ws pairs text at due place → readHead (nameCount pairs) ws place ≡ got h q → Stepped due place (kids h) q
   skip-step due place {h} {q} d s e =
       let f = first-of ws pairs text due place d (s .left .reads) in
       let l = head-lies (nameCount pairs) ws place e in
@@ -116,11 +115,19 @@ module _ (ws pairs : List ℕ) (text : Bytes) (at : ℕ) where
       }
 
   -- where a type is due, a head stands
-  pub due-head : (due place : ℕ) {r : Refusal} → 0 < due → Skipping ws pairs text at due place → readHead (nameCount pairs) ws place ≡ stop r → ⊥
-  unfolding readType
-  due-head due place d s e =
-      let f = first-of ws pairs text due place d (s .left .reads) in
-      impossible (cc (f .reads, e))
+  module _ (due place : ℕ) (d : 0 < due) (s : Skipping ws pairs text at due place) where
+    pub head-due : HeadHere ws place
+    unfolding readType
+    head-due =
+        let h = bind-got (readHead (nameCount pairs) ws place) _ (first-of ws pairs text due place d (s .left .reads) .reads) in
+        record { bound = nameCount pairs; head = h .value; next = h .end; reads = h .first }
+
+    -- and its words say what is due behind it
+    pub skip-words : Stepped due place (typesBelow ws place) (ownEnd ws place)
+    unfolding readType
+    skip-words =
+        let h = bind-got (readHead (nameCount pairs) ws place) _ (first-of ws pairs text due place d (s .left .reads) .reads) in
+        rw (words-kids (nameCount pairs) ws place (h .first), words-end (nameCount pairs) ws place (h .first)) (skip-step due place d s (h .first))
 
   -- where nothing is due, the type ends
   pub skip-end : (due place : ℕ) → due ≡ 0 → Skipping ws pairs text at due place → EndsAt (typeAt ws pairs text at) place

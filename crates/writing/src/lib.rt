@@ -7,7 +7,6 @@ ghost use Rattle.encoding.specs.Tables.{Good, nameCount};
 ghost use Rattle.encoding.specs.Types.{readTypes, typeAt};
 ghost use Rattle.encoding.specs.declared.Head.the-variants.{Apply, Tuple, Function, Both, ArrayOf, Synonym};
 ghost use Rattle.writing.specs.Written.{Readable, EndsAt, Room, Written, Front, PartWritten, nodeAt};
-use encoding::HeadScan;
 use encoding::PathAt;
 
 // Where a writer has come to: in the words, and in the buffer.
@@ -27,15 +26,11 @@ pub fn skip_type(words: &[u32], pairs: &[u32], text: &[u8], at: usize) -> usize
     requires { ⌜ Readable (typeAt (now words) (now pairs) (now text) at) ⌝ }
     ensures { λ r. ⌜ EndsAt (typeAt (now (words .entry)) (now (pairs .entry)) (now (text .entry)) at) r ⌝ }
 {
-    let bound = encoding::name_count(pairs);
     let mut due: usize = 1;
     let mut place = at;
     while 0 < due {
-        let HeadScan::Own { head, next } = encoding::scan_head(words, bound, place) else {
-            return place;
-        };
-        due = due - 1 + encoding::kids_of(head);
-        place = next;
+        due = due - 1 + encoding::types_below(words, place);
+        place = encoding::own_end(words, place);
     }
     place
 }
@@ -150,7 +145,8 @@ fn write_head(
     }
 }
 
-// A type that stands in another: most are names or other leaves, and need no further turn.
+// A type that stands in another: most are names or plain types, and need no further turn. Here they are written without a call of `write_leaf`, and the spot of
+// `write_type` is taken apart, so that it need not go through memory.
 fn write_part(
     words: &[u32],
     pairs: &[u32],
@@ -169,10 +165,17 @@ fn write_part(
             pos: encoding::put_name(pairs, text, words[at + 1], out, pos),
         };
     }
-    if w < 14 {
-        return write_leaf(words, pairs, text, at, out, pos);
+    if w < 12 {
+        return Spot {
+            next: at + 1,
+            pos: leaves::put_primitive(w, out, pos),
+        };
     }
-    write_type(words, pairs, text, at, out, pos)
+    let spot = write_type(words, pairs, text, at, out, pos);
+    Spot {
+        next: spot.next,
+        pos: spot.pos,
+    }
 }
 
 // `n` types, with a comma and a space between them.

@@ -4,15 +4,15 @@ use mathlib.Core.List.{[]}
 use lib.Dec.{eqb, leb}
 use lib.ListN.{length, getD}
 use Rattle.rast.specs.Bytes.{ascii}
-use Rattle.rast.specs.Tree.{Borrowed, BorrowedMut, ImplType, DynType, TMetaData}
-use Rattle.rast.specs.ToString.{Type·ToString}
+use Rattle.rast.specs.Tree.{U8, Borrowed, BorrowedMut, ImplType, DynType, TMetaData}
+use Rattle.rast.specs.ToString.{Primitive·ToString, Type·ToString}
 use Rattle.output.proofs.Laws.{wrote-nothing, wrote-then, wrote-kept}
 use Rattle.encoding.specs.declared.Head.the-variants.{Apply, Tuple, Function, Both, ArrayOf, Synonym}
-use Rattle.encoding.specs.Types.{readNode, typeAt}
+use Rattle.encoding.specs.Types.{primitives, readNode, typeAt}
 use Rattle.writing.specs.Written.{Front, front, whole}
 use Rattle.writing.proofs.Laws.{room-as, written-as, written-same}
 use Rattle.encoding.specs.Tables.{nameBytes}
-use Rattle.writing.proofs.Accepted.{type-here, name-type, ref-head, mut-head, impl-head, dyn-head, both-head, synonym-head, apply-head, tuple-head, function-head, array-head, meta-head}
+use Rattle.writing.proofs.Accepted.{type-here, plain-type, name-type, ref-head, mut-head, impl-head, dyn-head, both-head, synonym-head, apply-head, tuple-head, function-head, array-head, meta-head}
 use Rattle.writing.proofs.Parts.{apply-base, apply-none, apply-open, apply-list, apply-close, apply-done, tuple-empty, tuple-none, tuple-open, tuple-list, tuple-close, tuple-done, inputs-open, inputs-none-arrow, inputs-none, inputs-list, inputs-arrow, inputs-done, left-type, left-plus, left-done, array-open, array-element, array-end, array-done, synonym-display, synonym-base, synonym-done}
 use Rattle.writing.proofs.Turns.{ListLeft, written-later, part-rest, part-done, front-same, node-room, prefix-room, prefix-done, turn-start, turn-next, turn-here, turn-again, turn-last, list-start, item-room, item-here, list-done, comma-room, list-again}
 use borrow.Author.Needs.{needs}
@@ -52,6 +52,7 @@ use Rattle.writing.proofs.write_type.Kinds as write-type-kinds
 use Rattle.writing.proofs.+write_apply+write_array+write_head+write_inputs+write_left+write_list+write_part+write_synonym+write_tuple+write_type.Lts-write_type as write-type-lts
 use Rattle.encoding.proofs.put_name.Reads as put-name-reads
 use Rattle.output.proofs.put.Reads as put-reads
+use Rattle.leaves.proofs.put_primitive.Reads as put-primitive-reads
 use Rattle.leaves.proofs.put_size.Reads as put-size-reads
 use Rattle.writing.proofs.skip_type.Reads as skip-type-reads
 use Rattle.writing.proofs.write_leaf.Reads as write-leaf-reads
@@ -195,7 +196,7 @@ abbrev write-list-calls : ℕ → write-list-lts.Claims
 write-list-calls t = (write-part-below t, write-part.Post, put-reads.Asked, put-reads.Learnt)
 
 abbrev write-part-calls : ℕ → write-part-lts.Claims
-write-part-calls t = (put-name-reads.Asked, put-name-reads.Learnt, write-leaf-reads.Asked, write-leaf-reads.Learnt, write-type-below t, write-type.Post)
+write-part-calls t = (put-name-reads.Asked, put-name-reads.Learnt, put-primitive-reads.Asked, put-primitive-reads.Learnt, write-type-below t, write-type.Post)
 
 abbrev write-synonym-calls : ℕ → write-synonym-lts.Claims
 write-synonym-calls t = (write-part-below t, write-part.Post, skip-type-reads.Asked, skip-type-reads.Learnt)
@@ -799,8 +800,8 @@ write-part-shared-slice-read-w t c =
     let pre = c .before .before .before .before .before .pre .1 in
     omega (arith, type-here (a .words .now) (a .pairs .now) (a .text .now) (a .at) (pre .1 .reads))
 
-write-part-add-t12 : (t : ℕ) → write-part-lts.Need-add-t12 (write-part-calls t) (write-part-at t) write-part.Post
-write-part-add-t12 t c =
+write-part-add-t13 : (t : ℕ) → write-part-lts.Need-add-t13 (write-part-calls t) (write-part-at t) write-part.Post
+write-part-add-t13 t c =
     let a = c .before .before .before .before .before .before .args in
     let pre = c .before .before .before .before .before .before .pre .1 in
     let k = name-type (a .words .now) (a .pairs .now) (a .text .now) (a .at) (pre .1 .reads) (c .if1 .taken) in
@@ -846,17 +847,30 @@ write-part-returns t c =
     let k = name-type (a .words .now) (a .pairs .now) (a .text .now) (a .at) (pre .1 .reads) (c .before .before .before .before .before .if1 .taken) in
     written-as (pre .1) (a .at + 2) _ (k .end) (nameBytes (a .pairs .now) (a .text .now) (getD (a .words .now) (a .at + 1) 0)) (ap Type·ToString (k .type)) (c .before .before .put-name .ensures)
 
-write-part-write-leaf-requires : (t : ℕ) → write-part-lts.Need-write-leaf-requires (write-part-calls t) (write-part-at t) write-part.Post
-write-part-write-leaf-requires t c κs =
+write-part-add-t21 : (t : ℕ) → write-part-lts.Need-add-t21 (write-part-calls t) (write-part-at t) write-part.Post
+write-part-add-t21 t c =
+    let a = c .before .before .before .before .before .before .before .args in
+    let pre = c .before .before .before .before .before .before .before .pre .1 in
+    omega (arith, type-here (a .words .now) (a .pairs .now) (a .text .now) (a .at) (pre .1 .reads))
+
+write-part-put-primitive-requires : (t : ℕ) → write-part-lts.Need-put-primitive-requires (write-part-calls t) (write-part-at t) write-part.Post
+unfolding Type·ToString
+write-part-put-primitive-requires t c κs =
     let a = c .before .before .before .before .before .before .before .before .args in
     let pre = c .before .before .before .before .before .before .before .before .pre .1 in
-    (c .before .if2 .taken, pre .0, pre .1)
+    let k = plain-type (a .words .now) (a .pairs .now) (a .text .now) (a .at) (pre .1 .reads) (c .before .if2 .taken) in
+    (c .before .if2 .taken, room-as (pre .1) (Primitive·ToString (getD primitives (getD (a .words .now) (a .at) 0) U8)) (ap Type·ToString (k .0)))
 
 write-part-same-length-2 : (t : ℕ) → write-part-lts.Need-same-length-2 (write-part-calls t) (write-part-at t) write-part.Post
 write-part-same-length-2 t c = search needs
 
 write-part-returns-2 : (t : ℕ) → write-part-lts.Need-returns-2 (write-part-calls t) (write-part-at t) write-part.Post
-write-part-returns-2 t c = c .before .before .write-leaf .ensures
+unfolding Type·ToString
+write-part-returns-2 t c =
+    let a = c .before .before .before .before .before .before .before .before .before .before .before .args in
+    let pre = c .before .before .before .before .before .before .before .before .before .before .before .pre .1 in
+    let k = plain-type (a .words .now) (a .pairs .now) (a .text .now) (a .at) (pre .1 .reads) (c .before .before .before .before .if2 .taken) in
+    written-as (pre .1) (a .at + 1) _ (k .1) (Primitive·ToString (getD primitives (getD (a .words .now) (a .at) 0) U8)) (ap Type·ToString (k .0)) (c .before .before .put-primitive .ensures)
 
 write-part-write-type-requires : (t : ℕ) → write-part-lts.Need-write-type-requires (write-part-calls t) (write-part-at t) write-part.Post
 write-part-write-type-requires t c κs =
@@ -1146,14 +1160,15 @@ pub +write-apply+write-array+write-head+write-inputs+write-left+write-list+write
     write-part.Post
     (write-part-mul-w t)
     (write-part-shared-slice-read-w t)
-    (write-part-add-t12 t)
+    (write-part-add-t13 t)
     (write-part-add-put-name t)
     (write-part-mul-put-name t)
     (write-part-shared-slice-read-put-name t)
     (write-part-put-name-requires t)
     (write-part-same-length t)
     (write-part-returns t)
-    (write-part-write-leaf-requires t)
+    (write-part-add-t21 t)
+    (write-part-put-primitive-requires t)
     (write-part-same-length-2 t)
     (write-part-returns-2 t)
     (write-part-write-type-requires t)
