@@ -129,7 +129,7 @@ node-of ws pairs text at e d = node-parts (nameCount pairs) ws (nameBytes pairs 
 -- ---- where a type lies
 
 -- what f reads at a position begins there, takes at least `least` words, and ends within the words
-abbrev Advances : {A : Type 0} → ℕ → List ℕ → (ℕ → Reading A) → Type 0
+abbrev pub Advances : {A : Type 0} → ℕ → List ℕ → (ℕ → Reading A) → Type 0
 Advances {A} least ws f = (p : ℕ) (a : A) (n : ℕ) → p ≤ length ws → f p ≡ got a n → (p + least ≤ n) × (n ≤ length ws)
 
 module _ {N : Type 0} (ws : List ℕ) (f : ℕ → Reading (Ty N)) (h : Advances 1 ws f) where
@@ -182,7 +182,7 @@ module _ {N : Type 0} (ws : List ℕ) (f : ℕ → Reading (Ty N)) (h : Advances
   node-advances name Synonym p t n l e = two-advance _ p t n l e
   node-advances name (Meta x) p t n l e = one-advances _ p t n l e
 
-type-advances : {N : Type 0} (b : ℕ) (ws : List ℕ) (name : ℕ → N) (deep : ℕ) → Advances 1 ws (readType b ws name deep)
+pub type-advances : {N : Type 0} (b : ℕ) (ws : List ℕ) (name : ℕ → N) (deep : ℕ) → Advances 1 ws (readType b ws name deep)
 unfolding readType
 type-advances b ws name zero p t n l e = impossible (cc)
 type-advances b ws name (suc deep) p t n l e =

@@ -1,5 +1,5 @@
 -- From a head's reading to the code's answer.
-use Prim.Native.Nat.{ℕ, _^_, _≤_, _<_}
+use Prim.Native.Nat.{ℕ, _+_, _^_, _≤_, _<_}
 use mathlib.Core.Path.{_≡_, refl}
 use mathlib.Core.Bool.{Bool, true, false}
 use mathlib.Core.List.{List}
@@ -17,7 +17,7 @@ use Rattle.encoding.proofs.Tables.{impossible}
 use Rattle.encoding.proofs.Types.{bind-got}
 use Rattle.measure.specs.declared.OwnScan.{OwnScan}
 use Rattle.measure.specs.declared.OwnScan.the-variants.{Leaf, Node, NoNode}
-use Rattle.measure.specs.Lengths.{ownLength, modeOf, Scanned, leaf, node, none}
+use Rattle.measure.specs.Lengths.{ownLength, modeOf, Counted, exact, many, Scanned, leaf, node, none}
 
 -- a word that was read below a bound is below it
 pub below-less : (b : ℕ) (ws : List ℕ) (at : ℕ) {w n : ℕ} → readBelow b ws at ≡ got w n → w < b
@@ -30,14 +30,27 @@ below-less b ws at {w} {n} e =
     go v m true h d = let f : v ≡ w = cc in omega (arith, h refl)
     go v m false h d = impossible (cc)
 
+-- one type more, by a count that may be cut down
+pub counted-more : {k n : ℕ} → Counted k n → Counted (k + 1) (n + 1)
+counted-more {k} {n} (exact e) = let f : k + 1 ≡ n + 1 = omega arith in exact f
+counted-more {k} {n} (many h l) = let f : 8192 ≤ k + 1 = omega arith in let g : 8192 ≤ n + 1 = omega arith in many f g
+
+pub counted-some : {k n : ℕ} → Counted k n → 0 < n → 0 < k
+counted-some (exact e) h = omega arith
+counted-some (many k l) h = omega arith
+
 module _ (ws pairs : List ℕ) {x : Reading Head} where
   pub scanned-leaf : (h : Head) {r : OwnScan} {n b : ℕ} → x ≡ got h n → r ≡ Leaf n b
       → kids h ≡ 0 → b ≡ ownLength ws (nameLength pairs) h → b ≤ 2 ^ 46 → Scanned ws pairs x r
   scanned-leaf h e d k b short = rw d (leaf e k b short)
 
+  pub scanned-counted : (h : Head) {r : OwnScan} {n k b m : ℕ} → x ≡ got h n → r ≡ Node n k b m
+      → Counted k (kids h) → b ≡ ownLength ws (nameLength pairs) h → m ≡ modeOf h → 0 < k → k ≤ 2 ^ 15 → b ≤ 2 ^ 46 → Scanned ws pairs x r
+  scanned-counted h e d k b m some few short = rw d (node e k b m some few short)
+
   pub scanned-node : (h : Head) {r : OwnScan} {n k b m : ℕ} → x ≡ got h n → r ≡ Node n k b m
-      → k ≡ kids h → b ≡ ownLength ws (nameLength pairs) h → m ≡ modeOf h → 0 < k → k ≤ 2 ^ 32 → b ≤ 2 ^ 46 → Scanned ws pairs x r
-  scanned-node h e d k b m some few short = rw d (node e k b m some few short)
+      → k ≡ kids h → b ≡ ownLength ws (nameLength pairs) h → m ≡ modeOf h → 0 < k → k ≤ 2 ^ 15 → b ≤ 2 ^ 46 → Scanned ws pairs x r
+  scanned-node h e d k = scanned-counted h e d (exact k)
 
   pub scanned-stop : {r : OwnScan} {k : Refusal} → x ≡ stop k → r ≡ NoNode k → Scanned ws pairs x r
   scanned-stop e d = rw d (none e)

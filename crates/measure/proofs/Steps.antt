@@ -26,9 +26,9 @@ use Rattle.measure.specs.declared.OwnScan.the-variants.{Leaf, Node, NoNo
 use Rattle.measure.specs.declared.Pass.{Pass}
 use Rattle.measure.specs.declared.Step.{Step}
 use Rattle.measure.specs.declared.Step.the-variants.{On, Ended, Halt}
-use Rattle.measure.specs.Lengths.{measureOf, ownLength, modeOf, Scanned, leaf, node, none}
+use Rattle.measure.specs.Lengths.{measureOf, ownLength, modeOf, Counted, Scanned, leaf, node, none}
 use Rattle.measure.specs.Levels.{shownLength, levelsAt, restAt, stacked, restOf, leaving, beside, under, levelOf, pushed, Outward, Kept, Stepped, on, ended, halt}
-use Rattle.measure.proofs.Rests.{level-due, level-mode, stacked-push, stacked-top, rest-above, rest-ended, rest-deep, rest-stop, rest-down}
+use Rattle.measure.proofs.Rests.{level-due, level-mode, stacked-push, stacked-top, rest-above, rest-ended, rest-deep, rest-stop, rest-down, rest-cut}
 
 -- ---- heads
 
@@ -44,11 +44,11 @@ pub record OwnLeaf (ws pairs : List ℕ) (x : Reading Head) (next bytes : ℕ) :
 pub record OwnNode (ws pairs : List ℕ) (x : Reading Head) (next kids′ bytes below : ℕ) : Type 0 where
   pub head : Head
   pub read : x ≡ got head next
-  pub same-kids : kids′ ≡ kids head
+  pub same-kids : Counted kids′ (kids head)
   pub same-bytes : bytes ≡ ownLength ws (nameLength pairs) head
   pub same-below : below ≡ modeOf head
   pub some : 0 < kids′
-  pub few : kids′ ≤ 2 ^ 32
+  pub few : kids′ ≤ 2 ^ 15
   pub short : bytes ≤ 2 ^ 46
 
 module _ {ws pairs : List ℕ} {x : Reading Head} where
@@ -112,13 +112,13 @@ module _ (levels : List ℕ) (p : Pass) where
       let f : 64 - (p .depth - 1) ≡ suc (64 - p .depth) = omega arith in
       rw (e, f, stacked-top levels (p .depth) d) (sym (rest-above _ (64 - p .depth) (p .mode) _ _ (p .place) (p .bytes)))
 
-  pub outward-here : p .due ≤ 2 ^ 62 → Outward levels p p
+  pub outward-here : p .due ≤ 2 ^ 15 → Outward levels p p
   outward-here h = record { place = refl; bytes = refl; depth = omega arith; due = h; rest = λ ws pairs text. refl }
 
   -- one level more has ended
-  pub outward-more : {q r : Pass} → Outward levels q p → p .due ≡ 0 → 0 < p .depth → p .depth ≤ 64 → r ≡ leaving levels p → r .due < 2 ^ 62 → Outward levels q r
+  pub outward-more : {q r : Pass} → Outward levels q p → p .due ≡ 0 → 0 < p .depth → p .depth ≤ 64 → r ≡ leaving levels p → r .due < 2 ^ 15 → Outward levels q r
   outward-more {q} {r} o e d k same small =
-      let w : leaving levels p .due ≤ 2 ^ 62 = omega (arith, rw same at small) in
+      let w : leaving levels p .due ≤ 2 ^ 15 = omega (arith, rw same at small) in
       let j = o .depth in
       rw same (record { place = o .place; bytes = o .bytes; depth = omega arith; due = w; rest = λ ws pairs text. rest-leaving e d k ws pairs text ∙ o .rest ws pairs text })
 
@@ -186,14 +186,15 @@ module _ (ws pairs : List ℕ) (text : Bytes) (good : Good pairs text) (levels :
       step-ended e z = ended {p′ = q} (head-leaf ∙ sym (w .rest ws pairs text) ∙ rest-none levels q e z ws pairs text)
 
   -- a head with types behind it
-  pub step-under : p .depth < 64 → {n k b m : ℕ} → OwnNode ws pairs (readHead (nameCount pairs) ws (p .place)) n k b m
+  pub step-under : length ws ≤ 8192 → p .depth < 64 → {n k b m : ℕ} → OwnNode ws pairs (readHead (nameCount pairs) ws (p .place)) n k b m
       → {levels′ : List ℕ} {q : Pass} → levels′ ≡ pushed levels p → q ≡ under p n k b m → Stepped ws pairs text levels p levels′ (On q)
   unfolding restOf
-  step-under d {n} {k} {b} {m} o same-levels same =
+  step-under fits d {n} {k} {b} {m} o same-levels same =
       let lies = head-lies (nameCount pairs) ws (p .place) (o .read) in
       rw (same-levels, same) (on {p′ = under p n k b m}
       (record { room = simp length-set (kept .room); place = lies .ends; bytes = bytes-kept (lies .starts) (o .short); depth = omega arith; some = o .some; due = omega (arith, o .few) })
-      (rw (stacked-push levels (p .depth) (levelOf p) (omega (arith, kept .room)), o .same-kids, o .same-bytes, o .same-below) (sym (head-down d (o .head) (o .read)))) (lies .starts))
+      (rw (stacked-push levels (p .depth) (levelOf p) (omega (arith, kept .room)), o .same-bytes, o .same-below)
+      (rest-cut ws pairs text good (64 - (p .depth + 1)) _ (o .same-kids) _ n _ fits (omega (arith, lies .starts)) (lies .ends) ∙ sym (head-down d (o .head) (o .read)))) (lies .starts))
 
 -- ---- what a step says
 

@@ -76,9 +76,14 @@ modeOf (ArrayOf s) = 1
 modeOf Synonym = 2
 modeOf (Meta x) = 1
 
+-- a count of types as it is read, or cut down: more than 8,192 of them find no words either way
+pub data Counted (k n : ℕ) : Type 0 where
+  exact : k ≡ n → Counted k n
+  many : 8192 ≤ k → 8192 ≤ n → Counted k n
+
 -- the answer says what the reading of a head says, with few enough types and bytes that no sum over the words overflows
 pub data Scanned (ws pairs : List ℕ) (x : Reading Head) : OwnScan → Type 0 where
   leaf : {h : Head} {n b : ℕ} → x ≡ got h n → kids h ≡ 0 → b ≡ ownLength ws (nameLength pairs) h → b ≤ 2 ^ 46 → Scanned ws pairs x (Leaf n b)
-  node : {h : Head} {n k b m : ℕ} → x ≡ got h n → k ≡ kids h → b ≡ ownLength ws (nameLength pairs) h → m ≡ modeOf h → 0 < k → k ≤ 2 ^ 32 → b ≤ 2 ^ 46
+  node : {h : Head} {n k b m : ℕ} → x ≡ got h n → Counted k (kids h) → b ≡ ownLength ws (nameLength pairs) h → m ≡ modeOf h → 0 < k → k ≤ 2 ^ 15 → b ≤ 2 ^ 46
       → Scanned ws pairs x (Node n k b m)
   none : {r : Refusal} → x ≡ stop r → Scanned ws pairs x (NoNode r)

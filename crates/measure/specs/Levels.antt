@@ -23,11 +23,11 @@ shownLength m (suc k) nil = 0
 shownLength m (suc k) (cons t ts) = pick (eqb m 0) 0 (length (Type·ToString t)) + shownLength (m % 2) k ts
 
 -- what is left behind the innermost level, which may go d types deep: the levels around it, the inner ones first.
--- Each is kept as four times the number of its types that are due, plus their mode.
+-- Each is kept as twice the number of its types that are due, plus 1 if they show.
 unfoldable pub levelsAt : (ℕ → ℕ → Reading (Ty Bytes)) → ℕ → List ℕ → ℕ → ℕ → Reading ℕ
 levelsAt f d [] p total = got total p
 levelsAt f d (l ∷ ls) p total =
-    readTypes (f (suc d)) (l / 4) p >>= λ ts q. levelsAt f (suc d) ls q (total + shownLength (l % 4) (l / 4) ts)
+    readTypes (f (suc d)) (l / 2) p >>= λ ts q. levelsAt f (suc d) ls q (total + shownLength (l % 2) (l / 2) ts)
 
 -- what is left where k types are due at the innermost level, and how long the text is in all
 unfoldable pub restAt : (ℕ → ℕ → Reading (Ty Bytes)) → ℕ → ℕ → ℕ → List ℕ → ℕ → ℕ → Reading ℕ
@@ -49,8 +49,8 @@ leaving levels p = record {
   place = p .place;
   bytes = p .bytes;
   depth = p .depth - 1;
-  due = getD levels (p .depth - 1) 0 / 4;
-  mode = getD levels (p .depth - 1) 0 % 4;
+  due = getD levels (p .depth - 1) 0 / 2;
+  mode = getD levels (p .depth - 1) 0 % 2;
 }
 
 -- the pass behind a head that ends at `next` and adds `bytes` where it shows, if no type follows it
@@ -75,7 +75,7 @@ under p next kids bytes below = record {
 
 -- a level as it is kept: how many of its types are due behind the next one, and their mode
 abbrev pub levelOf : Pass → ℕ
-levelOf p = 4 * (p .due - 1) + p .mode % 2
+levelOf p = 2 * (p .due - 1) + p .mode % 2
 
 -- the levels behind a head that types follow
 abbrev pub pushed : List ℕ → Pass → List ℕ
@@ -86,7 +86,7 @@ pub record Outward (levels : List ℕ) (p p′ : Pass) : Type 0 where
   pub place : p′ .place ≡ p .place
   pub bytes : p′ .bytes ≡ p .bytes
   pub depth : p′ .depth ≤ p .depth
-  pub due : p′ .due ≤ 2 ^ 62
+  pub due : p′ .due ≤ 2 ^ 15
   pub rest : (ws pairs : List ℕ) (text : Bytes) → restOf ws pairs text levels p′ ≡ restOf ws pairs text levels p
 
 -- what holds of a pass at each step
@@ -96,7 +96,7 @@ pub record Kept (ws levels : List ℕ) (p : Pass) : Type 0 where
   pub bytes : p .bytes ≤ p .place * 2 ^ 46
   pub depth : p .depth ≤ 64
   pub some : 0 < p .due
-  pub due : p .due ≤ 2 ^ 62
+  pub due : p .due ≤ 2 ^ 15
 
 -- the pass goes on, and the same is left to it with fewer words; or it has read all that was left; or it is refused
 pub data Stepped (ws pairs : List ℕ) (text : Bytes) (levels : List ℕ) (p : Pass) (levels′ : List ℕ) : Step → Type 0 where

@@ -10,7 +10,7 @@ ghost use Rattle.encoding.specs.Tables.{Good, nameBytes, nameLength, nameCount}
 ghost use Rattle.encoding.specs.Heads.{InsidePath, pathHead, headAfter, readHead};
 ghost use Rattle.encoding.specs.Types.{rootOf, pathOf, typeAt};
 ghost use Rattle.encoding.specs.declared.Head.the-variants.{Name, Apply, Tuple, Function, ArrayOf, Meta};
-ghost use Rattle.measure.specs.Lengths.{measureOf, pathLength, arrayLength, worded, Scanned};
+ghost use Rattle.measure.specs.Lengths.{measureOf, pathLength, arrayLength, worded, Counted, Scanned};
 ghost use Rattle.measure.specs.Levels.{leaving, beside, under, pushed, Outward, Kept, Stepped};
 use encoding::PathAt;
 use encoding::PathScan;
@@ -160,12 +160,22 @@ fn own_path(words: &[u32], pairs: &[u32], bound: usize, at: usize) -> OwnScan
     }
 }
 
+// A count of types, cut down: more than 8,192 of them find no words, so which number it is makes no difference, and a level fits 16 bits.
+fn cut(count: u32) -> u64
+    ensures { λ r. ⌜ Counted r count × (r ≤ 8192) ⌝ }
+{
+    if 8192 < count {
+        return 8192;
+    }
+    count as u64
+}
+
 // The head of a type with arguments.
 fn own_apply(words: &[u32], pairs: &[u32], at: usize) -> OwnScan
     ensures { λ r. ⌜ Scanned (now (words .entry)) (now (pairs .entry)) (worded Apply (readWord (now (words .entry)) at)) r ⌝ }
 {
     match encoding::scan_word(words, at) {
-        WordScan::Word { value, next } => own_node(next, value as u64 + 1, 2 * value as usize, 1),
+        WordScan::Word { value, next } => own_node(next, cut(value) + 1, 2 * value as usize, 1),
         WordScan::NoWord(r) => OwnScan::NoNode(r),
     }
 }
@@ -179,7 +189,7 @@ fn own_tuple(words: &[u32], pairs: &[u32], at: usize) -> OwnScan
             if value == 0 {
                 return own_leaf(next, 2);
             }
-            own_node(next, value as u64, 2 * value as usize, 1)
+            own_node(next, cut(value), 2 * value as usize, 1)
         }
         WordScan::NoWord(r) => OwnScan::NoNode(r),
     }
@@ -192,7 +202,7 @@ fn own_function(words: &[u32], pairs: &[u32], at: usize) -> OwnScan
     match encoding::scan_word(words, at) {
         WordScan::Word { value, next } => own_node(
             next,
-            value as u64 + 1,
+            cut(value) + 1,
             20 + commas_length(value),
             1,
         ),
@@ -277,16 +287,16 @@ fn mode_if(mode: u64, below: u64) -> u64
 }
 
 // How many types are due at a level. A parameter is known to fit its type, an element of a lent array is not.
-fn level_due(level: u64) -> u64
-    ensures { λ r. ⌜ (r ≡ level / 4) × (r < 2 ^ 62) ⌝ }
+fn level_due(level: u16) -> u64
+    ensures { λ r. ⌜ (r ≡ level / 2) × (r < 2 ^ 15) ⌝ }
 {
-    level / 4
+    (level / 2) as u64
 }
 
 // The pass behind the innermost level: the one around it is taken up.
-fn leave(levels: &[u64; 64], pass: Pass) -> Pass
+fn leave(levels: &[u16; 64], pass: Pass) -> Pass
     requires { ⌜ (0 < pass .depth) × (pass .depth ≤ 64) ⌝ }
-    ensures { λ r. ⌜ (r ≡ leaving (now (levels .entry)) pass) × (r .due < 2 ^ 62) ⌝ }
+    ensures { λ r. ⌜ (r ≡ leaving (now (levels .entry)) pass) × (r .due < 2 ^ 15) ⌝ }
 {
     let above = pass.depth - 1;
     let level = levels[above];
@@ -295,13 +305,13 @@ fn leave(levels: &[u64; 64], pass: Pass) -> Pass
         bytes: pass.bytes,
         depth: above,
         due: level_due(level),
-        mode: level % 4,
+        mode: (level % 2) as u64,
     }
 }
 
 // The pass behind all levels that have ended.
-fn settle(levels: &[u64; 64], pass: Pass) -> Pass
-    requires { ⌜ (pass .depth ≤ 64) × (pass .due ≤ 2 ^ 62) ⌝ }
+fn settle(levels: &[u16; 64], pass: Pass) -> Pass
+    requires { ⌜ (pass .depth ≤ 64) × (pass .due ≤ 2 ^ 15) ⌝ }
     ensures { λ r. ⌜ Outward (now (levels .entry)) pass r × (r .due ≡ 0 → r .depth ≡ 0) ⌝ }
 {
     let mut p = pass;
@@ -331,20 +341,20 @@ fn past_leaf(pass: Pass, next: usize, bytes: usize) -> Pass
 
 // The pass behind a head that ends at `next`, one level down.
 fn enter(
-    levels: &mut [u64; 64],
+    levels: &mut [u16; 64],
     pass: Pass,
     next: usize,
     kids: u64,
     bytes: usize,
     below: u64,
 ) -> Pass
-    requires { ⌜ (0 < pass .due) × (pass .due ≤ 2 ^ 62) × (pass .depth < 64) × (pass .bytes + bytes < 2 ^ 64) ⌝ }
+    requires { ⌜ (0 < pass .due) × (pass .due ≤ 2 ^ 15) × (pass .depth < 64) × (pass .bytes + bytes < 2 ^ 64) ⌝ }
     ensures { λ r. ⌜ (r ≡ under pass next kids bytes below) × (now (levels .exit) ≡ pushed (now (levels .entry)) pass) ⌝ }
 {
     let depth = pass.depth;
     let after = pass.due - 1;
     let mode = pass.mode;
-    levels[depth] = 4 * after + mode % 2;
+    levels[depth] = (2 * after + mode % 2) as u16;
     Pass {
         place: next,
         bytes: pass.bytes + bytes_if(mode, bytes),
@@ -360,7 +370,7 @@ fn advance(
     pairs: &[u32],
     text: &[u8],
     bound: usize,
-    levels: &mut [u64; 64],
+    levels: &mut [u16; 64],
     pass: Pass,
 ) -> Step
     requires { ⌜ (bound ≡ nameCount (now pairs)) × Good (now pairs) (now text) × (length (now words) ≤ 8192)
@@ -397,7 +407,7 @@ pub fn measure_type(words: &[u32], pairs: &[u32], text: &[u8], at: usize) -> Mea
         return Measure::Stopped(Refusal::EndsEarly);
     }
     let bound = encoding::name_count(pairs);
-    let mut levels = [0u64; 64];
+    let mut levels = [0u16; 64];
     let mut pass = Pass {
         place: at,
         bytes: 0,

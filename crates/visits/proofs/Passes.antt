@@ -8,16 +8,15 @@ use Rattle.rast.specs.Bytes.{Bytes}
 use Rattle.rast.specs.Tree.{Ty, Tys, TSynonym, nil, cons}
 use Rattle.output.specs.Wrote.{Wrote}
 use Rattle.output.proofs.Laws.{wrote-nothing, wrote-then, wrote-as, wrote-kept}
-use Rattle.encoding.specs.declared.Refusal.{Refusal}
 use Rattle.encoding.specs.declared.Head.{Head}
 use Rattle.encoding.specs.Tables.{nameBytes, nameCount}
-use Rattle.encoding.specs.Reading.{got, stop}
-use Rattle.encoding.specs.Heads.{readHead, kids}
+use Rattle.encoding.specs.Reading.{got}
+use Rattle.encoding.specs.Heads.{readHead, kids, HeadHere, typesBelow, ownEnd}
 use Rattle.encoding.specs.Types.{readTypes, readNode, readType, typeAt}
-use Rattle.encoding.proofs.Tables.{impossible}
-use Rattle.encoding.proofs.Types.{Made₂, made₂-got, node-of, type-lies}
+use Rattle.encoding.proofs.Types.{Made₂, bind-got, made₂-got, node-of, type-lies}
 use Rattle.encoding.proofs.TypeKinds.{type-kind}
 use Rattle.encoding.proofs.Inside.{head-lies}
+use Rattle.encoding.proofs.HeadWords.{words-kids, words-end}
 use Rattle.trees.specs.Encode.{words, wordsAll, tokens}
 use Rattle.trees.proofs.Nodes.{node-below}
 use Rattle.trees.proofs.Renaming.{type-words}
@@ -55,6 +54,10 @@ module _ (ws pairs : List ℕ) (text : Bytes) where
       let b = types-words k (m .middle) (m .reads₂) in
       rw (m .made) (omega (arith, a, b, words-cons (m .left) (m .right)))
 
+  one-read : (p : ℕ) {t : Ty Bytes} {n : ℕ} → typeAt ws pairs text p ≡ got t n → readTypes (typeAt ws pairs text) 1 p ≡ got (cons t nil) n
+  unfolding readTypes
+  one-read p e = rw e
+
   -- on the way over `due` types at `at`: `left` types are due at `place`. Once their list is laid down, the whole list is.
   pub record Visiting (at due : ℕ) (o : List ℕ) (pos place left : ℕ) (o′ : List ℕ) (p : ℕ) : Type 0 where
     pub all : Tys Bytes
@@ -69,8 +72,34 @@ module _ (ws pairs : List ℕ) (text : Bytes) where
     pub since : at ≤ place
     pub kept : length o′ ≡ length o
 
-  pub visit-start : (at due : ℕ) (o : List ℕ) (pos : ℕ) → Due ws pairs text at due pos → Visiting at due o pos at due o pos
-  visit-start at due o pos d = record {
+  module _ (at due : ℕ) (o : List ℕ) (pos : ℕ) where
+    -- the head at `place` is passed, and k types follow it
+    pub record Stepped (place left k q : ℕ) (o′ : List ℕ) (p : ℕ) : Type 0 where
+      pub next : Visiting at due o pos q (left - 1 + k) o′ p
+      pub few : left - 1 + k ≤ length ws
+      pub ahead : place < q
+
+    -- a synonym is passed
+    pub record Past (place left q : ℕ) (o′ : List ℕ) (p : ℕ) : Type 0 where
+      pub next : Visiting at due o pos q (left - 1) o′ p
+      pub ahead : place < q
+
+  -- a synonym stands first: its display, and its base behind it
+  record Synonymous (place left : ℕ) (rest : Tys Bytes) (end : ℕ) : Type 0 where
+    display : Ty Bytes
+    base : Ty Bytes
+    others : Tys Bytes
+    middle : ℕ
+    next : ℕ
+    made : rest ≡ cons (TSynonym display base) others
+    display-reads : typeAt ws pairs text (place + 1) ≡ got display middle
+    base-reads : typeAt ws pairs text middle ≡ got base next
+    others-read : readTypes (typeAt ws pairs text) (left - 1) next ≡ got others end
+    end-words : next ≡ place + words (TSynonym display base)
+
+module _ {ws pairs : List ℕ} {text : Bytes} {at due : ℕ} {o : List ℕ} {pos : ℕ} where
+  pub visit-start : Due ws pairs text at due pos → Visiting ws pairs text at due o pos at due o pos
+  visit-start d = record {
     all = d .there .value;
     rest = d .there .value;
     end = d .there .end;
@@ -84,151 +113,133 @@ module _ (ws pairs : List ℕ) (text : Bytes) where
     kept = refl;
   }
 
-  module _ (at due : ℕ) (o : List ℕ) (pos : ℕ) where
-    -- the first type that is due
-    pub first : (place left : ℕ) {o′ : List ℕ} {p : ℕ} → 0 < left → (v : Visiting at due o pos place left o′ p)
-        → Made₂ (typeAt ws pairs text place) (readTypes (typeAt ws pairs text) (left - 1)) cons (v .rest) (v .end)
-    first place left h v = first-of ws pairs text left place h (v .due-reads)
+  module _ {place left : ℕ} {o′ : List ℕ} {p : ℕ} (v : Visiting ws pairs text at due o pos place left o′ p) where
+    module _ (l : 0 < left) where
+      -- the first type that is due
+      first : Made₂ (typeAt ws pairs text place) (readTypes (typeAt ws pairs text) (left - 1)) cons (v .rest) (v .end)
+      first = first-of ws pairs text left place l (v .due-reads)
 
-    pub visit-here : (place left : ℕ) {o′ : List ℕ} {p : ℕ} → 0 < left → Visiting at due o pos place left o′ p → place < length ws
-    visit-here place left h v = type-here ws pairs text place (first place left h v .reads)
+      pub visit-here : place < length ws
+      visit-here = type-here ws pairs text place (first .reads)
 
-    -- where a type is due, a head stands
-    pub visit-head : (place left : ℕ) {o′ : List ℕ} {p : ℕ} {r : Refusal} → 0 < left → Visiting at due o pos place left o′ p → readHead (nameCount pairs) ws place ≡ stop r → ⊥
-    unfolding readType
-    visit-head place left h v e = impossible (cc (first place left h v .reads, e))
+      -- where a type is due, a head stands
+      pub head-due : HeadHere ws place
+      unfolding readType
+      head-due =
+          let h = bind-got (readHead (nameCount pairs) ws place) _ (first .reads) in
+          record { bound = nameCount pairs; head = h .value; next = h .end; reads = h .first }
 
-    pub record Stepped (place left : ℕ) (h : Head) (q : ℕ) (o′ : List ℕ) (p : ℕ) : Type 0 where
-      pub next : Visiting at due o pos q (left - 1 + kids h) o′ p
-      pub few : left - 1 + kids h ≤ length ws
-      pub ahead : place < q
+      synonymous : getD ws place 0 ≡ 23 → Synonymous ws pairs text place left (v .rest) (v .end)
+      unfolding readNode
+      synonymous k =
+          let f = first in
+          let m = made₂-got (typeAt ws pairs text (place + 1)) (typeAt ws pairs text) TSynonym (synonym-head ws pairs text place (f .reads) k) in
+          record {
+            display = m .left;
+            base = m .right;
+            others = f .right;
+            middle = m .middle;
+            next = f .middle;
+            made = f .made ∙ ap (λ (t : Ty Bytes). cons t (f .right)) (m .made);
+            display-reads = m .reads;
+            base-reads = m .reads₂;
+            others-read = f .reads₂;
+            end-words = type-words ws pairs text place (f .reads) ∙ ap (λ (t : Ty Bytes). place + words t) (m .made);
+          }
 
-    -- a head is passed, and its position laid down
-    pub visit-step : (place left : ℕ) {h : Head} {q : ℕ} {o′ o″ : List ℕ} {p p″ : ℕ} → 0 < left → Visiting at due o pos place left o′ p
-        → Wrote o′ p (place ∷ []) o″ p″ → (getD ws place 0 ≡ 23 → ⊥) → readHead (nameCount pairs) ws place ≡ got h q → Stepped place left h q o″ p″
-    visit-step place left {h} {q} {o′} {o″} {p} {p″} l v w k e =
-        let f = first place left l v in
-        let t = f .left in
-        let us = f .right in
-        let b = node-below ws (nameBytes pairs text) (typeAt ws pairs text) h q (node-of ws pairs text place (f .reads) e) in
-        let ts = b .types in
-        let lies = head-lies (nameCount pairs) ws place e in
-        let m₁ = type-words ws pairs text place (f .reads) in
-        let m₂ = types-words (kids h) q (b .reads) in
-        let own = list-node place q (b .node) (λ z. k (sym (type-kind ws pairs text place (f .reads)) ∙ z)) (sym m₂ ∙ m₁) in
-        let c : kids h + (left - 1) ≡ left - 1 + kids h = omega arith in
-        let joined = rw c at (types-join (typeAt ws pairs text) (kids h) (left - 1) q (b .reads) (f .reads₂)) in
-        let fit = types-fit ws pairs text (left - 1 + kids h) q (lies .ends) (record { types = append ts us; reads = joined }) in
-        record {
-          next = record {
-            all = v .all;
-            rest = append ts us;
-            end = v .end;
-            reads = v .reads;
-            due-reads = joined;
-            lays = λ o‴ p‴ x. v .lays o‴ p‴ (wrote-as (sym (list-behind place (v .rest) t us q ts (f .made) own (sym m₂ ∙ m₁))) (wrote-then w x));
-            few = v .few;
-            inside = lies .ends;
-            counted = omega (arith, w .next, v .counted, lies .starts);
-            since = omega (arith, v .since, lies .starts);
-            kept = wrote-kept w ∙ v .kept;
-          };
-          few = omega (arith, fit .0, fit .1);
-          ahead = lies .starts;
-        }
+      -- a synonym's base stands behind its display
+      pub visit-base : {o″ o‴ : List ℕ} {p″ : ℕ} {spot : Spot} → getD ws place 0 ≡ 23
+          → Visited ws pairs text (place + 1) 1 o″ p″ o‴ spot → Readable (typeAt ws pairs text (spot .next))
+      visit-base {spot = spot} k d =
+          let s = synonymous k in
+          let m : s .middle ≡ spot .next = cc (one-read ws pairs text (place + 1) (s .display-reads), d .reads) in
+          record { value = s .base; end = s .next; reads = rw m at (s .base-reads) }
 
-    -- a synonym stands first: its display, and its base behind it
-    record Synonymous (place left : ℕ) (rest : Tys Bytes) (end : ℕ) : Type 0 where
-      display : Ty Bytes
-      base : Ty Bytes
-      others : Tys Bytes
-      middle : ℕ
-      next : ℕ
-      made : rest ≡ cons (TSynonym display base) others
-      display-reads : typeAt ws pairs text (place + 1) ≡ got display middle
-      base-reads : typeAt ws pairs text middle ≡ got base next
-      others-read : readTypes (typeAt ws pairs text) (left - 1) next ≡ got others end
-      end-words : next ≡ place + words (TSynonym display base)
+      -- its position is laid down
+      module _ {o″ : List ℕ} {p″ : ℕ} (w : Wrote o′ p (place ∷ []) o″ p″) where
+        -- a head is passed,
+        visit-step : {h : Head} {q : ℕ} → (getD ws place 0 ≡ 23 → ⊥) → readHead (nameCount pairs) ws place ≡ got h q
+            → Stepped ws pairs text at due o pos place left (kids h) q o″ p″
+        visit-step {h} {q} k e =
+            let f = first in
+            let t = f .left in
+            let us = f .right in
+            let b = node-below ws (nameBytes pairs text) (typeAt ws pairs text) h q (node-of ws pairs text place (f .reads) e) in
+            let ts = b .types in
+            let lies = head-lies (nameCount pairs) ws place e in
+            let m₁ = type-words ws pairs text place (f .reads) in
+            let m₂ = types-words ws pairs text (kids h) q (b .reads) in
+            let own = list-node place q (b .node) (λ z. k (sym (type-kind ws pairs text place (f .reads)) ∙ z)) (sym m₂ ∙ m₁) in
+            let c : kids h + (left - 1) ≡ left - 1 + kids h = omega arith in
+            let joined = rw c at (types-join (typeAt ws pairs text) (kids h) (left - 1) q (b .reads) (f .reads₂)) in
+            let fit = types-fit ws pairs text (left - 1 + kids h) q (lies .ends) (record { types = append ts us; reads = joined }) in
+            record {
+              next = record {
+                all = v .all;
+                rest = append ts us;
+                end = v .end;
+                reads = v .reads;
+                due-reads = joined;
+                lays = λ o‴ p‴ x. v .lays o‴ p‴ (wrote-as (sym (list-behind place (v .rest) t us q ts (f .made) own (sym m₂ ∙ m₁))) (wrote-then w x));
+                few = v .few;
+                inside = lies .ends;
+                counted = omega (arith, w .next, v .counted, lies .starts);
+                since = omega (arith, v .since, lies .starts);
+                kept = wrote-kept w ∙ v .kept;
+              };
+              few = omega (arith, fit .0, fit .1);
+              ahead = lies .starts;
+            }
 
-    synonymous : (place left : ℕ) {o′ : List ℕ} {p : ℕ} → 0 < left → (v : Visiting at due o pos place left o′ p) → getD ws place 0 ≡ 23 → Synonymous place left (v .rest) (v .end)
-    unfolding readNode
-    synonymous place left l v k =
-        let f = first place left l v in
-        let m = made₂-got (typeAt ws pairs text (place + 1)) (typeAt ws pairs text) TSynonym (synonym-head ws pairs text place (f .reads) k) in
-        record {
-          display = m .left;
-          base = m .right;
-          others = f .right;
-          middle = m .middle;
-          next = f .middle;
-          made = f .made ∙ ap (λ (t : Ty Bytes). cons t (f .right)) (m .made);
-          display-reads = m .reads;
-          base-reads = m .reads₂;
-          others-read = f .reads₂;
-          end-words = type-words ws pairs text place (f .reads) ∙ ap (λ (t : Ty Bytes). place + words t) (m .made);
-        }
+        -- whose words say what is due behind it
+        pub visit-words : (getD ws place 0 ≡ 23 → ⊥) → Stepped ws pairs text at due o pos place left (typesBelow ws place) (ownEnd ws place) o″ p″
+        unfolding readType
+        visit-words k =
+            let h = bind-got (readHead (nameCount pairs) ws place) _ (first .reads) in
+            rw (words-kids (nameCount pairs) ws place (h .first), words-end (nameCount pairs) ws place (h .first)) (visit-step k (h .first))
 
-    one-read : (p : ℕ) {t : Ty Bytes} {n : ℕ} → typeAt ws pairs text p ≡ got t n → readTypes (typeAt ws pairs text) 1 p ≡ got (cons t nil) n
-    unfolding readTypes
-    one-read p e = rw e
+        -- of a synonym the display is visited,
+        pub visit-display : getD ws place 0 ≡ 23 → Due ws pairs text (place + 1) 1 p″
+        visit-display k =
+            let s = synonymous k in
+            record {
+              few = v .few;
+              inside = omega (arith, visit-here);
+              counted = omega (arith, w .next, v .counted);
+              there = record { value = cons (s .display) nil; end = s .middle; reads = one-read ws pairs text (place + 1) (s .display-reads) };
+            }
 
-    -- the display is visited,
-    pub visit-display : (place left : ℕ) {o′ o″ : List ℕ} {p p″ : ℕ} → 0 < left → Visiting at due o pos place left o′ p → Wrote o′ p (place ∷ []) o″ p″
-        → getD ws place 0 ≡ 23 → Due ws pairs text (place + 1) 1 p″
-    visit-display place left l v w k =
-        let s = synonymous place left l v k in
-        record {
-          few = v .few;
-          inside = omega (arith, visit-here place left l v);
-          counted = omega (arith, w .next, v .counted);
-          there = record { value = cons (s .display) nil; end = s .middle; reads = one-read (place + 1) (s .display-reads) };
-        }
-
-    -- the base is passed over,
-    pub visit-base : (place left : ℕ) {o′ o″ o‴ : List ℕ} {p p″ : ℕ} {spot : Spot} → 0 < left → Visiting at due o pos place left o′ p → getD ws place 0 ≡ 23
-        → Visited ws pairs text (place + 1) 1 o″ p″ o‴ spot → Readable (typeAt ws pairs text (spot .next))
-    visit-base place left {spot = spot} l v k d =
-        let s = synonymous place left l v k in
-        let m : s .middle ≡ spot .next = cc (one-read (place + 1) (s .display-reads), d .reads) in
-        record { value = s .base; end = s .next; reads = rw m at (s .base-reads) }
-
-    pub record Past (place left q : ℕ) (o′ : List ℕ) (p : ℕ) : Type 0 where
-      pub next : Visiting at due o pos q (left - 1) o′ p
-      pub ahead : place < q
-
-    -- and what is due behind it comes next
-    pub visit-past : (place left : ℕ) {o′ o″ o‴ : List ℕ} {p p″ n : ℕ} {spot : Spot} → 0 < left → Visiting at due o pos place left o′ p → Wrote o′ p (place ∷ []) o″ p″
-        → getD ws place 0 ≡ 23 → Visited ws pairs text (place + 1) 1 o″ p″ o‴ spot → EndsAt (typeAt ws pairs text (spot .next)) n → Past place left n o‴ (spot .pos)
-    visit-past place left {n = n} {spot = spot} l v w k d e =
-        let s = synonymous place left l v k in
-        let m : s .middle ≡ spot .next = cc (one-read (place + 1) (s .display-reads), d .reads) in
-        let ts : d .types ≡ cons (s .display) nil = cc (one-read (place + 1) (s .display-reads), d .reads) in
-        let q : s .next ≡ n = cc (rw m at (s .base-reads), e .reads) in
-        let here = visit-here place left l v in
-        let lies₁ = type-lies ws pairs text (place + 1) (omega (arith, here)) (s .display-reads) in
-        let lies₂ = type-lies ws pairs text (s .middle) (lies₁ .ends) (s .base-reads) in
-        record {
-          next = record {
-            all = v .all;
-            rest = s .others;
-            end = v .end;
-            reads = v .reads;
-            due-reads = rw q at (s .others-read);
-            lays = λ o⁗ p⁗ x. v .lays o⁗ p⁗ (wrote-as (sym (synonym-list place (s .display) (s .base) (s .others) n (s .made) ts (sym q ∙ s .end-words))) (wrote-then w (wrote-then (d .wrote) x)));
-            few = v .few;
-            inside = omega (arith, q, lies₂ .ends);
-            counted = omega (arith, d .counted, m, q, lies₂ .starts);
-            since = omega (arith, v .since, q, lies₁ .starts, lies₂ .starts);
-            kept = wrote-kept (d .wrote) ∙ wrote-kept w ∙ v .kept;
-          };
-          ahead = omega (arith, q, lies₁ .starts, lies₂ .starts);
-        }
+        -- and what is due behind the base comes next
+        pub visit-past : {o‴ : List ℕ} {n : ℕ} {spot : Spot} → getD ws place 0 ≡ 23 → Visited ws pairs text (place + 1) 1 o″ p″ o‴ spot
+            → EndsAt (typeAt ws pairs text (spot .next)) n → Past ws pairs text at due o pos place left n o‴ (spot .pos)
+        visit-past {n = n} {spot = spot} k d e =
+            let s = synonymous k in
+            let m : s .middle ≡ spot .next = cc (one-read ws pairs text (place + 1) (s .display-reads), d .reads) in
+            let ts : d .types ≡ cons (s .display) nil = cc (one-read ws pairs text (place + 1) (s .display-reads), d .reads) in
+            let q : s .next ≡ n = cc (rw m at (s .base-reads), e .reads) in
+            let lies₁ = type-lies ws pairs text (place + 1) (omega (arith, visit-here)) (s .display-reads) in
+            let lies₂ = type-lies ws pairs text (s .middle) (lies₁ .ends) (s .base-reads) in
+            record {
+              next = record {
+                all = v .all;
+                rest = s .others;
+                end = v .end;
+                reads = v .reads;
+                due-reads = rw q at (s .others-read);
+                lays = λ o⁗ p⁗ x. v .lays o⁗ p⁗ (wrote-as (sym (synonym-list place (s .display) (s .base) (s .others) n (s .made) ts (sym q ∙ s .end-words))) (wrote-then w (wrote-then (d .wrote) x)));
+                few = v .few;
+                inside = omega (arith, q, lies₂ .ends);
+                counted = omega (arith, d .counted, m, q, lies₂ .starts);
+                since = omega (arith, v .since, q, lies₁ .starts, lies₂ .starts);
+                kept = wrote-kept (d .wrote) ∙ wrote-kept w ∙ v .kept;
+              };
+              ahead = omega (arith, q, lies₁ .starts, lies₂ .starts);
+            }
 
     -- where nothing is due, all is visited
-    pub visit-end : (place left : ℕ) (o′ : List ℕ) (p : ℕ) → left ≡ 0 → Visiting at due o pos place left o′ p
-        → Visited ws pairs text at due o pos o′ (record { next = place; pos = p })
+    pub visit-end : left ≡ 0 → Visited ws pairs text at due o pos o′ (record { next = place; pos = p })
     unfolding readTypes visitedFrom
-    visit-end place left o′ p z v =
+    visit-end z =
         let e = rw z at (v .due-reads) in
         let q : place ≡ v .end = cc in
         let n : v .rest ≡ nil = cc in

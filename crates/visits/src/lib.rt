@@ -10,7 +10,6 @@ ghost use Rattle.writing.specs.Written.{Readable};
 ghost use Rattle.visits.specs.Visited.{typeVisits, declarationVisits};
 ghost use Rattle.visits.specs.Calls.{filled, wholeTypeVisits, Due, Visited, wholeDeclarationVisits, enteredAfter, enteredWalk, Ahead, Entered, AllVisited};
 use encoding::Check;
-use encoding::HeadScan;
 use encoding::Refusal;
 use encoding::Scan;
 use measure::Measure;
@@ -54,7 +53,6 @@ fn visit_types(
     requires { ⌜ Due (now words) (now pairs) (now text) at due pos ⌝ }
     ensures { λ r. ⌜ Visited (now (words .entry)) (now (pairs .entry)) (now (text .entry)) at due (now (out .entry)) pos (now (out .exit)) r ⌝ }
 {
-    let bound = encoding::name_count(pairs);
     let mut place = at;
     let mut left = due;
     let mut p = pos;
@@ -67,14 +65,8 @@ fn visit_types(
             p = shown.pos;
             continue;
         }
-        let HeadScan::Own { head, next } = encoding::scan_head(words, bound, place) else {
-            return Spot {
-                next: place,
-                pos: p,
-            };
-        };
-        left = left - 1 + encoding::kids_of(head);
-        place = next;
+        left = left - 1 + encoding::types_below(words, place);
+        place = encoding::own_end(words, place);
     }
     Spot {
         next: place,

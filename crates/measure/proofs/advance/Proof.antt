@@ -65,7 +65,7 @@ returns-4 c =
     let a = s .args in
     let k = s .pre .3 in
     let o = own-node (c .before .before .before .before .before .scan-own .ensures) (c .before .before .before .next2 .given .1) in
-    step-under (a .words .now) (a .pairs .now) (a .text .now) (s .pre .1) (a .levels .now) (a .pass) k (omega (arith, k .depth, c .before .before .before .before .before .before .if1 .left)) (rw (s .pre .0) at o) (c .enter .ensures .1) (c .enter .ensures .0)
+    step-under (a .words .now) (a .pairs .now) (a .text .now) (s .pre .1) (a .levels .now) (a .pass) k (s .pre .2) (omega (arith, k .depth, c .before .before .before .before .before .before .if1 .left)) (rw (s .pre .0) at o) (c .enter .ensures .1) (c .enter .ensures .0)
 
 returns-5 : tie.Need-returns-5
 returns-5 c =

@@ -15,6 +15,9 @@ mul-levels c = search needs
 add-levels : tie.Need-add-levels
 add-levels c = search needs
 
+cast-levels : tie.Need-cast-levels
+cast-levels c = search needs
+
 mul-levels-2 : tie.Need-mul-levels-2
 mul-levels-2 c = search needs
 
@@ -24,11 +27,11 @@ element-write-levels c = search needs
 bytes-if-requires : tie.Need-bytes-if-requires
 bytes-if-requires c κs = search needs
 
-add-t16 : tie.Need-add-t16
-add-t16 c = omega (arith, c .before .bytes-if .ensures, picked (eqb (c .before .before .before .args .pass .mode) 0) (c .before .before .before .args .bytes))
-
 add-t17 : tie.Need-add-t17
-add-t17 c = search needs
+add-t17 c = omega (arith, c .before .bytes-if .ensures, picked (eqb (c .before .before .before .args .pass .mode) 0) (c .before .before .before .args .bytes))
+
+add-t18 : tie.Need-add-t18
+add-t18 c = search needs
 
 mode-if-requires : tie.Need-mode-if-requires
 mode-if-requires c κs = search needs
@@ -43,10 +46,11 @@ enter-spec =
     sub-after
     mul-levels
     add-levels
+    cast-levels
     mul-levels-2
     element-write-levels
     bytes-if-requires
-    add-t16
     add-t17
+    add-t18
     mode-if-requires
     returns)

@@ -14,9 +14,12 @@ element-copy-out-level c = search needs
 level-due-requires : tie.Need-level-due-requires
 level-due-requires c κs = search needs
 
+cast-t10 : tie.Need-cast-t10
+cast-t10 c = search needs
+
 returns : tie.Need-returns
 returns c = (rw (c .level-due .ensures .0), c .level-due .ensures .1)
 
 pub leave-spec : {M : Type 1} → statement M
 leave-spec =
-    tie.close (tie.spec sub-above mul-level element-copy-out-level level-due-requires returns)
+    tie.close (tie.spec sub-above mul-level element-copy-out-level level-due-requires cast-t10 returns)

@@ -3,7 +3,7 @@ use Rattle.encoding.specs.declared.Head.the-variants.{Apply}
 use Rattle.encoding.specs.Reading.{readWord}
 use Rattle.encoding.proofs.Reading.{word-got, word-stop}
 use Rattle.measure.specs.Lengths.{worded, ownLength}
-use Rattle.measure.proofs.Scans.{scanned-node, scanned-stop}
+use Rattle.measure.proofs.Scans.{counted-more, scanned-counted, scanned-stop}
 use native.Mathlib.Omega.{arith}
 use borrow.Author.Needs.{needs}
 use Rattle.measure.proofs.own_apply.Statement.{statement}
@@ -15,14 +15,14 @@ scan-word-requires c κs = search needs
 enum-known-value : tie.Need-enum-known-value
 enum-known-value c = search needs
 
-cast-own-node : tie.Need-cast-own-node
-cast-own-node c = search needs
+cut-requires : tie.Need-cut-requires
+cut-requires c κs = search needs
 
 add-own-node : tie.Need-add-own-node
 add-own-node c = search needs
 
-cast-own-node-2 : tie.Need-cast-own-node-2
-cast-own-node-2 c = search needs
+cast-own-node : tie.Need-cast-own-node
+cast-own-node c = search needs
 
 mul-own-node : tie.Need-mul-own-node
 mul-own-node c = search needs
@@ -36,9 +36,10 @@ enum-known-r c = search needs
 returns : tie.Need-returns
 unfolding ownLength
 returns c =
-    let a = c .before .before .before .before .before .before .before .args in
-    let e = word-got (readWord (a .words .now) (a .at)) (c .before .before .before .before .scan-word .ensures) (c .before .before .value .given .1) in
-    scanned-node (a .words .now) (a .pairs .now) (Apply _) (ap (worded Apply) e) (c .own-node .ensures) refl (refl) refl (omega arith) (omega arith) (omega arith)
+    let a = c .before .before .before .before .before .before .before .before .args in
+    let e = word-got (readWord (a .words .now) (a .at)) (c .before .before .before .before .before .scan-word .ensures) (c .before .before .before .value .given .1) in
+    let k = c .before .cut .ensures in
+    scanned-counted (a .words .now) (a .pairs .now) (Apply _) (ap (worded Apply) e) (c .own-node .ensures) (counted-more (k .0)) refl refl (omega arith) (omega (arith, k .1)) (omega arith)
 
 returns-2 : tie.Need-returns-2
 returns-2 c =
@@ -51,9 +52,9 @@ own-apply-spec =
     (tie.spec
     scan-word-requires
     enum-known-value
-    cast-own-node
+    cut-requires
     add-own-node
-    cast-own-node-2
+    cast-own-node
     mul-own-node
     own-node-requires
     enum-known-r

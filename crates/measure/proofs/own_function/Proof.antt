@@ -3,7 +3,7 @@ use Rattle.encoding.specs.declared.Head.the-variants.{Function}
 use Rattle.encoding.specs.Reading.{readWord}
 use Rattle.encoding.proofs.Reading.{word-got, word-stop}
 use Rattle.measure.specs.Lengths.{worded, ownLength}
-use Rattle.measure.proofs.Scans.{scanned-node, scanned-stop}
+use Rattle.measure.proofs.Scans.{counted-more, scanned-counted, scanned-stop}
 use Prim.Native.Nat.{_+_}
 use native.Mathlib.Omega.{arith}
 use borrow.Author.Needs.{needs}
@@ -16,8 +16,8 @@ scan-word-requires c κs = search needs
 enum-known-value : tie.Need-enum-known-value
 enum-known-value c = search needs
 
-cast-own-node : tie.Need-cast-own-node
-cast-own-node c = search needs
+cut-requires : tie.Need-cut-requires
+cut-requires c κs = search needs
 
 add-own-node : tie.Need-add-own-node
 add-own-node c = search needs
@@ -37,9 +37,10 @@ enum-known-r c = search needs
 returns : tie.Need-returns
 unfolding ownLength
 returns c =
-    let a = c .before .before .before .before .before .before .before .before .args in
-    let e = word-got (readWord (a .words .now) (a .at)) (c .before .before .before .before .before .scan-word .ensures) (c .before .before .before .value .given .1) in
-    scanned-node (a .words .now) (a .pairs .now) (Function _) (ap (worded Function) e) (c .own-node .ensures) refl (ap (λ n. 20 + n) (c .before .commas-length .ensures)) refl (omega arith) (omega arith) (omega (arith, c .before .commas-length .ensures))
+    let a = c .before .before .before .before .before .before .before .before .before .args in
+    let e = word-got (readWord (a .words .now) (a .at)) (c .before .before .before .before .before .before .scan-word .ensures) (c .before .before .before .before .value .given .1) in
+    let k = c .before .before .cut .ensures in
+    scanned-counted (a .words .now) (a .pairs .now) (Function _) (ap (worded Function) e) (c .own-node .ensures) (counted-more (k .0)) (ap (λ n. 20 + n) (c .before .commas-length .ensures)) refl (omega arith) (omega (arith, k .1)) (omega (arith, c .before .commas-length .ensures))
 
 returns-2 : tie.Need-returns-2
 returns-2 c =
@@ -52,7 +53,7 @@ own-function-spec =
     (tie.spec
     scan-word-requires
     enum-known-value
-    cast-own-node
+    cut-requires
     add-own-node
     commas-length-requires
     add-own-node-2

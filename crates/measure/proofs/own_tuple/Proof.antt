@@ -3,7 +3,7 @@ use Rattle.encoding.specs.declared.Head.the-variants.{Tuple}
 use Rattle.encoding.specs.Reading.{readWord}
 use Rattle.encoding.proofs.Reading.{word-got, word-stop}
 use Rattle.measure.specs.Lengths.{worded, ownLength}
-use Rattle.measure.proofs.Scans.{scanned-leaf, scanned-node, scanned-stop}
+use Rattle.measure.proofs.Scans.{counted-some, scanned-leaf, scanned-counted, scanned-stop}
 use native.Mathlib.Omega.{arith}
 use borrow.Author.Needs.{needs}
 use Rattle.measure.proofs.own_tuple.Statement.{statement}
@@ -26,11 +26,11 @@ returns c =
     let z = c .before .if1 .taken in
     scanned-leaf (a .words .now) (a .pairs .now) (Tuple _) (ap (worded Tuple) e) (c .own-leaf .ensures) z (omega arith) (omega arith)
 
+cut-requires : tie.Need-cut-requires
+cut-requires c κs = search needs
+
 cast-own-node : tie.Need-cast-own-node
 cast-own-node c = search needs
-
-cast-own-node-2 : tie.Need-cast-own-node-2
-cast-own-node-2 c = search needs
 
 mul-own-node : tie.Need-mul-own-node
 mul-own-node c = search needs
@@ -44,10 +44,11 @@ enum-known-r c = search needs
 returns-2 : tie.Need-returns-2
 unfolding ownLength
 returns-2 c =
-    let a = c .before .before .before .before .before .before .before .before .args in
-    let e = word-got (readWord (a .words .now) (a .at)) (c .before .before .before .before .before .scan-word .ensures) (c .before .before .before .value .given .1) in
-    let z = c .before .if1 .left in
-    scanned-node (a .words .now) (a .pairs .now) (Tuple _) (ap (worded Tuple) e) (c .own-node .ensures) refl (omega arith) refl (omega arith) (omega arith) (omega arith)
+    let a = c .before .before .before .before .before .before .before .before .before .args in
+    let e = word-got (readWord (a .words .now) (a .at)) (c .before .before .before .before .before .before .scan-word .ensures) (c .before .before .before .before .value .given .1) in
+    let z = c .before .before .if1 .left in
+    let k = c .before .cut .ensures in
+    scanned-counted (a .words .now) (a .pairs .now) (Tuple _) (ap (worded Tuple) e) (c .own-node .ensures) (k .0) (omega arith) refl (counted-some (k .0) (omega arith)) (omega (arith, k .1)) (omega arith)
 
 returns-3 : tie.Need-returns-3
 returns-3 c =
@@ -62,8 +63,8 @@ own-tuple-spec =
     enum-known-value
     own-leaf-requires
     returns
+    cut-requires
     cast-own-node
-    cast-own-node-2
     mul-own-node
     own-node-requires
     enum-known-r

@@ -1,8 +1,5 @@
 use Prim.Native.Nat.{_-_, _<_, ℕ}
-use Rattle.encoding.proofs.Reading.{head-got, head-stop}
-use Rattle.encoding.specs.Heads.{readHead}
-use Rattle.encoding.specs.Tables.{nameCount}
-use Rattle.visits.proofs.Passes.{Visiting, visit-base, visit-display, visit-end, visit-head, visit-here, visit-past, visit-start, visit-step}
+use Rattle.visits.proofs.Passes.{Visiting, head-due, visit-base, visit-display, visit-end, visit-here, visit-past, visit-start, visit-words}
 use lib.ListN.{length}
 use native.Mathlib.Omega.{arith}
 use borrow.Author.Needs.{needs}
@@ -11,9 +8,8 @@ use borrow.Fn.PlainCycle.{Measures, is, falls, and}
 use Rattle.visits.proofs.visit_types.Reads as visit-types
 use Rattle.visits.proofs.visit_types.Kinds as visit-types-kinds
 use Rattle.visits.proofs.+visit_types.Lts-visit_types as visit-types-lts
-use Rattle.encoding.proofs.kids_of.Reads as kids-of-reads
-use Rattle.encoding.proofs.name_count.Reads as name-count-reads
-use Rattle.encoding.proofs.scan_head.Reads as scan-head-reads
+use Rattle.encoding.proofs.own_end.Reads as own-end-reads
+use Rattle.encoding.proofs.types_below.Reads as types-below-reads
 use Rattle.visits.proofs.put_place.Reads as put-place-reads
 use Rattle.writing.proofs.skip_type.Reads as skip-type-reads
 use Rattle.visits.proofs.+visit_types.{statement}
@@ -31,422 +27,120 @@ visit-types-below t =
     and 4 visit-types-kinds.ps (falls 4 visit-types-kinds.ps _<_ μ-visit-types t) visit-types.Pre
 
 abbrev visit-types-Inv-loop : visit-types-lts.InvT-loop
-visit-types-Inv-loop words pairs text at due out₀ pos bound place₀ left₀ p₀ out place left p = Visiting words pairs text at due out₀ pos place left out p
+visit-types-Inv-loop words pairs text at due out₀ pos place₀ left₀ p₀ out place left p = Visiting words pairs text at due out₀ pos place left out p
 
 abbrev visit-types-μ-loop : visit-types-lts.MeasureT-loop
-visit-types-μ-loop words pairs text at due out₀ pos bound place₀ left₀ p₀ out place left p = length words - place
+visit-types-μ-loop words pairs text at due out₀ pos place₀ left₀ p₀ out place left p = length words - place
 
-visit-types-name-count-requires : (t : ℕ) → visit-types-lts.Need-name-count-requires (
-  name-count-reads.Asked,
-  name-count-reads.Learnt,
+-- what the calls ask for and give
+abbrev visit-types-calls : ℕ → visit-types-lts.Claims
+visit-types-calls t = (
   put-place-reads.Asked,
   put-place-reads.Learnt,
   visit-types-below t,
   visit-types.Post,
   skip-type-reads.Asked,
   skip-type-reads.Learnt,
-  scan-head-reads.Asked,
-  scan-head-reads.Learnt,
-  kids-of-reads.Asked,
-  kids-of-reads.Learnt,
-) (visit-types-at t) visit-types.Post visit-types-Inv-loop visit-types-μ-loop
-visit-types-name-count-requires t c κs = search needs
+  types-below-reads.Asked,
+  types-below-reads.Learnt,
+  own-end-reads.Asked,
+  own-end-reads.Learnt,
+)
 
-visit-types-loop-holds : (t : ℕ) → visit-types-lts.Need-loop-holds (
-  name-count-reads.Asked,
-  name-count-reads.Learnt,
-  put-place-reads.Asked,
-  put-place-reads.Learnt,
-  visit-types-below t,
-  visit-types.Post,
-  skip-type-reads.Asked,
-  skip-type-reads.Learnt,
-  scan-head-reads.Asked,
-  scan-head-reads.Learnt,
-  kids-of-reads.Asked,
-  kids-of-reads.Learnt,
-) (visit-types-at t) visit-types.Post visit-types-Inv-loop visit-types-μ-loop
-visit-types-loop-holds t c =
-    visit-start (c .before .before .before .before .before .args .words .now) (c .before .before .before .before .before .args .pairs .now) (c .before .before .before .before .before .args .text .now) (c .before .before .before .before .before .args .at) (c .before .before .before .before .before .args .due) (c .before .before .before .before .before .args .out .now) (c .before .before .before .before .before .args .pos) (c .before .before .before .before .before .pre .1)
+visit-types-loop-holds : (t : ℕ) → visit-types-lts.Need-loop-holds (visit-types-calls t) (visit-types-at t) visit-types.Post visit-types-Inv-loop visit-types-μ-loop
+visit-types-loop-holds t c = visit-start (c .before .before .before .before .pre .1)
 
-visit-types-put-place-requires : (t : ℕ) → visit-types-lts.Need-put-place-requires (
-  name-count-reads.Asked,
-  name-count-reads.Learnt,
-  put-place-reads.Asked,
-  put-place-reads.Learnt,
-  visit-types-below t,
-  visit-types.Post,
-  skip-type-reads.Asked,
-  skip-type-reads.Learnt,
-  scan-head-reads.Asked,
-  scan-head-reads.Learnt,
-  kids-of-reads.Asked,
-  kids-of-reads.Learnt,
-) (visit-types-at t) visit-types.Post visit-types-Inv-loop visit-types-μ-loop
+visit-types-put-place-requires : (t : ℕ) → visit-types-lts.Need-put-place-requires (visit-types-calls t) (visit-types-at t) visit-types.Post visit-types-Inv-loop visit-types-μ-loop
 visit-types-put-place-requires t c κs =
-    let h = visit-here (c .before .before .before .before .before .before .before .before .args .words .now) (c .before .before .before .before .before .before .before .before .args .pairs .now) (c .before .before .before .before .before .before .before .before .args .text .now) (c .before .before .before .before .before .before .before .before .args .at) (c .before .before .before .before .before .before .before .before .args .due) (c .before .before .before .before .before .before .before .before .args .out .now) (c .before .before .before .before .before .before .before .before .args .pos) (c .before .before .loop .place) (c .before .before .loop .left) (search needs) (c .before .before .loop .inv) in
-    (omega (arith, h, c .before .before .loop .inv .few), omega (arith, h, c .before .before .loop .inv .few, c .before .before .loop .inv .counted))
+    let v = c .before .before .loop .inv in
+    let h = visit-here v (c .before .loop-test .taken) in
+    (omega (arith, h, v .few), omega (arith, h, v .few, v .counted))
 
-visit-types-mul-if1 : (t : ℕ) → visit-types-lts.Need-mul-if1 (
-  name-count-reads.Asked,
-  name-count-reads.Learnt,
-  put-place-reads.Asked,
-  put-place-reads.Learnt,
-  visit-types-below t,
-  visit-types.Post,
-  skip-type-reads.Asked,
-  skip-type-reads.Learnt,
-  scan-head-reads.Asked,
-  scan-head-reads.Learnt,
-  kids-of-reads.Asked,
-  kids-of-reads.Learnt,
-) (visit-types-at t) visit-types.Post visit-types-Inv-loop visit-types-μ-loop
+visit-types-mul-if1 : (t : ℕ) → visit-types-lts.Need-mul-if1 (visit-types-calls t) (visit-types-at t) visit-types.Post visit-types-Inv-loop visit-types-μ-loop
 visit-types-mul-if1 t c =
-    let h = visit-here (c .before .before .before .before .before .before .before .before .before .before .before .args .words .now) (c .before .before .before .before .before .before .before .before .before .before .before .args .pairs .now) (c .before .before .before .before .before .before .before .before .before .before .before .args .text .now) (c .before .before .before .before .before .before .before .before .before .before .before .args .at) (c .before .before .before .before .before .before .before .before .before .before .before .args .due) (c .before .before .before .before .before .before .before .before .before .before .before .args .out .now) (c .before .before .before .before .before .before .before .before .before .before .before .args .pos) (c .before .before .before .before .before .loop .place) (c .before .before .before .before .before .loop .left) (search needs) (c .before .before .before .before .before .loop .inv) in
-    omega (arith, h, c .before .before .before .before .before .loop .inv .few)
+    let i = c .before .before .before .before in
+    omega (arith, visit-here (i .before .loop .inv) (i .loop-test .taken), i .before .loop .inv .few)
 
-visit-types-shared-slice-read-if1 : (t : ℕ) → visit-types-lts.Need-shared-slice-read-if1 (
-  name-count-reads.Asked,
-  name-count-reads.Learnt,
-  put-place-reads.Asked,
-  put-place-reads.Learnt,
-  visit-types-below t,
-  visit-types.Post,
-  skip-type-reads.Asked,
-  skip-type-reads.Learnt,
-  scan-head-reads.Asked,
-  scan-head-reads.Learnt,
-  kids-of-reads.Asked,
-  kids-of-reads.Learnt,
-) (visit-types-at t) visit-types.Post visit-types-Inv-loop visit-types-μ-loop
+visit-types-shared-slice-read-if1 : (t : ℕ) → visit-types-lts.Need-shared-slice-read-if1 (visit-types-calls t) (visit-types-at t) visit-types.Post visit-types-Inv-loop visit-types-μ-loop
 visit-types-shared-slice-read-if1 t c =
-    visit-here (c .before .before .before .before .before .before .before .before .before .before .before .before .args .words .now) (c .before .before .before .before .before .before .before .before .before .before .before .before .args .pairs .now) (c .before .before .before .before .before .before .before .before .before .before .before .before .args .text .now) (c .before .before .before .before .before .before .before .before .before .before .before .before .args .at) (c .before .before .before .before .before .before .before .before .before .before .before .before .args .due) (c .before .before .before .before .before .before .before .before .before .before .before .before .args .out .now) (c .before .before .before .before .before .before .before .before .before .before .before .before .args .pos) (c .before .before .before .before .before .before .loop .place) (c .before .before .before .before .before .before .loop .left) (search needs) (c .before .before .before .before .before .before .loop .inv)
+    let i = c .before .before .before .before .before in
+    visit-here (i .before .loop .inv) (i .loop-test .taken)
 
-visit-types-add-visit-types : (t : ℕ) → visit-types-lts.Need-add-visit-types (
-  name-count-reads.Asked,
-  name-count-reads.Learnt,
-  put-place-reads.Asked,
-  put-place-reads.Learnt,
-  visit-types-below t,
-  visit-types.Post,
-  skip-type-reads.Asked,
-  skip-type-reads.Learnt,
-  scan-head-reads.Asked,
-  scan-head-reads.Learnt,
-  kids-of-reads.Asked,
-  kids-of-reads.Learnt,
-) (visit-types-at t) visit-types.Post visit-types-Inv-loop visit-types-μ-loop
+visit-types-add-visit-types : (t : ℕ) → visit-types-lts.Need-add-visit-types (visit-types-calls t) (visit-types-at t) visit-types.Post visit-types-Inv-loop visit-types-μ-loop
 visit-types-add-visit-types t c =
-    let h = visit-here (c .before .before .before .before .before .before .before .before .before .before .before .before .before .args .words .now) (c .before .before .before .before .before .before .before .before .before .before .before .before .before .args .pairs .now) (c .before .before .before .before .before .before .before .before .before .before .before .before .before .args .text .now) (c .before .before .before .before .before .before .before .before .before .before .before .before .before .args .at) (c .before .before .before .before .before .before .before .before .before .before .before .before .before .args .due) (c .before .before .before .before .before .before .before .before .before .before .before .before .before .args .out .now) (c .before .before .before .before .before .before .before .before .before .before .before .before .before .args .pos) (c .before .before .before .before .before .before .before .loop .place) (c .before .before .before .before .before .before .before .loop .left) (search needs) (c .before .before .before .before .before .before .before .loop .inv) in
-    omega (arith, h, c .before .before .before .before .before .before .before .loop .inv .few)
+    let i = c .before .before .before .before .before .before in
+    omega (arith, visit-here (i .before .loop .inv) (i .loop-test .taken), i .before .loop .inv .few)
 
-visit-types-visit-types-requires : (t : ℕ) → visit-types-lts.Need-visit-types-requires (
-  name-count-reads.Asked,
-  name-count-reads.Learnt,
-  put-place-reads.Asked,
-  put-place-reads.Learnt,
-  visit-types-below t,
-  visit-types.Post,
-  skip-type-reads.Asked,
-  skip-type-reads.Learnt,
-  scan-head-reads.Asked,
-  scan-head-reads.Learnt,
-  kids-of-reads.Asked,
-  kids-of-reads.Learnt,
-) (visit-types-at t) visit-types.Post visit-types-Inv-loop visit-types-μ-loop
+visit-types-visit-types-requires : (t : ℕ) → visit-types-lts.Need-visit-types-requires (visit-types-calls t) (visit-types-at t) visit-types.Post visit-types-Inv-loop visit-types-μ-loop
 visit-types-visit-types-requires t c κs =
-    let h = visit-here (c .before .before .before .before .before .before .before .before .before .before .before .before .before .before .args .words .now) (c .before .before .before .before .before .before .before .before .before .before .before .before .before .before .args .pairs .now) (c .before .before .before .before .before .before .before .before .before .before .before .before .before .before .args .text .now) (c .before .before .before .before .before .before .before .before .before .before .before .before .before .before .args .at) (c .before .before .before .before .before .before .before .before .before .before .before .before .before .before .args .due) (c .before .before .before .before .before .before .before .before .before .before .before .before .before .before .args .out .now) (c .before .before .before .before .before .before .before .before .before .before .before .before .before .before .args .pos) (c .before .before .before .before .before .before .before .before .loop .place) (c .before .before .before .before .before .before .before .before .loop .left) (search needs) (c .before .before .before .before .before .before .before .before .loop .inv) in
-    (omega (arith, c .before .before .before .before .before .before .before .before .before .before .before .before .before .before .pre .0, h, c .before .before .before .before .before .before .before .before .loop .inv .since), visit-display (c .before .before .before .before .before .before .before .before .before .before .before .before .before .before .args .words .now) (c .before .before .before .before .before .before .before .before .before .before .before .before .before .before .args .pairs .now) (c .before .before .before .before .before .before .before .before .before .before .before .before .before .before .args .text .now) (c .before .before .before .before .before .before .before .before .before .before .before .before .before .before .args .at) (c .before .before .before .before .before .before .before .before .before .before .before .before .before .before .args .due) (c .before .before .before .before .before .before .before .before .before .before .before .before .before .before .args .out .now) (c .before .before .before .before .before .before .before .before .before .before .before .before .before .before .args .pos) (c .before .before .before .before .before .before .before .before .loop .place) (c .before .before .before .before .before .before .before .before .loop .left) (search needs) (c .before .before .before .before .before .before .before .before .loop .inv) (c .before .before .before .before .before .put-place .ensures) (c .before .if1 .taken))
+    let i = c .before .before .before .before .before .before .before in
+    let v = i .before .loop .inv in
+    let d = visit-display v (i .loop-test .taken) (c .before .before .before .before .before .put-place .ensures) (c .before .if1 .taken) in
+    (omega (arith, i .before .before .before .before .before .before .pre .0, visit-here v (i .loop-test .taken), v .since), d)
 
-visit-types-skip-type-requires : (t : ℕ) → visit-types-lts.Need-skip-type-requires (
-  name-count-reads.Asked,
-  name-count-reads.Learnt,
-  put-place-reads.Asked,
-  put-place-reads.Learnt,
-  visit-types-below t,
-  visit-types.Post,
-  skip-type-reads.Asked,
-  skip-type-reads.Learnt,
-  scan-head-reads.Asked,
-  scan-head-reads.Learnt,
-  kids-of-reads.Asked,
-  kids-of-reads.Learnt,
-) (visit-types-at t) visit-types.Post visit-types-Inv-loop visit-types-μ-loop
+visit-types-skip-type-requires : (t : ℕ) → visit-types-lts.Need-skip-type-requires (visit-types-calls t) (visit-types-at t) visit-types.Post visit-types-Inv-loop visit-types-μ-loop
 visit-types-skip-type-requires t c κs =
-    visit-base (c .before .before .before .before .before .before .before .before .before .before .before .before .before .before .before .before .before .args .words .now) (c .before .before .before .before .before .before .before .before .before .before .before .before .before .before .before .before .before .args .pairs .now) (c .before .before .before .before .before .before .before .before .before .before .before .before .before .before .before .before .before .args .text .now) (c .before .before .before .before .before .before .before .before .before .before .before .before .before .before .before .before .before .args .at) (c .before .before .before .before .before .before .before .before .before .before .before .before .before .before .before .before .before .args .due) (c .before .before .before .before .before .before .before .before .before .before .before .before .before .before .before .before .before .args .out .now) (c .before .before .before .before .before .before .before .before .before .before .before .before .before .before .before .before .before .args .pos) (c .before .before .before .before .before .before .before .before .before .before .before .loop .place) (c .before .before .before .before .before .before .before .before .before .before .before .loop .left) (search needs) (c .before .before .before .before .before .before .before .before .before .before .before .loop .inv) (c .before .before .before .before .if1 .taken) (c .before .before .visit-types .ensures)
+    let i = c .before .before .before .before .before .before .before .before .before .before in
+    visit-base (i .before .loop .inv) (i .loop-test .taken) (c .before .before .before .before .if1 .taken) (c .before .before .visit-types .ensures)
 
-visit-types-sub-left : (t : ℕ) → visit-types-lts.Need-sub-left (
-  name-count-reads.Asked,
-  name-count-reads.Learnt,
-  put-place-reads.Asked,
-  put-place-reads.Learnt,
-  visit-types-below t,
-  visit-types.Post,
-  skip-type-reads.Asked,
-  skip-type-reads.Learnt,
-  scan-head-reads.Asked,
-  scan-head-reads.Learnt,
-  kids-of-reads.Asked,
-  kids-of-reads.Learnt,
-) (visit-types-at t) visit-types.Post visit-types-Inv-loop visit-types-μ-loop
+visit-types-sub-left : (t : ℕ) → visit-types-lts.Need-sub-left (visit-types-calls t) (visit-types-at t) visit-types.Post visit-types-Inv-loop visit-types-μ-loop
 visit-types-sub-left t c = search needs
 
-visit-types-loop-less : (t : ℕ) → visit-types-lts.Need-loop-less (
-  name-count-reads.Asked,
-  name-count-reads.Learnt,
-  put-place-reads.Asked,
-  put-place-reads.Learnt,
-  visit-types-below t,
-  visit-types.Post,
-  skip-type-reads.Asked,
-  skip-type-reads.Learnt,
-  scan-head-reads.Asked,
-  scan-head-reads.Learnt,
-  kids-of-reads.Asked,
-  kids-of-reads.Learnt,
-) (visit-types-at t) visit-types.Post visit-types-Inv-loop visit-types-μ-loop
+visit-types-loop-less : (t : ℕ) → visit-types-lts.Need-loop-less (visit-types-calls t) (visit-types-at t) visit-types.Post visit-types-Inv-loop visit-types-μ-loop
 visit-types-loop-less t c =
-    let p = visit-past (c .before .before .before .before .before .before .before .before .before .before .before .before .before .before .before .before .before .before .args .words .now) (c .before .before .before .before .before .before .before .before .before .before .before .before .before .before .before .before .before .before .args .pairs .now) (c .before .before .before .before .before .before .before .before .before .before .before .before .before .before .before .before .before .before .args .text .now) (c .before .before .before .before .before .before .before .before .before .before .before .before .before .before .before .before .before .before .args .at) (c .before .before .before .before .before .before .before .before .before .before .before .before .before .before .before .before .before .before .args .due) (c .before .before .before .before .before .before .before .before .before .before .before .before .before .before .before .before .before .before .args .out .now) (c .before .before .before .before .before .before .before .before .before .before .before .before .before .before .before .before .before .before .args .pos) (c .before .before .before .before .before .before .before .before .before .before .before .before .loop .place) (c .before .before .before .before .before .before .before .before .before .before .before .before .loop .left) (search needs) (c .before .before .before .before .before .before .before .before .before .before .before .before .loop .inv) (c .before .before .before .before .before .before .before .before .before .put-place .ensures) (c .before .before .before .before .before .if1 .taken) (c .before .before .before .visit-types .ensures) (c .skip-type .ensures) in
-    omega (arith, p .ahead, p .next .inside)
-
-visit-types-loop-again : (t : ℕ) → visit-types-lts.Need-loop-again (
-  name-count-reads.Asked,
-  name-count-reads.Learnt,
-  put-place-reads.Asked,
-  put-place-reads.Learnt,
-  visit-types-below t,
-  visit-types.Post,
-  skip-type-reads.Asked,
-  skip-type-reads.Learnt,
-  scan-head-reads.Asked,
-  scan-head-reads.Learnt,
-  kids-of-reads.Asked,
-  kids-of-reads.Learnt,
-) (visit-types-at t) visit-types.Post visit-types-Inv-loop visit-types-μ-loop
-visit-types-loop-again t c =
-    let p = visit-past (c .before .before .before .before .before .before .before .before .before .before .before .before .before .before .before .before .before .before .args .words .now) (c .before .before .before .before .before .before .before .before .before .before .before .before .before .before .before .before .before .before .args .pairs .now) (c .before .before .before .before .before .before .before .before .before .before .before .before .before .before .before .before .before .before .args .text .now) (c .before .before .before .before .before .before .before .before .before .before .before .before .before .before .before .before .before .before .args .at) (c .before .before .before .before .before .before .before .before .before .before .before .before .before .before .before .before .before .before .args .due) (c .before .before .before .before .before .before .before .before .before .before .before .before .before .before .before .before .before .before .args .out .now) (c .before .before .before .before .before .before .before .before .before .before .before .before .before .before .before .before .before .before .args .pos) (c .before .before .before .before .before .before .before .before .before .before .before .before .loop .place) (c .before .before .before .before .before .before .before .before .before .before .before .before .loop .left) (search needs) (c .before .before .before .before .before .before .before .before .before .before .before .before .loop .inv) (c .before .before .before .before .before .before .before .before .before .put-place .ensures) (c .before .before .before .before .before .if1 .taken) (c .before .before .before .visit-types .ensures) (c .skip-type .ensures) in
-    p .next
-
-visit-types-scan-head-requires : (t : ℕ) → visit-types-lts.Need-scan-head-requires (
-  name-count-reads.Asked,
-  name-count-reads.Learnt,
-  put-place-reads.Asked,
-  put-place-reads.Learnt,
-  visit-types-below t,
-  visit-types.Post,
-  skip-type-reads.Asked,
-  skip-type-reads.Learnt,
-  scan-head-reads.Asked,
-  scan-head-reads.Learnt,
-  kids-of-reads.Asked,
-  kids-of-reads.Learnt,
-) (visit-types-at t) visit-types.Post visit-types-Inv-loop visit-types-μ-loop
-visit-types-scan-head-requires t c κs = search needs
-
-visit-types-enum-known-head : (t : ℕ) → visit-types-lts.Need-enum-known-head (
-  name-count-reads.Asked,
-  name-count-reads.Learnt,
-  put-place-reads.Asked,
-  put-place-reads.Learnt,
-  visit-types-below t,
-  visit-types.Post,
-  skip-type-reads.Asked,
-  skip-type-reads.Learnt,
-  scan-head-reads.Asked,
-  scan-head-reads.Learnt,
-  kids-of-reads.Asked,
-  kids-of-reads.Learnt,
-) (visit-types-at t) visit-types.Post visit-types-Inv-loop visit-types-μ-loop
-visit-types-enum-known-head t c = search needs
-
-visit-types-enum-told : (t : ℕ) → visit-types-lts.Need-enum-told (
-  name-count-reads.Asked,
-  name-count-reads.Learnt,
-  put-place-reads.Asked,
-  put-place-reads.Learnt,
-  visit-types-below t,
-  visit-types.Post,
-  skip-type-reads.Asked,
-  skip-type-reads.Learnt,
-  scan-head-reads.Asked,
-  scan-head-reads.Learnt,
-  kids-of-reads.Asked,
-  kids-of-reads.Learnt,
-) (visit-types-at t) visit-types.Post visit-types-Inv-loop visit-types-μ-loop
-visit-types-enum-told t c = search needs
-
-visit-types-same-length : (t : ℕ) → visit-types-lts.Need-same-length (
-  name-count-reads.Asked,
-  name-count-reads.Learnt,
-  put-place-reads.Asked,
-  put-place-reads.Learnt,
-  visit-types-below t,
-  visit-types.Post,
-  skip-type-reads.Asked,
-  skip-type-reads.Learnt,
-  scan-head-reads.Asked,
-  scan-head-reads.Learnt,
-  kids-of-reads.Asked,
-  kids-of-reads.Learnt,
-) (visit-types-at t) visit-types.Post visit-types-Inv-loop visit-types-μ-loop
-visit-types-same-length t c = search needs
-
-visit-types-returns : (t : ℕ) → visit-types-lts.Need-returns (
-  name-count-reads.Asked,
-  name-count-reads.Learnt,
-  put-place-reads.Asked,
-  put-place-reads.Learnt,
-  visit-types-below t,
-  visit-types.Post,
-  skip-type-reads.Asked,
-  skip-type-reads.Learnt,
-  scan-head-reads.Asked,
-  scan-head-reads.Learnt,
-  kids-of-reads.Asked,
-  kids-of-reads.Learnt,
-) (visit-types-at t) visit-types.Post visit-types-Inv-loop visit-types-μ-loop
-visit-types-returns t c =
-    absurd (visit-head (c .before .before .before .before .before .before .before .before .before .before .before .before .before .before .before .before .args .words .now) (c .before .before .before .before .before .before .before .before .before .before .before .before .before .before .before .before .args .pairs .now) (c .before .before .before .before .before .before .before .before .before .before .before .before .before .before .before .before .args .text .now) (c .before .before .before .before .before .before .before .before .before .before .before .before .before .before .before .before .args .at) (c .before .before .before .before .before .before .before .before .before .before .before .before .before .before .before .before .args .due) (c .before .before .before .before .before .before .before .before .before .before .before .before .before .before .before .before .args .out .now) (c .before .before .before .before .before .before .before .before .before .before .before .before .before .before .before .before .args .pos) (c .before .before .before .before .before .before .before .before .before .before .loop .place) (c .before .before .before .before .before .before .before .before .before .before .loop .left) (search needs) (c .before .before .before .before .before .before .before .before .before .before .loop .inv) (head-stop (readHead (nameCount (c .before .before .before .before .before .before .before .before .before .before .before .before .before .before .before .before .args .pairs .now)) (c .before .before .before .before .before .before .before .before .before .before .before .before .before .before .before .before .args .words .now) (c .before .before .before .before .before .before .before .before .before .before .loop .place)) (rw (c .before .before .before .before .before .before .before .before .before .before .before .name-count .ensures) at (c .before .before .scan-head .ensures)) (c .enum-told .given .1)))
-
-visit-types-sub-left-2 : (t : ℕ) → visit-types-lts.Need-sub-left-2 (
-  name-count-reads.Asked,
-  name-count-reads.Learnt,
-  put-place-reads.Asked,
-  put-place-reads.Learnt,
-  visit-types-below t,
-  visit-types.Post,
-  skip-type-reads.Asked,
-  skip-type-reads.Learnt,
-  scan-head-reads.Asked,
-  scan-head-reads.Learnt,
-  kids-of-reads.Asked,
-  kids-of-reads.Learnt,
-) (visit-types-at t) visit-types.Post visit-types-Inv-loop visit-types-μ-loop
-visit-types-sub-left-2 t c = search needs
-
-visit-types-kids-of-requires : (t : ℕ) → visit-types-lts.Need-kids-of-requires (
-  name-count-reads.Asked,
-  name-count-reads.Learnt,
-  put-place-reads.Asked,
-  put-place-reads.Learnt,
-  visit-types-below t,
-  visit-types.Post,
-  skip-type-reads.Asked,
-  skip-type-reads.Learnt,
-  scan-head-reads.Asked,
-  scan-head-reads.Learnt,
-  kids-of-reads.Asked,
-  kids-of-reads.Learnt,
-) (visit-types-at t) visit-types.Post visit-types-Inv-loop visit-types-μ-loop
-visit-types-kids-of-requires t c κs = search needs
-
-visit-types-add-left : (t : ℕ) → visit-types-lts.Need-add-left (
-  name-count-reads.Asked,
-  name-count-reads.Learnt,
-  put-place-reads.Asked,
-  put-place-reads.Learnt,
-  visit-types-below t,
-  visit-types.Post,
-  skip-type-reads.Asked,
-  skip-type-reads.Learnt,
-  scan-head-reads.Asked,
-  scan-head-reads.Learnt,
-  kids-of-reads.Asked,
-  kids-of-reads.Learnt,
-) (visit-types-at t) visit-types.Post visit-types-Inv-loop visit-types-μ-loop
-visit-types-add-left t c =
-    let s = visit-step (c .before .before .before .before .before .before .before .before .before .before .before .before .before .before .before .before .before .before .args .words .now) (c .before .before .before .before .before .before .before .before .before .before .before .before .before .before .before .before .before .before .args .pairs .now) (c .before .before .before .before .before .before .before .before .before .before .before .before .before .before .before .before .before .before .args .text .now) (c .before .before .before .before .before .before .before .before .before .before .before .before .before .before .before .before .before .before .args .at) (c .before .before .before .before .before .before .before .before .before .before .before .before .before .before .before .before .before .before .args .due) (c .before .before .before .before .before .before .before .before .before .before .before .before .before .before .before .before .before .before .args .out .now) (c .before .before .before .before .before .before .before .before .before .before .before .before .before .before .before .before .before .before .args .pos) (c .before .before .before .before .before .before .before .before .before .before .before .before .loop .place) (c .before .before .before .before .before .before .before .before .before .before .before .before .loop .left) (search needs) (c .before .before .before .before .before .before .before .before .before .before .before .before .loop .inv) (c .before .before .before .before .before .before .before .before .before .put-place .ensures) (c .before .before .before .before .before .if1 .left) (head-got (readHead (nameCount (c .before .before .before .before .before .before .before .before .before .before .before .before .before .before .before .before .before .before .args .pairs .now)) (c .before .before .before .before .before .before .before .before .before .before .before .before .before .before .before .before .before .before .args .words .now) (c .before .before .before .before .before .before .before .before .before .before .before .before .loop .place)) (rw (c .before .before .before .before .before .before .before .before .before .before .before .before .before .name-count .ensures) at (c .before .before .before .before .scan-head .ensures)) (c .before .before .head .given .1)) in
-    omega (arith, c .kids-of .ensures, s .few)
-
-visit-types-loop-less-2 : (t : ℕ) → visit-types-lts.Need-loop-less-2 (
-  name-count-reads.Asked,
-  name-count-reads.Learnt,
-  put-place-reads.Asked,
-  put-place-reads.Learnt,
-  visit-types-below t,
-  visit-types.Post,
-  skip-type-reads.Asked,
-  skip-type-reads.Learnt,
-  scan-head-reads.Asked,
-  scan-head-reads.Learnt,
-  kids-of-reads.Asked,
-  kids-of-reads.Learnt,
-) (visit-types-at t) visit-types.Post visit-types-Inv-loop visit-types-μ-loop
-visit-types-loop-less-2 t c =
-    let s = visit-step (c .before .before .before .before .before .before .before .before .before .before .before .before .before .before .before .before .before .before .args .words .now) (c .before .before .before .before .before .before .before .before .before .before .before .before .before .before .before .before .before .before .args .pairs .now) (c .before .before .before .before .before .before .before .before .before .before .before .before .before .before .before .before .before .before .args .text .now) (c .before .before .before .before .before .before .before .before .before .before .before .before .before .before .before .before .before .before .args .at) (c .before .before .before .before .before .before .before .before .before .before .before .before .before .before .before .before .before .before .args .due) (c .before .before .before .before .before .before .before .before .before .before .before .before .before .before .before .before .before .before .args .out .now) (c .before .before .before .before .before .before .before .before .before .before .before .before .before .before .before .before .before .before .args .pos) (c .before .before .before .before .before .before .before .before .before .before .before .before .loop .place) (c .before .before .before .before .before .before .before .before .before .before .before .before .loop .left) (search needs) (c .before .before .before .before .before .before .before .before .before .before .before .before .loop .inv) (c .before .before .before .before .before .before .before .before .before .put-place .ensures) (c .before .before .before .before .before .if1 .left) (head-got (readHead (nameCount (c .before .before .before .before .before .before .before .before .before .before .before .before .before .before .before .before .before .before .args .pairs .now)) (c .before .before .before .before .before .before .before .before .before .before .before .before .before .before .before .before .before .before .args .words .now) (c .before .before .before .before .before .before .before .before .before .before .before .before .loop .place)) (rw (c .before .before .before .before .before .before .before .before .before .before .before .before .before .name-count .ensures) at (c .before .before .before .before .scan-head .ensures)) (c .before .before .head .given .1)) in
+    let i = c .before .before .before .before .before .before .before .before .before .before .before in
+    let s = visit-past (i .before .loop .inv) (i .loop-test .taken) (c .before .before .before .before .before .before .before .before .before .put-place .ensures) (c .before .before .before .before .before .if1 .taken) (c .before .before .before .visit-types .ensures) (c .skip-type .ensures) in
     omega (arith, s .ahead, s .next .inside)
 
-visit-types-loop-again-2 : (t : ℕ) → visit-types-lts.Need-loop-again-2 (
-  name-count-reads.Asked,
-  name-count-reads.Learnt,
-  put-place-reads.Asked,
-  put-place-reads.Learnt,
-  visit-types-below t,
-  visit-types.Post,
-  skip-type-reads.Asked,
-  skip-type-reads.Learnt,
-  scan-head-reads.Asked,
-  scan-head-reads.Learnt,
-  kids-of-reads.Asked,
-  kids-of-reads.Learnt,
-) (visit-types-at t) visit-types.Post visit-types-Inv-loop visit-types-μ-loop
+visit-types-loop-again : (t : ℕ) → visit-types-lts.Need-loop-again (visit-types-calls t) (visit-types-at t) visit-types.Post visit-types-Inv-loop visit-types-μ-loop
+visit-types-loop-again t c =
+    let i = c .before .before .before .before .before .before .before .before .before .before .before in
+    let s = visit-past (i .before .loop .inv) (i .loop-test .taken) (c .before .before .before .before .before .before .before .before .before .put-place .ensures) (c .before .before .before .before .before .if1 .taken) (c .before .before .before .visit-types .ensures) (c .skip-type .ensures) in
+    s .next
+
+visit-types-sub-left-2 : (t : ℕ) → visit-types-lts.Need-sub-left-2 (visit-types-calls t) (visit-types-at t) visit-types.Post visit-types-Inv-loop visit-types-μ-loop
+visit-types-sub-left-2 t c = search needs
+
+visit-types-types-below-requires : (t : ℕ) → visit-types-lts.Need-types-below-requires (visit-types-calls t) (visit-types-at t) visit-types.Post visit-types-Inv-loop visit-types-μ-loop
+visit-types-types-below-requires t c κs =
+    let i = c .before .before .before .before .before .before in
+    head-due (i .before .loop .inv) (i .loop-test .taken)
+
+visit-types-add-left : (t : ℕ) → visit-types-lts.Need-add-left (visit-types-calls t) (visit-types-at t) visit-types.Post visit-types-Inv-loop visit-types-μ-loop
+visit-types-add-left t c =
+    let i = c .before .before .before .before .before .before .before in
+    let s = visit-words (i .before .loop .inv) (i .loop-test .taken) (c .before .before .before .before .before .put-place .ensures) (c .before .if1 .left) in
+    omega (arith, c .types-below .ensures, s .few)
+
+visit-types-own-end-requires : (t : ℕ) → visit-types-lts.Need-own-end-requires (visit-types-calls t) (visit-types-at t) visit-types.Post visit-types-Inv-loop visit-types-μ-loop
+visit-types-own-end-requires t c κs =
+    let i = c .before .before .before .before .before .before .before in
+    head-due (i .before .loop .inv) (i .loop-test .taken)
+
+visit-types-loop-less-2 : (t : ℕ) → visit-types-lts.Need-loop-less-2 (visit-types-calls t) (visit-types-at t) visit-types.Post visit-types-Inv-loop visit-types-μ-loop
+visit-types-loop-less-2 t c =
+    let i = c .before .before .before .before .before .before .before .before in
+    let s = visit-words (i .before .loop .inv) (i .loop-test .taken) (c .before .before .before .before .before .before .put-place .ensures) (c .before .before .if1 .left) in
+    omega (arith, c .own-end .ensures, s .ahead, s .next .inside)
+
+visit-types-loop-again-2 : (t : ℕ) → visit-types-lts.Need-loop-again-2 (visit-types-calls t) (visit-types-at t) visit-types.Post visit-types-Inv-loop visit-types-μ-loop
 visit-types-loop-again-2 t c =
-    let s = visit-step (c .before .before .before .before .before .before .before .before .before .before .before .before .before .before .before .before .before .before .args .words .now) (c .before .before .before .before .before .before .before .before .before .before .before .before .before .before .before .before .before .before .args .pairs .now) (c .before .before .before .before .before .before .before .before .before .before .before .before .before .before .before .before .before .before .args .text .now) (c .before .before .before .before .before .before .before .before .before .before .before .before .before .before .before .before .before .before .args .at) (c .before .before .before .before .before .before .before .before .before .before .before .before .before .before .before .before .before .before .args .due) (c .before .before .before .before .before .before .before .before .before .before .before .before .before .before .before .before .before .before .args .out .now) (c .before .before .before .before .before .before .before .before .before .before .before .before .before .before .before .before .before .before .args .pos) (c .before .before .before .before .before .before .before .before .before .before .before .before .loop .place) (c .before .before .before .before .before .before .before .before .before .before .before .before .loop .left) (search needs) (c .before .before .before .before .before .before .before .before .before .before .before .before .loop .inv) (c .before .before .before .before .before .before .before .before .before .put-place .ensures) (c .before .before .before .before .before .if1 .left) (head-got (readHead (nameCount (c .before .before .before .before .before .before .before .before .before .before .before .before .before .before .before .before .before .before .args .pairs .now)) (c .before .before .before .before .before .before .before .before .before .before .before .before .before .before .before .before .before .before .args .words .now) (c .before .before .before .before .before .before .before .before .before .before .before .before .loop .place)) (rw (c .before .before .before .before .before .before .before .before .before .before .before .before .before .name-count .ensures) at (c .before .before .before .before .scan-head .ensures)) (c .before .before .head .given .1)) in
-    rw (c .kids-of .ensures) (s .next)
+    let i = c .before .before .before .before .before .before .before .before in
+    let s = visit-words (i .before .loop .inv) (i .loop-test .taken) (c .before .before .before .before .before .before .put-place .ensures) (c .before .before .if1 .left) in
+    rw (c .own-end .ensures, c .before .types-below .ensures) (s .next)
 
-visit-types-same-length-2 : (t : ℕ) → visit-types-lts.Need-same-length-2 (
-  name-count-reads.Asked,
-  name-count-reads.Learnt,
-  put-place-reads.Asked,
-  put-place-reads.Learnt,
-  visit-types-below t,
-  visit-types.Post,
-  skip-type-reads.Asked,
-  skip-type-reads.Learnt,
-  scan-head-reads.Asked,
-  scan-head-reads.Learnt,
-  kids-of-reads.Asked,
-  kids-of-reads.Learnt,
-) (visit-types-at t) visit-types.Post visit-types-Inv-loop visit-types-μ-loop
-visit-types-same-length-2 t c = search needs
+visit-types-same-length : (t : ℕ) → visit-types-lts.Need-same-length (visit-types-calls t) (visit-types-at t) visit-types.Post visit-types-Inv-loop visit-types-μ-loop
+visit-types-same-length t c = search needs
 
-visit-types-returns-2 : (t : ℕ) → visit-types-lts.Need-returns-2 (
-  name-count-reads.Asked,
-  name-count-reads.Learnt,
-  put-place-reads.Asked,
-  put-place-reads.Learnt,
-  visit-types-below t,
-  visit-types.Post,
-  skip-type-reads.Asked,
-  skip-type-reads.Learnt,
-  scan-head-reads.Asked,
-  scan-head-reads.Learnt,
-  kids-of-reads.Asked,
-  kids-of-reads.Learnt,
-) (visit-types-at t) visit-types.Post visit-types-Inv-loop visit-types-μ-loop
-visit-types-returns-2 t c =
-    visit-end (c .before .before .before .before .before .before .before .args .words .now) (c .before .before .before .before .before .before .before .args .pairs .now) (c .before .before .before .before .before .before .before .args .text .now) (c .before .before .before .before .before .before .before .args .at) (c .before .before .before .before .before .before .before .args .due) (c .before .before .before .before .before .before .before .args .out .now) (c .before .before .before .before .before .before .before .args .pos) (c .before .loop .place) (c .before .loop .left) (c .before .loop .out) (c .before .loop .p) (omega arith) (c .before .loop .inv)
+visit-types-returns : (t : ℕ) → visit-types-lts.Need-returns (visit-types-calls t) (visit-types-at t) visit-types.Post visit-types-Inv-loop visit-types-μ-loop
+visit-types-returns t c = visit-end (c .before .loop .inv) (omega (arith, c .loop-test .left))
 
 pub +visit-types-spec : {M : Type 1} → statement M
-+visit-types-spec = close μ-visit-types λ t. visit-types-lts.spec (
-  name-count-reads.Asked,
-  name-count-reads.Learnt,
-  put-place-reads.Asked,
-  put-place-reads.Learnt,
-  visit-types-below t,
-  visit-types.Post,
-  skip-type-reads.Asked,
-  skip-type-reads.Learnt,
-  scan-head-reads.Asked,
-  scan-head-reads.Learnt,
-  kids-of-reads.Asked,
-  kids-of-reads.Learnt,
-)
++visit-types-spec = close μ-visit-types λ t. visit-types-lts.spec (visit-types-calls t)
     (visit-types-at t)
     visit-types.Post
     visit-types-Inv-loop
     visit-types-μ-loop
-    (visit-types-name-count-requires t)
     (visit-types-loop-holds t)
     (visit-types-put-place-requires t)
     (visit-types-mul-if1 t)
@@ -457,15 +151,11 @@ pub +visit-types-spec : {M : Type 1} → statement M
     (visit-types-sub-left t)
     (visit-types-loop-less t)
     (visit-types-loop-again t)
-    (visit-types-scan-head-requires t)
-    (visit-types-enum-known-head t)
-    (visit-types-enum-told t)
-    (visit-types-same-length t)
-    (visit-types-returns t)
     (visit-types-sub-left-2 t)
-    (visit-types-kids-of-requires t)
+    (visit-types-types-below-requires t)
     (visit-types-add-left t)
+    (visit-types-own-end-requires t)
     (visit-types-loop-less-2 t)
     (visit-types-loop-again-2 t)
-    (visit-types-same-length-2 t)
-    (visit-types-returns-2 t)
+    (visit-types-same-length t)
+    (visit-types-returns t)
