@@ -28,6 +28,7 @@ use Rattle.trees.specs.Encode.{tokenWord, rootWord, names, pathTokens, tokens, 
 use Rattle.trees.specs.Numbered.{treeAt, treeOf}
 use Rattle.trees.proofs.Renaming.{encode-words, spelled, tree-run}
 use Rattle.replace.specs.Laying.{depth}
+use Rattle.replace.proofs.Depths.{tree-deep}
 use Rattle.rules.specs.declared.Deep.{Deep}
 use Rattle.rules.specs.Scans.{Deepens}
 use Rattle.rules.proofs.Lists.{one-deep}
@@ -43,7 +44,6 @@ use Rattle.rebuild.proofs.Calls.{down-over, down-deep, down-front}
 use Rattle.initialization.specs.declared.Initial.{Initial}
 use Rattle.initialization.specs.declared.Initial.the-variants.{OfArray, Unchanged}
 use Rattle.initialization.specs.Initialized.{laidInit, typeInitialized, pointerWords, uninitWords, initialWords, newArray, Named, Pieces, pieces, unchanged, Becomes, Kept, Whole}
-use Rattle.initialization.proofs.Parts.{tree-deep}
 use Rattle.initialization.proofs.Changes.{one-words, one-depth}
 
 -- ---- the type at initialization, by the new array

@@ -1,5 +1,5 @@
 -- The parts of a tree where they stand, trees holding name numbers: behind wrappers, the one argument of a path's application, an array's element.
-use Prim.Native.Nat.{ℕ, suc, zero, _+_, _-_, _≤_, _<_}
+use Prim.Native.Nat.{ℕ, _+_, _-_, _<_}
 use mathlib.Core.Path.{_≡_, refl, ap, sym, _∙_}
 use mathlib.Core.Bool.{Bool, true}
 use mathlib.Core.List.{List, append-nil}
@@ -10,19 +10,17 @@ use Rattle.rast.specs.Bytes.{Bytes}
 use Rattle.rast.specs.Tree.{Path, Ty, Tys, Primitive, TIdentifier, TypeFromPath, TypeApp, Borrowed, BorrowedMut, ImplType, DynType, TupleType, FnType, IntersectionType, Array, TSynonym, TMetaData, nil, cons}
 use Rattle.rast.specs.DeclarationToString.{Expand}
 use Rattle.encoding.specs.declared.Head.{Head}
-use Rattle.encoding.specs.Reading.{Reading, got}
-use Rattle.encoding.specs.Tables.{nameCount}
-use Rattle.encoding.specs.Heads.{readHead, kids}
-use Rattle.encoding.specs.Types.{readTypes, readNode, readType}
+use Rattle.encoding.specs.Reading.{got}
+use Rattle.encoding.specs.Heads.{kids}
+use Rattle.encoding.specs.Types.{readTypes}
 use Rattle.encoding.proofs.Tables.{impossible}
-use Rattle.encoding.proofs.Types.{bind-got}
 use Rattle.trees.specs.Renamed.{renamed, renamedAll}
 use Rattle.trees.specs.Encode.{tokens, tokensAll, count, words}
 use Rattle.trees.specs.Numbered.{treeAt}
-use Rattle.trees.proofs.Nodes.{Node, array, apply, synonym, meta, node-below, types-count, first-type}
+use Rattle.trees.proofs.Nodes.{Node, array, apply, synonym, meta, types-count, first-type}
 use Rattle.trees.proofs.Heads.{tree-head, tree-here, tree-below}
 use Rattle.trees.proofs.Renaming.{words-kept, tree-run}
-use Rattle.replace.specs.Laying.{depth, deepest}
+use Rattle.replace.specs.Laying.{depth}
 use Rattle.replace.proofs.Nodes.{depth-node}
 use Rattle.wrappers.proofs.Expanding.{synonym-words, meta-words}
 use Rattle.classes.specs.Matches.{onPath, applied}
@@ -195,31 +193,3 @@ module _ (f : ℕ → Bytes) (g : Path Bytes → Tys Bytes → Bool) (h : (p : P
   one-argument (Array t s) e = impossible (cc)
   one-argument (TSynonym d b) e = impossible (cc)
   one-argument (TMetaData d c o) e = impossible (cc)
-
--- ---- an accepted type is not too deep
-
-module _ (b : ℕ) (ws : List ℕ) where
-  all-within : (again : ℕ → Reading (Ty ℕ)) (most : ℕ) → ((p : ℕ) (t : Ty ℕ) (n : ℕ) → again p ≡ got t n → depth t ≤ most) → (k p : ℕ) (ts : Tys ℕ) (n : ℕ) → readTypes again k p ≡ got ts n → deepest ts ≤ most
-  unfolding deepest count
-  all-within again most h k p nil n e = omega arith
-  all-within again most h k p (cons t ts) n e =
-      let c = types-count again k p e in
-      let f = first-type again k p (omega (arith, c)) e in
-      let m = f .made in
-      let i : f .type ≡ t = cc in
-      let j : f .more ≡ ts = cc in
-      let d = h p (f .type) (f .middle) (f .first) in
-      let ds = all-within again most h (k - 1) (f .middle) ts n (f .others ∙ ap (λ v. got v n) j) in
-      omega (arith, ds, d, ap depth i)
-
-  within : (deep at : ℕ) (t : Ty ℕ) (n : ℕ) → readType b ws (λ x. x) deep at ≡ got t n → depth t ≤ deep
-  unfolding readType
-  within zero at t n e = impossible (cc)
-  within (suc deep) at t n e =
-      let d = bind-got (readHead b ws at) (λ h p. readNode ws (λ x. x) (readType b ws (λ x. x) deep) h p) e in
-      let k = node-below ws (λ x. x) (readType b ws (λ x. x) deep) (d .value) (d .end) (d .rest) in
-      let l = all-within (readType b ws (λ x. x) deep) deep (within deep) (kids (d .value)) (d .end) (k .types) n (k .reads) in
-      omega (arith, depth-node (k .node), l)
-
-pub tree-deep : (ws pairs : List ℕ) (at : ℕ) {t : Ty ℕ} {n : ℕ} → treeAt ws pairs at ≡ got t n → depth t ≤ 64
-tree-deep ws pairs at {t} {n} e = within (nameCount pairs) ws 64 at t n e

@@ -6,11 +6,9 @@ use native.Mathlib.Omega.{arith}
 use lib.ListN.{length, take, drop, length-append}
 use Rattle.rast.specs.Bytes.{Bytes}
 use Rattle.rast.specs.Tree.{Ty, Tys, nil, cons}
-use Rattle.encoding.specs.declared.Refusal.{Refusal}
-use Rattle.encoding.specs.declared.Head.{Head}
-use Rattle.encoding.specs.Reading.{Reading, got, stop}
+use Rattle.encoding.specs.Reading.{Reading, got}
 use Rattle.encoding.specs.Tables.{nameBytes, nameCount}
-use Rattle.encoding.specs.Heads.{readHead, kids}
+use Rattle.encoding.specs.Heads.{readHead, kids, typesBelow, ownEnd}
 use Rattle.encoding.specs.Types.{readTypes}
 use Rattle.encoding.proofs.Tables.{impossible}
 use Rattle.encoding.proofs.Inside.{head-lies}
@@ -19,7 +17,7 @@ use Rattle.trees.specs.Encode.{count, tokensAll, encode, encodeAll, words, word
 use Rattle.trees.specs.Numbered.{treeAt}
 use Rattle.trees.proofs.Nodes.{Below, First, types-count, first-type}
 use Rattle.trees.proofs.Spans.{node-spells, encode-cons}
-use Rattle.trees.proofs.Heads.{tree-head, tree-below}
+use Rattle.trees.proofs.Heads.{tree-below}
 use Rattle.trees.proofs.Renaming.{tree-run, encode-words, encode-all, words-some}
 use Rattle.writing.specs.Written.{Readable}
 use Rattle.replace.specs.Same.{sameBy}
@@ -29,6 +27,7 @@ use Rattle.replace.specs.Rules.{Rule, rulesOf, mappingOf}
 use Rattle.replace.proofs.Nodes.{replaces-count, replace-node, peak-node, depth-node, peak-least, depth-words}
 use Rattle.rules.specs.declared.Found.{Found}
 use Rattle.rules.specs.Table.{toWords, foundFrom, RuleAt}
+use Rattle.rules.proofs.Depths.{Worded, tree-words}
 use Rattle.rules.proofs.Tables.{to-encoded, GivesWay, ways, stays as keeps, found-trees}
 use Rattle.rebuild.specs.declared.Settling.{Settling}
 use Rattle.rebuild.specs.declared.Settling.the-variants.{Settled, Overfull}
@@ -98,28 +97,37 @@ filled {code = code} {top} {deep} {limit} {o} {p} {x} {o′} {a = a} k e d = go 
 
 -- ---- a type, by its head
 
-module _ (ws pairs : List ℕ) (at : ℕ) (m : Ty ℕ → Ty ℕ) {t : Ty ℕ} {n : ℕ} (e : treeAt ws pairs at ≡ got t n) {h : Head} {q : ℕ} (f : readHead (nameCount pairs) ws at ≡ got h q) where
+module _ (ws pairs : List ℕ) (at : ℕ) (m : Ty ℕ → Ty ℕ) {t : Ty ℕ} {n : ℕ} (e : treeAt ws pairs at ≡ got t n) {q : ℕ} (f : q ≡ ownEnd ws at) where
+  abbrev here : Worded ws pairs at e
+  here = tree-words ws pairs at e
+
+  begins : readHead (nameCount pairs) ws at ≡ got (here .head) q
+  begins = here .reads ∙ ap (got (here .head)) (sym f)
+
   abbrev own : List ℕ
   own = take (q - at) (drop at ws)
 
-  pub inner : Below ws (λ x. x) (treeAt ws pairs) h q t n
-  inner = tree-below ws pairs at e f
+  pub inner : Below ws (λ x. x) (treeAt ws pairs) (here .head) q t n
+  inner = tree-below ws pairs at e begins
 
-  pub own-fits : (at ≤ q) × (q ≤ length ws)
-  own-fits = let l = head-lies (nameCount pairs) ws at f in (omega (arith, l .starts), l .ends)
+  pub own-fits : (at < q) × (q ≤ length ws)
+  own-fits = let l = head-lies (nameCount pairs) ws at begins in (l .starts, l .ends)
 
   own-length : length own ≡ q - at
   own-length = part-length ws at (q - at) (omega (arith, own-fits .0, own-fits .1))
 
-  pub below-reads : Readable (readTypes (treeAt ws pairs) (kids h) q)
-  below-reads = record { value = inner .types; end = n; reads = inner .reads }
+  counts : count (inner .types) ≡ kids (here .head)
+  counts = types-count (treeAt ws pairs) (kids (here .head)) q (inner .reads)
 
-  counts : count (inner .types) ≡ kids h
-  counts = types-count (treeAt ws pairs) (kids h) q (inner .reads)
+  types-below : {k : ℕ} → k ≡ typesBelow ws at → readTypes (treeAt ws pairs) k q ≡ got (inner .types) n
+  types-below g = rw (g ∙ here .many) (inner .reads)
+
+  pub below-reads : {k : ℕ} → k ≡ typesBelow ws at → Readable (readTypes (treeAt ws pairs) k q)
+  below-reads g = record { value = inner .types; end = n; reads = types-below g }
 
   words-split : words t ≡ (q - at) + wordsAll (inner .types)
   words-split =
-      let s = node-spells (nameCount pairs) ws at f (inner .node) counts in
+      let s = node-spells (nameCount pairs) ws at begins (inner .node) counts in
       omega (arith, ap length s, length-append own (encodeAll (inner .types)), own-length, encode-words t, encode-all (inner .types))
 
   peak-split : peak m t ≡ max ((q - at) + peaks m (inner .types)) (words (Replace m t))
@@ -129,7 +137,7 @@ module _ (ws pairs : List ℕ) (at : ℕ) (m : Ty ℕ → Ty ℕ) {t : Ty ℕ} {
   built = replace-node m (inner .node) .built
 
   built-spells : encode built ≡ own ++ encodeAll (Replaces m (inner .types))
-  built-spells = node-spells (nameCount pairs) ws at f (replace-node m (inner .node) .node) (replaces-count m (inner .types) ∙ counts)
+  built-spells = node-spells (nameCount pairs) ws at begins (replace-node m (inner .node) .node) (replaces-count m (inner .types) ∙ counts)
 
   built-deep : depth built ≡ 1 + deepest (Replaces m (inner .types))
   built-deep = depth-node (replace-node m (inner .node) .node)
@@ -139,10 +147,10 @@ module _ (ws pairs : List ℕ) (at : ℕ) (m : Ty ℕ → Ty ℕ) {t : Ty ℕ} {
   own-over {limit} {p} h k = let g : limit < p + peak m t = omega (arith, h, own-length, peak-split) in full e g k
 
   -- the types below do not fit
-  pub below-full : {limit p p₁ : ℕ} {o o₁ o₂ : List ℕ} {r : Rebuilt} → Grown o p own o₁ p₁ → TypesRebuild m limit o₁ p₁ (readTypes (treeAt ws pairs) (kids h) q) o₂ r → r ≡ Full
+  pub below-full : {k limit p p₁ : ℕ} {o o₁ o₂ : List ℕ} {r : Rebuilt} → k ≡ typesBelow ws at → Grown o p own o₁ p₁ → TypesRebuild m limit o₁ p₁ (readTypes (treeAt ws pairs) k q) o₂ r → r ≡ Full
       → TypeRebuilds m limit o p (treeAt ws pairs at) o₂ Full
-  below-full {limit} {p} {p₁} g k d =
-      let b = filled k d (inner .reads) in
+  below-full {limit = limit} {p} {p₁} c g k d =
+      let b = filled k d (types-below c) in
       let s : limit < p + peak m t = omega (arith, b .0, g .next, own-length, peak-split) in
       full e s (b .1 ∙ g .kept)
 
@@ -155,12 +163,12 @@ module _ (ws pairs : List ℕ) (at : ℕ) (m : Ty ℕ → Ty ℕ) {t : Ty ℕ} {
     pub end : n′ ≡ n
     pub small : d + 1 ≤ limit
 
-  pub finished : {limit p p₁ n′ q′ d : ℕ} {o o₁ o₂ : List ℕ} {r : Rebuilt} → Grown o p own o₁ p₁ → TypesRebuild m limit o₁ p₁ (readTypes (treeAt ws pairs) (kids h) q) o₂ r → r ≡ Done n′ q′ d
+  pub finished : {k limit p p₁ n′ q′ d : ℕ} {o o₁ o₂ : List ℕ} {r : Rebuilt} → k ≡ typesBelow ws at → Grown o p own o₁ p₁ → TypesRebuild m limit o₁ p₁ (readTypes (treeAt ws pairs) k q) o₂ r → r ≡ Done n′ q′ d
       → Finished limit p o o₂ n′ q′ d
-  finished {limit} {p} {p₁} {n′} {q′} {d} {o} {o₁} {o₂} g k c =
+  finished {limit = limit} {p} {p₁} {n′} {q′} {d} {o} {o₁} {o₂} h g k c =
       let b = came k c in
-      let i : b .value ≡ inner .types = (let x = inner .reads in let y = b .reads in cc) in
-      let j : n′ ≡ n = (let x = inner .reads in let y = b .reads in cc) in
+      let i : b .value ≡ inner .types = (let x = types-below h in let y = b .reads in cc) in
+      let j : n′ ≡ n = (let x = types-below h in let y = b .reads in cc) in
       let w : Grown o₁ p₁ (encodeAll (Replaces m (inner .types))) o₂ q′ = subst (λ ts. Grown o₁ p₁ (encodeAll (Replaces m ts)) o₂ q′) i (b .grown) in
       let v : Grown o p (encode built) o₂ q′ = rw built-spells (grown-then g w) in
       let z : d + 1 ≡ depth built = omega (arith, b .deeps, ap (λ ts. deepest (Replaces m ts)) i, built-deep) in
@@ -191,10 +199,6 @@ module _ (ws pairs : List ℕ) (at : ℕ) (m : Ty ℕ → Ty ℕ) {t : Ty ℕ} {
     where
       go : Ends (m built) limit o p o₃ Overfull → TypeRebuilds m limit o p (treeAt ws pairs at) o₃ Full
       go (overfull w l) = let s : limit < p + peak m t = omega (arith, peak-split, w, encode-words (m built), ap words gives-built) in full e s l
-
--- there is a head where a type stands
-pub no-head : (ws pairs : List ℕ) (at : ℕ) {t : Ty ℕ} {n : ℕ} {k : Refusal} → treeAt ws pairs at ≡ got t n → readHead (nameCount pairs) ws at ≡ stop k → ⊥
-no-head ws pairs at e d = let h = tree-head ws pairs at e in impossible (let r = h .reads in cc)
 
 -- ---- types one after the other
 

@@ -11,7 +11,6 @@ ghost use Rattle.writing.specs.Written.{Readable};
 ghost use Rattle.rules.specs.Table.{Fits, foundFrom};
 ghost use Rattle.rebuild.specs.Laid.{Lays, GivesTo, Settles, Ruled, mapping, TypeRebuilds, TypesRebuild};
 ghost use Rattle.rebuild.specs.Calls.{zeros, laidDown};
-use encoding::HeadScan;
 use encoding::Refusal;
 use rules::Found;
 
@@ -156,14 +155,11 @@ pub fn rebuild_type(
     ensures { λ r. ⌜ TypeRebuilds (mapping (now (rules .entry)) (now (pairs .entry)) (now (text .entry))) limit (now (out .entry)) pos
         (treeAt (now (words .entry)) (now (pairs .entry)) at) (now (out .exit)) r ⌝ }
 {
-    let bound = encoding::name_count(pairs);
-    let HeadScan::Own { head, next } = encoding::scan_head(words, bound, at) else {
-        return Rebuilt::Full;
-    };
+    let next = encoding::own_end(words, at);
     let Laying::To(p) = lay(words, at, next - at, out, pos, limit) else {
         return Rebuilt::Full;
     };
-    let kids = encoding::kids_of(head);
+    let kids = encoding::types_below(words, at);
     match rebuild_types(
         words,
         pairs,

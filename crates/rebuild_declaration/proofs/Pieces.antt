@@ -34,7 +34,7 @@ encode-append : (ps qs : List (Piece ℕ)) → encodePieces (ps ++ qs) ≡ encod
 unfolding encodePieces
 encode-append ps qs = ap (map tokenWord) (runs-append pieceTokens ps qs) ∙ map-append tokenWord (runs pieceTokens ps) (runs pieceTokens qs)
 
-deepest-append : (ps qs : List (Piece ℕ)) → deepestPiece (ps ++ qs) ≡ max (deepestPiece ps) (deepestPiece qs)
+pub deepest-append : (ps qs : List (Piece ℕ)) → deepestPiece (ps ++ qs) ≡ max (deepestPiece ps) (deepestPiece qs)
 unfolding deepestPiece
 deepest-append [] qs = omega arith
 deepest-append (own k ∷ ps) qs = deepest-append ps qs

@@ -1,3 +1,4 @@
 pub mod Wholes
+pub mod Depths
 pub mod NoRules
 pub mod Examples

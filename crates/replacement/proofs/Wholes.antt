@@ -1,6 +1,6 @@
 -- A type and a declaration alike: where they end, and what the call answers.
 use Prim.Native.Nat.{ℕ}
-use mathlib.Core.Path.{_≡_, refl, ap, sym, _∙_}
+use mathlib.Core.Path.{_≡_, refl, ap, sym, _∙_, subst}
 use mathlib.Core.List.{List}
 use lib.ListN.{length}
 use Rattle.rast.specs.Bytes.{Bytes}
@@ -23,10 +23,11 @@ use Rattle.writing.specs.Written.{Readable}
 use Rattle.replace.specs.Rules.{rulesOf, mappingOf}
 use Rattle.pieces.proofs.RenamedReading.{declaration-spelled}
 use Rattle.rules.proofs.Lists.{measured-tree, measured-no-tree}
+use Rattle.rebuild.specs.declared.Attempt.{Attempt}
 use Rattle.rebuild.specs.declared.RebuildAnswer.{RebuildAnswer}
 use Rattle.rebuild.specs.declared.RebuildAnswer.the-variants.{Refused}
 use Rattle.rebuild.specs.Laid.{ruleList, mapping}
-use Rattle.rebuild.specs.Calls.{Laid, laidDown, laidType, Fills}
+use Rattle.rebuild.specs.Calls.{Laid, laidDown, laidType, Attempted, Fills}
 use Rattle.rebuild.proofs.Calls.{tree-stops, tree-over, rules-stop-it, whole-filled}
 use Rattle.rebuild_declaration.specs.Calls.{declarationIn, laidDeclaration}
 use Rattle.replacement.specs.declared.Whole.{Whole}
@@ -40,7 +41,7 @@ unfolding mapReading
 ended-mapped f (got a n) = refl
 ended-mapped f (stop k) = refl
 
-ends-got : {A : Type 0} (f : A → Laid) (x : Reading A) {n : ℕ} → ended (mapReading f x) ≡ At n → (a : A) × (x ≡ got a n)
+pub ends-got : {A : Type 0} (f : A → Laid) (x : Reading A) {n : ℕ} → ended (mapReading f x) ≡ At n → (a : A) × (x ≡ got a n)
 unfolding mapReading
 ends-got f (got a m) {n} e = let i : m ≡ n = cc in (a, ap (got a) i)
 ends-got f (stop k) e = impossible (cc)
@@ -64,6 +65,11 @@ pub declaration-ends : (what : Whole) (ws pairs : List ℕ) (text : Bytes) (m : 
 declaration-ends what ws pairs text m w e =
     e ∙ ap ended (declaration-spelled ws pairs text 0) ∙ ended-mapped _ (declarationIn ws pairs) ∙ sym (ended-mapped (laidDeclaration m) (declarationIn ws pairs))
     ∙ ap (λ x. ended (laidBy x ws pairs m)) (sym w)
+
+-- ---- the answer of an attempt
+
+pub limit-is : {i j : ℕ} {x : Reading Laid} {o o′ : List ℕ} {a : Attempt} → i ≡ j → Attempted i x o o′ a → Attempted j x o o′ a
+limit-is {x = x} {o = o} {o′ = o′} {a = a} e k = subst (λ l. Attempted l x o o′ a) e k
 
 -- ---- the answers of the call
 

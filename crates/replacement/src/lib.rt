@@ -1,14 +1,18 @@
 // A type and a declaration rebuilt by rules, into a lent buffer of words.
 ghost use mathlib.Core.Path.{_≡_};
-ghost use Prim.Native.Nat.{_≤_};
+ghost use Prim.Native.Nat.{_≤_, min};
+ghost use mathlib.Core.Bool.{true};
+ghost use mathlib.Core.List.{[], _∷_};
 ghost use lib.ListN.{length};
+ghost use Rattle.encoding.specs.Refusals.{given, unless};
 ghost use Rattle.encoding.specs.Scans.{ended};
 ghost use Rattle.encoding.specs.Tables.{Good};
 ghost use Rattle.writing.specs.Written.{Readable};
+ghost use Rattle.replace.specs.Rules.{checkAll};
 ghost use Rattle.rebuild.specs.Laid.{Ruled, mapping};
-ghost use Rattle.rebuild.specs.Calls.{roomOf, laidDown, typeRebuilt, LaidRebuilds, Attempted, Fills};
+ghost use Rattle.rebuild.specs.Calls.{laidDown, typeRebuilt, LaidRebuilds, Attempted, Fills};
 ghost use Rattle.rebuild_declaration.specs.Calls.{declarationRebuilt};
-ghost use Rattle.replacement.specs.Wholes.{laidBy, wholeRebuilt};
+ghost use Rattle.replacement.specs.Wholes.{laidBy, wholeRebuilt, sameWords};
 use encoding::Check;
 use encoding::Refusal;
 use encoding::Scan;
@@ -82,13 +86,13 @@ fn attempt(
     table: &[usize; 128],
     k: usize,
     scratch: &mut [u32],
-    limit: usize,
     out: &mut [u32],
 ) -> Attempt
     requires { ⌜ Good (now pairs) (now text) × Ruled (now rules) (now pairs) (now text) (now table) k × Readable (laidBy what (now words) (now pairs) (mapping (now rules) (now pairs) (now text)))
-        × (limit ≤ length (now scratch)) × (limit ≤ roomOf (now out)) ⌝ }
-    ensures { λ r. ⌜ Attempted limit (laidBy what (now (words .entry)) (now (pairs .entry)) (mapping (now (rules .entry)) (now (pairs .entry)) (now (text .entry)))) (now (out .entry)) (now (out .exit)) r ⌝ }
+        × (length (now scratch) ≤ 8192) ⌝ }
+    ensures { λ r. ⌜ Attempted (min (length (now (out .entry))) (length (now (scratch .entry)))) (laidBy what (now (words .entry)) (now (pairs .entry)) (mapping (now (rules .entry)) (now (pairs .entry)) (now (text .entry)))) (now (out .entry)) (now (out .exit)) r ⌝ }
 {
+    let limit = rebuild::room_of(out.len(), scratch.len());
     match rebuild_whole(what, words, pairs, text, rules, table, k, scratch, limit) {
         Rebuilt::Done {
             next: _,
@@ -114,19 +118,7 @@ fn fill_large(
     ensures { λ r. ⌜ Fills (laidBy what (now (words .entry)) (now (pairs .entry)) (mapping (now (rules .entry)) (now (pairs .entry)) (now (text .entry)))) (now (out .entry)) (now (out .exit)) r ⌝ }
 {
     let mut scratch = [0u32; 8192];
-    let limit = rebuild::room_of(out.len(), 8192);
-    match attempt(
-        what,
-        words,
-        pairs,
-        text,
-        rules,
-        table,
-        k,
-        &mut scratch,
-        limit,
-        out,
-    ) {
+    match attempt(what, words, pairs, text, rules, table, k, &mut scratch, out) {
         Attempt::Answered(answer) => answer,
         Attempt::NoRoom => {
             rebuild::clear(out);
@@ -150,25 +142,35 @@ fn fill(
     ensures { λ r. ⌜ Fills (laidBy what (now (words .entry)) (now (pairs .entry)) (mapping (now (rules .entry)) (now (pairs .entry)) (now (text .entry)))) (now (out .entry)) (now (out .exit)) r ⌝ }
 {
     let mut scratch = [0u32; 128];
-    let limit = rebuild::room_of(out.len(), 128);
-    match attempt(
-        what,
-        words,
-        pairs,
-        text,
-        rules,
-        table,
-        k,
-        &mut scratch,
-        limit,
-        out,
-    ) {
+    match attempt(what, words, pairs, text, rules, table, k, &mut scratch, out) {
         Attempt::Answered(answer) => answer,
         Attempt::NoRoom => { fill_large(what, words, pairs, text, rules, table, k, out) },
     }
 }
 
-// The tables hold: the tree is read, then the rules, and then the tree is rebuilt.
+// Whether a list says that it holds no rule.
+fn holds_no_rule(rules: &[u32]) -> bool
+    ensures { λ r. ⌜ (r ≡ true → now (rules .entry) ≡ 0 ∷ []) ⌝ }
+{
+    if rules.len() != 1 {
+        return false;
+    }
+    rules[0] == 0
+}
+
+// Without rules the words come back as they are. The tree was accepted, so it is not too deep.
+fn copy_unaltered(words: &[u32], out: &mut [u32]) -> RebuildAnswer
+    requires { ⌜ length (now words) ≤ 8192 ⌝ }
+    ensures { λ r. ⌜ (r, now (out .exit)) ≡ laidDown (now (out .entry)) (given (sameWords (now (words .entry)) 0)) ⌝ }
+{
+    if out.len() < words.len() {
+        rebuild::clear(out);
+        return RebuildAnswer::Refused(Refusal::BufferTooShort);
+    }
+    rebuild::finish(words, words.len(), 0, out)
+}
+
+// The tables hold: the tree is read, then the rules, and then the tree is rebuilt. Without rules there is nothing to rebuild.
 fn read_and_fill(
     what: Whole,
     words: &[u32],
@@ -185,6 +187,9 @@ fn read_and_fill(
             if end != words.len() {
                 return RebuildAnswer::Refused(Refusal::LeftOver);
             }
+            if holds_no_rule(rules) {
+                return copy_unaltered(words, out);
+            }
             let mut table = [0usize; 128];
             match rules::read_rules(rules, pairs, text, &mut table) {
                 RulesAnswer::Rules(k) => fill(what, words, pairs, text, rules, &table, k, out),
@@ -192,6 +197,24 @@ fn read_and_fill(
             }
         }
         Scan::Refused(r) => RebuildAnswer::Refused(r),
+    }
+}
+
+// The tables are tested first, those of the rules with those of the tree.
+fn rebuild_by(
+    what: Whole,
+    words: &[u32],
+    pairs: &[u32],
+    text: &[u8],
+    rules: &[u32],
+    out: &mut [u32],
+) -> RebuildAnswer
+    ensures { λ r. ⌜ (r, now (out .exit)) ≡ laidDown (now (out .entry))
+        (unless (checkAll (now (words .entry)) (now (rules .entry)) (now (pairs .entry)) (now (text .entry))) (wholeRebuilt what (now (words .entry)) (now (pairs .entry)) (now (text .entry)) (now (rules .entry)))) ⌝ }
+{
+    match rules::check_all(words, rules, pairs, text) {
+        Check::Passed => read_and_fill(what, words, pairs, text, rules, out),
+        Check::Failed(r) => RebuildAnswer::Refused(r),
     }
 }
 
@@ -205,10 +228,7 @@ pub fn type_rebuild(
 ) -> RebuildAnswer
     ensures { λ r. ⌜ (r, now (out .exit)) ≡ laidDown (now (out .entry)) (typeRebuilt (now (words .entry)) (now (pairs .entry)) (now (text .entry)) (now (rules .entry))) ⌝ }
 {
-    match rules::check_all(words, rules, pairs, text) {
-        Check::Passed => read_and_fill(Whole::AType, words, pairs, text, rules, out),
-        Check::Failed(r) => RebuildAnswer::Refused(r),
-    }
+    rebuild_by(Whole::AType, words, pairs, text, rules, out)
 }
 
 // The declaration that an encoding holds, each of its types rebuilt: `RASTBottomUpReplacer`. Its words fill the front of `out`.
@@ -221,8 +241,5 @@ pub fn declaration_rebuild(
 ) -> RebuildAnswer
     ensures { λ r. ⌜ (r, now (out .exit)) ≡ laidDown (now (out .entry)) (declarationRebuilt (now (words .entry)) (now (pairs .entry)) (now (text .entry)) (now (rules .entry))) ⌝ }
 {
-    match rules::check_all(words, rules, pairs, text) {
-        Check::Passed => read_and_fill(Whole::ADeclaration, words, pairs, text, rules, out),
-        Check::Failed(r) => RebuildAnswer::Refused(r),
-    }
+    rebuild_by(Whole::ADeclaration, words, pairs, text, rules, out)
 }

@@ -5,14 +5,13 @@ use mathlib.Core.List.{List}
 use native.Mathlib.Omega.{arith}
 use lib.ListN.{length}
 use Rattle.rast.specs.Tree.{Ty, Tys, nil, cons}
-use Rattle.encoding.specs.declared.Refusal.{Refusal}
 use Rattle.encoding.specs.declared.Head.{Head}
 use Rattle.encoding.specs.Tables.{nameCount}
-use Rattle.encoding.specs.Reading.{Reading, got, stop}
-use Rattle.encoding.specs.Heads.{readHead, kids}
+use Rattle.encoding.specs.Reading.{Reading, got}
+use Rattle.encoding.specs.Heads.{readHead, kids, HeadHere, typesBelow, ownEnd}
 use Rattle.encoding.specs.Types.{readTypes}
-use Rattle.encoding.proofs.Tables.{impossible}
 use Rattle.encoding.proofs.Inside.{head-lies}
+use Rattle.encoding.proofs.HeadWords.{words-kids, words-end}
 use Rattle.trees.specs.Numbered.{treeAt}
 use Rattle.trees.proofs.Nodes.{first-type}
 use Rattle.trees.proofs.Heads.{tree-head, tree-below}
@@ -22,6 +21,21 @@ use Rattle.replace.specs.Laying.{depth, deepest}
 use Rattle.replace.proofs.Nodes.{depth-node, depth-words}
 use Rattle.rules.specs.declared.Deep.{Deep}
 use Rattle.rules.specs.Scans.{Deepens}
+
+-- where a type stands, a head stands, and its words say where it ends and how many types follow
+module _ (ws pairs : List ℕ) (at : ℕ) {t : Ty ℕ} {n : ℕ} (e : treeAt ws pairs at ≡ got t n) where
+  pub head-here : HeadHere ws at
+  head-here = let h = tree-head ws pairs at e in record { bound = nameCount pairs; head = h .head; next = h .own; reads = h .reads }
+
+  pub record Worded : Type 0 where
+    pub head : Head
+    pub reads : readHead (nameCount pairs) ws at ≡ got head (ownEnd ws at)
+    pub many : typesBelow ws at ≡ kids head
+
+  pub tree-words : Worded
+  tree-words =
+      let h = tree-head ws pairs at e in
+      record { head = h .head; reads = rw (words-end (nameCount pairs) ws at (h .reads)) (h .reads); many = words-kids (nameCount pairs) ws at (h .reads) }
 
 -- a pass over the types of x: those from `place` on are left, and those before it are `found` deep
 pub record Deepening (ws pairs : List ℕ) (x : Reading (Tys ℕ)) (place found left : ℕ) : Type 0 where
@@ -58,35 +72,37 @@ module _ (ws pairs : List ℕ) (at n : ℕ) where
       record { types = d .types; reads = d .whole ∙ ap (got (d .types)) (sym j); depth = omega (arith, s); small = d .small }
 
 module _ {ws pairs : List ℕ} {x : Reading (Tys ℕ)} {place found left : ℕ} (h : 0 < left) (d : Deepening ws pairs x place found left) where
-  -- there is a head where a type is due
-  pub head-due : {k : Refusal} → readHead (nameCount pairs) ws place ≡ stop k → ⊥
-  head-due e =
-      let f = first-type (treeAt ws pairs) left place h (d .reads) in
-      let t = tree-head ws pairs place (f .first) in
-      impossible (let r = t .reads in cc)
+  -- the head that is due
+  pub head-due : HeadHere ws place
+  head-due = head-here ws pairs place (first-type (treeAt ws pairs) left place h (d .reads) .first)
 
-  -- the types below the head that is due
-  pub record Inner (q : ℕ) (hd : Head) : Type 0 where
-    pub inside : q ≤ length ws
-    pub readable : Readable (readTypes (treeAt ws pairs) (kids hd) q)
-    pub ahead : place < q
-    pub small : (r : Deep) → Deepens (readTypes (treeAt ws pairs) (kids hd) q) (length ws) r → r .depth + 1 ≤ length ws
-    pub past : (r : Deep) → Deepens (readTypes (treeAt ws pairs) (kids hd) q) (length ws) r → place ≤ r .next
-    pub next : (r : Deep) (m : ℕ) → Deepens (readTypes (treeAt ws pairs) (kids hd) q) (length ws) r → m ≡ max found (r .depth + 1) → Deepening ws pairs x (r .next) m (left - 1)
+  -- the types below it
+  abbrev below-due : Reading (Tys ℕ)
+  below-due = readTypes (treeAt ws pairs) (typesBelow ws place) (ownEnd ws place)
 
-  pub inner : {q : ℕ} {hd : Head} → readHead (nameCount pairs) ws place ≡ got hd q → Inner q hd
+  pub record Inner : Type 0 where
+    pub inside : ownEnd ws place ≤ length ws
+    pub readable : Readable below-due
+    pub ahead : place < ownEnd ws place
+    pub small : (r : Deep) → Deepens below-due (length ws) r → r .depth + 1 ≤ length ws
+    pub past : (r : Deep) → Deepens below-due (length ws) r → place ≤ r .next
+    pub next : (r : Deep) (m : ℕ) → Deepens below-due (length ws) r → m ≡ max found (r .depth + 1) → Deepening ws pairs x (r .next) m (left - 1)
+
+  pub inner : Inner
   unfolding deepest
-  inner {q} {hd} e =
+  inner =
       let f = first-type (treeAt ws pairs) left place h (d .reads) in
-      let b = tree-below ws pairs place (f .first) e in
-      let l = head-lies (nameCount pairs) ws place e in
+      let v = tree-words ws pairs place (f .first) in
+      let b = tree-below ws pairs place (f .first) (v .reads) in
+      let l = head-lies (nameCount pairs) ws place (v .reads) in
       let w = tree-run ws pairs place (d .inside) (f .first) in
       let fits : f .middle ≤ length ws = omega (arith, w .1, w .0 .ends, encode-words (f .type)) in
-      let deep : (r : Deep) → Deepens (readTypes (treeAt ws pairs) (kids hd) q) (length ws) r → (r .depth + 1 ≡ depth (f .type)) × (r .next ≡ f .middle) =
-      λ r k. deep-same (readTypes (treeAt ws pairs) (kids hd) q) r k (b .types) (b .reads) (f .type) (depth-node (b .node)) in
+      let below : below-due ≡ got (b .types) (f .middle) = rw (v .many) (b .reads) in
+      let deep : (r : Deep) → Deepens below-due (length ws) r → (r .depth + 1 ≡ depth (f .type)) × (r .next ≡ f .middle) =
+      λ r k. deep-same below-due r k (b .types) below (f .type) (depth-node (b .node)) in
       record {
         inside = l .ends;
-        readable = record { value = b .types; end = f .middle; reads = b .reads };
+        readable = record { value = b .types; end = f .middle; reads = below };
         ahead = l .starts;
         small = λ r k. omega (arith, deep r k .0, depth-words (f .type), w .1, w .0 .ends, encode-words (f .type));
         past = λ r k. omega (arith, deep r k .1, w .1);

@@ -12,7 +12,6 @@ ghost use Rattle.writing.specs.Written.{Readable};
 ghost use Rattle.rules.specs.Table.{entered, fromWords, foundFrom, amongFrom, repeatedFrom, Fits};
 ghost use Rattle.rules.specs.Scans.{Deepens, RuleRead, Listed, RulesRead};
 use encoding::Check;
-use encoding::HeadScan;
 use encoding::Refusal;
 use encoding::Scan;
 use encoding::WordScan;
@@ -48,15 +47,16 @@ pub fn deepest(words: &[u32], pairs: &[u32], at: usize, n: usize) -> Deep
     requires { ⌜ (at ≤ length (now words)) × Readable (readTypes (treeAt (now words) (now pairs)) n at) ⌝ }
     ensures { λ r. ⌜ Deepens (readTypes (treeAt (now (words .entry)) (now (pairs .entry))) n at) (length (now (words .entry))) r ⌝ }
 {
-    let bound = encoding::name_count(pairs);
     let mut place = at;
     let mut depth = 0;
     let mut left = n;
     while 0 < left {
-        let HeadScan::Own { head, next } = encoding::scan_head(words, bound, place) else {
-            return Deep { next: place, depth };
-        };
-        let below = deepest(words, pairs, next, encoding::kids_of(head));
+        let below = deepest(
+            words,
+            pairs,
+            encoding::own_end(words, place),
+            encoding::types_below(words, place),
+        );
         depth = larger(depth, below.depth + 1);
         place = below.next;
         left -= 1;
