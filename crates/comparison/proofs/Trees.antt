@@ -2,12 +2,12 @@
 use Prim.Native.Nat.{ℕ, zero, suc, _-_}
 use mathlib.Core.Path.{_≡_, refl, ap, sym, _∙_}
 use mathlib.Core.Bool.{Bool, true, false}
-use mathlib.Core.List.{List, [], _∷_, _++_, map, append-assoc, append-nil}
+use mathlib.Core.List.{List, [], _∷_, _++_, map, map-append, append-assoc, append-nil}
 use mathlib.Core.Option.{some, none}
 use native.Mathlib.Omega.{arith}
 use borrow.Author.Tests.{eqb-true, ne-eqb, lt-ltb}
 use lib.Dec.{ltb}
-use lib.ListN.{length}
+use lib.ListN.{length, length-map}
 use Rattle.rast.specs.Bytes.{Bytes, _and_}
 use Rattle.rast.specs.Tree.{Path, Global, Crate, Self, PMemberSelect, PrimitiveTy, U8, U16, U32, U64, U128, I8, I16, I32, I64, I128, USIZE, Bool·, Ty, Tys, Primitive, TIdentifier, TypeFromPath, TypeApp, Borrowed, BorrowedMut, ImplType, DynType, TupleType, FnType, IntersectionType, Array, TSynonym, TMetaData, nil, cons}
 use Rattle.trees.specs.Renamed.{renamedPath, renamedSize, renamed, renamedAll}
@@ -123,10 +123,6 @@ primitive-read Bool· = refl
 Back : List (Token ℕ) → Type 0
 Back xs = (rest : List ℕ) → tokensFrom Kind (map tokenWord xs ++ rest) ≡ xs ++ tokensFrom Kind rest
 
-map-append : {A B : Type 0} (f : A → B) (xs ys : List A) → map f (xs ++ ys) ≡ map f xs ++ map f ys
-map-append f [] ys = refl
-map-append f (x ∷ xs) ys = ap (λ l. f x ∷ l) (map-append f xs ys)
-
 two-back : (xs ys : List (Token ℕ)) → Back xs → Back ys → Back (xs ++ ys)
 unfolding Back
 two-back xs ys h k rest =
@@ -195,15 +191,11 @@ module _ {M N : Type 0} (f : M → N) where
   path-names Self = refl
   path-names (PMemberSelect p x) = ap (λ l. l ++ (f x ∷ [])) (path-names p) ∙ sym (map-append f (names p) (x ∷ []))
 
-  map-length : (xs : List M) → length (map f xs) ≡ length xs
-  map-length [] = refl
-  map-length (x ∷ xs) = ap suc (map-length xs)
-
   path-renamed : (p : Path M) → pathTokens (renamedPath f p) ≡ map (renamedToken f) (pathTokens p)
   unfolding pathTokens renamedToken
   path-renamed p =
       let e = path-names p in
-      let l : length (names (renamedPath f p)) ≡ length (names p) = ap length e ∙ map-length (names p) in
+      let l : length (names (renamedPath f p)) ≡ length (names p) = ap length e ∙ length-map (names p) f in
       rw (root-renamed p, l, e) (ap (λ l. word (rootWord p) ∷ word (length (names p)) ∷ l) (names-renamed (names p)))
 
   two-renamed : {xs ys : List (Token N)} (us vs : List (Token M)) → xs ≡ map (renamedToken f) us → ys ≡ map (renamedToken f) vs → xs ++ ys ≡ map (renamedToken f) (us ++ vs)

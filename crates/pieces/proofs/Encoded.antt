@@ -2,7 +2,7 @@
 use Prim.Native.Nat.{ℕ, zero, suc, _+_, _<_}
 use mathlib.Core.Path.{_≡_, refl, ap, sym, _∙_}
 use mathlib.Core.Bool.{Bool, true, false}
-use mathlib.Core.List.{List, [], _∷_, _++_, map, append-nil, append-assoc}
+use mathlib.Core.List.{List, [], _∷_, _++_, map, map-append, append-nil, append-assoc}
 use native.Mathlib.Omega.{arith}
 use borrow.Author.Tests.{eqb-true}
 use lib.Dec.{eqb}
@@ -26,7 +26,7 @@ use Rattle.writing.proofs.Accepted.{below-there}
 use Rattle.pieces.specs.Pieces.{Piece, own, visibilityWord, runs, attributesTokens, titleTokens, useTokens, owned, counted, typePiece, parameterPieces, fieldPieces, namelessPieces, fieldsPieces, casePieces, heading, front, rest, pieces, pieceTokens, declarationTokens, encodeDeclaration}
 use Rattle.pieces.proofs.Steps.{any-word, below-word, visibility-word}
 use Rattle.pieces.proofs.Openings.{titleThen, title-assoc}
-use Rattle.pieces.proofs.OpeningRuns.{Spelt, Spells, words-append, spelt-inside, spelt-then, spelt-word, spelt-as, counted-spells, name-spells, attributes-spell, path-spells}
+use Rattle.pieces.proofs.OpeningRuns.{Spelt, Spells, spelt-inside, spelt-then, spelt-word, spelt-as, counted-spells, name-spells, attributes-spell, path-spells}
 use Rattle.pieces.proofs.RenamedReading.{numberedAt}
 
 -- ---- the words of pieces
@@ -34,14 +34,14 @@ use Rattle.pieces.proofs.RenamedReading.{numberedAt}
 unfoldable spell : List (Piece ℕ) → List ℕ
 spell ps = map tokenWord (runs pieceTokens ps)
 
-runs-append : {A B : Type 0} (f : A → List B) (xs ys : List A) → runs f (xs ++ ys) ≡ runs f xs ++ runs f ys
+pub runs-append : {A B : Type 0} (f : A → List B) (xs ys : List A) → runs f (xs ++ ys) ≡ runs f xs ++ runs f ys
 unfolding runs
 runs-append f [] ys = refl
 runs-append f (x ∷ xs) ys = ap (λ l. f x ++ l) (runs-append f xs ys) ∙ sym (append-assoc (f x) (runs f xs) (runs f ys))
 
 spell-append : (ps qs : List (Piece ℕ)) → spell (ps ++ qs) ≡ spell ps ++ spell qs
 unfolding spell
-spell-append ps qs = ap (map tokenWord) (runs-append pieceTokens ps qs) ∙ words-append (runs pieceTokens ps) (runs pieceTokens qs)
+spell-append ps qs = ap (map tokenWord) (runs-append pieceTokens ps qs) ∙ map-append tokenWord (runs pieceTokens ps) (runs pieceTokens qs)
 
 spell-own : (k : Token ℕ) (ps : List (Piece ℕ)) → spell (own k ∷ ps) ≡ tokenWord k ∷ spell ps
 unfolding spell runs pieceTokens
@@ -71,7 +71,7 @@ heading-words : (k d : ℕ) (l : List (Attribute ℕ)) (x : ℕ) (ps : List (Typ
 unfolding heading titleTokens counted tokenWord
 heading-words k d l x ps =
     let a = map tokenWord (attributesTokens l) in
-    let b : spell (owned (titleTokens k d l x (length ps))) ≡ k ∷ d ∷ (a ++ (x ∷ length ps ∷ [])) = spell-owned (titleTokens k d l x (length ps)) ∙ ap (λ (i : List ℕ). k ∷ d ∷ i) (words-append (attributesTokens l) (name x ∷ word (length ps) ∷ [])) in
+    let b : spell (owned (titleTokens k d l x (length ps))) ≡ k ∷ d ∷ (a ++ (x ∷ length ps ∷ [])) = spell-owned (titleTokens k d l x (length ps)) ∙ ap (λ (i : List ℕ). k ∷ d ∷ i) (map-append tokenWord (attributesTokens l) (name x ∷ word (length ps) ∷ [])) in
     ap (λ i. k ∷ d ∷ (a ++ (x ∷ i))) (spell-own (word (length ps)) (runs parameterPieces ps))
     ∙ ap (λ i. k ∷ d ∷ i) (sym (append-assoc a (x ∷ length ps ∷ []) (spell (runs parameterPieces ps))))
     ∙ ap (λ i. i ++ spell (runs parameterPieces ps)) (sym b)

@@ -1,27 +1,27 @@
 -- The own words of an opening stand in the words as they are read.
-use Prim.Native.Nat.{ℕ, zero, suc, _+_, _≤_, _<_}
+use Prim.Native.Nat.{ℕ, zero, suc, _+_, _≤_}
 use mathlib.Core.Path.{_≡_, refl, ap, sym, _∙_, subst}
 use mathlib.Core.Bool.{Bool, true, false}
-use mathlib.Core.List.{List, [], _∷_, _++_, map}
+use mathlib.Core.List.{List, [], _∷_, _++_, map, map-append}
 use native.Mathlib.Omega.{arith}
 use borrow.Author.Tests.{eqb-true}
 use lib.Dec.{eqb}
-use lib.ListN.{length, take, drop, length-append, length-map}
-use Rattle.rast.specs.Tree.{MSels, Ty}
+use lib.ListN.{length, length-append, length-map}
+use Rattle.rast.specs.Tree.{Ty}
 use Rattle.rast.specs.Declaration.{Attribute}
 use Rattle.encoding.specs.declared.Refusal.the-variants.{UnknownWord}
-use Rattle.encoding.specs.declared.PathAt.{PathAt}
 use Rattle.encoding.specs.Refusals.{pick}
-use Rattle.encoding.specs.Reading.{Reading, got, stop, readWord, readBelow, readNames}
+use Rattle.encoding.specs.Reading.{Reading, got, stop, readWord, readBelow}
 use Rattle.encoding.specs.Heads.{readPath}
-use Rattle.encoding.specs.Types.{rootOf, pathOf}
+use Rattle.encoding.specs.Types.{pathOf}
 use Rattle.encoding.specs.Declarations.{structHead, enumHead, synonymHead, useHead, readList, readCounted, readName, readAttribute}
 use Rattle.encoding.proofs.Tables.{impossible}
-use Rattle.encoding.proofs.Inside.{path-lies, path-end}
+use Rattle.encoding.proofs.Inside.{There}
 use Rattle.encoding.proofs.Types.{bind-got, made-got, made₂-got}
-use Rattle.trees.specs.Encode.{Token, word, name, tokenWord, rootWord, names, pathTokens}
+use Rattle.trees.specs.Encode.{Token, word, name, tokenWord, pathTokens}
 use Rattle.trees.specs.Runs.{Run}
-use Rattle.trees.proofs.Runs.{run-none, run-join, run-part}
+use Rattle.trees.proofs.Runs.{run-none, run-join}
+use Rattle.trees.proofs.Spans.{path-stands}
 use Rattle.writing.proofs.Accepted.{below-there}
 use Rattle.pieces.specs.declared.After.{After}
 use Rattle.pieces.specs.declared.After.the-variants.{FieldList, CaseList, OneType}
@@ -29,8 +29,7 @@ use Rattle.pieces.specs.Pieces.{runs, attributeTokens, attributesTokens,
 use Rattle.pieces.specs.Walks.{readEntry, Opening, readAttributes, readTitle, readUsing, openingAfter, readOpening}
 use Rattle.pieces.proofs.Scans.{entry}
 use Rattle.pieces.proofs.Ahead.{list-length}
-use Rattle.pieces.proofs.Steps.{Stands, any-word, below-word, one-run, two-run, visibility-word}
-use Rattle.pieces.proofs.Openings.{select-root, select-names, root-same, map-same}
+use Rattle.pieces.proofs.Steps.{any-word, below-word, one-run, two-run, visibility-word}
 
 -- what f reads at a position stands there by its words, and ends behind them
 pub record Spelt (ws : List ℕ) (p : ℕ) (code : List ℕ) (n : ℕ) : Type 0 where
@@ -40,26 +39,10 @@ pub record Spelt (ws : List ℕ) (p : ℕ) (code : List ℕ) (n : ℕ) : Type 0 
 abbrev pub Spells : {A : Type 0} → (A → List ℕ) → List ℕ → (ℕ → Reading A) → Type 0
 Spells {A} code ws f = (p : ℕ) (a : A) (n : ℕ) → p ≤ length ws → f p ≡ got a n → Spelt ws p (code a) n
 
-pub words-append : (ks js : List (Token ℕ)) → map tokenWord (ks ++ js) ≡ map tokenWord ks ++ map tokenWord js
-words-append [] js = refl
-words-append (k ∷ ks) js = ap (_∷_ (tokenWord k)) (words-append ks js)
-
 words-runs : {A : Type 0} (f : A → List (Token ℕ)) (xs : List A) → map tokenWord (runs f xs) ≡ runs (λ x. map tokenWord (f x)) xs
 unfolding runs
 words-runs f [] = refl
-words-runs f (x ∷ xs) = words-append (f x) (runs f xs) ∙ ap (λ l. map tokenWord (f x) ++ l) (words-runs f xs)
-
-name-words : (xs : List ℕ) → map tokenWord (map name xs) ≡ xs
-unfolding tokenWord
-name-words [] = refl
-name-words (x ∷ xs) = ap (_∷_ x) (name-words xs)
-
-root-word : (r : ℕ) → r < 3 → rootWord {N = ℕ} (rootOf r) ≡ r
-unfolding rootWord rootOf
-root-word zero h = refl
-root-word (suc zero) h = refl
-root-word (suc (suc zero)) h = refl
-root-word (suc (suc (suc r))) h = absurd (let z : ⊥ = omega arith in z)
+words-runs f (x ∷ xs) = map-append tokenWord (f x) (runs f xs) ∙ ap (λ l. map tokenWord (f x) ++ l) (words-runs f xs)
 
 got-value : {A : Type 0} {a c : A} {m n : ℕ} → got a m ≡ got c n → a ≡ c
 got-value e = cc
@@ -74,7 +57,7 @@ module _ (ws : List ℕ) where
   pub spelt-then : {p m n : ℕ} (a b : List ℕ) → Spelt ws p a m → Spelt ws m b n → Spelt ws p (a ++ b) n
   spelt-then a b s t = record { run = run-join a b (s .run) (s .end) (t .run); end = omega (arith, s .end, t .end, length-append a b) }
 
-  pub spelt-word : {p x q : ℕ} → Stands ws p x q → Spelt ws p (x ∷ []) q
+  pub spelt-word : {p x q : ℕ} → There ws p x q → Spelt ws p (x ∷ []) q
   spelt-word {p} s = let r = one-run ws p s in record { run = r .0; end = r .1 }
 
   pub spelt-as : {p n : ℕ} {a b : List ℕ} → a ≡ b → Spelt ws p a n → Spelt ws p b n
@@ -128,25 +111,7 @@ module _ (ws : List ℕ) where
 
     -- a path's words
     pub path-spells : Spells (λ x. map tokenWord (pathTokens (pathOf ws (λ i. i) x))) ws (readPath bound ws)
-    unfolding readPath pathTokens pathOf tokenWord
-    path-spells p x q l e =
-        let r = bind-got (readBelow 3 ws p) _ e in
-        let k = bind-got (readWord ws (r .end)) _ (r .rest) in
-        let u = bind-got (readNames bound ws (k .value) (k .end)) _ (k .rest) in
-        let s = below-word 3 ws p (r .first) in
-        let t = any-word ws (r .end) (k .first) in
-        let lies = path-lies bound ws p e in
-        let d : record { root = r .value; start = k .end; count = k .value } ≡ x = got-value (u .rest) in
-        let xs = take (x .count) (drop (x .start) ws) in
-        let part = run-part ws (x .start) (x .count) (lies .own .inside) in
-        let known = root-same {N = ℕ} (x .root) in
-        let n : names (MSels (rootOf (x .root)) (map (λ i. i) xs)) ≡ xs = select-names (rootOf (x .root)) (map (λ i. i) xs) ∙ rw (known .1, map-same xs) in
-        let w : rootWord (MSels (rootOf (x .root)) (map (λ i. i) xs)) ≡ r .value = select-root (rootOf (x .root)) (map (λ i. i) xs) ∙ root-word (x .root) (lies .own .root) ∙ sym (ap PathAt.root d) in
-        let v : length (names (MSels (rootOf (x .root)) (map (λ i. i) xs))) ≡ k .value = ap length n ∙ part .0 ∙ sym (ap PathAt.count d) in
-        let m : x .start ≡ k .end = sym (ap PathAt.start d) in
-        let last : Spelt ws (k .end) (take (x .count) (drop (x .start) ws)) q = record { run = subst (λ (i : ℕ). Run ws i (take (x .count) (drop (x .start) ws))) m (part .1); end = omega (arith, path-end bound ws p e, part .0, m) } in
-        let three = spelt-then (r .value ∷ k .value ∷ []) xs (spelt-then (r .value ∷ []) (k .value ∷ []) (spelt-word s) (spelt-word t)) last in
-        spelt-as (rw (w, v, n, name-words xs)) three
+    path-spells p x q l e = let s = path-stands bound ws p x q l e in record { run = s .0; end = s .1 }
 
     -- the words of an opening, from its head on
     title-spells : (k : ℕ) (after : After) (p : ℕ) (o : Opening) (q n : ℕ) → Spelt ws p (k ∷ []) q → readTitle bound ws k after q ≡ got o n → Spelt ws p (map tokenWord (o .tokens)) n
@@ -164,7 +129,7 @@ module _ (ws : List ℕ) where
         let v = got-value (t .rest) in
         let m : t .end ≡ n = got-end (t .rest) in
         subst (Spelt ws p (map tokenWord (o .tokens))) m
-        (spelt-as (ap (λ l. k ∷ r .value ∷ l) (sym (words-append (attributesTokens (a .value)) (name (t .value .0) ∷ word (t .value .1) ∷ []))) ∙ ap (λ (x : Opening). map tokenWord (x .tokens)) v) all)
+        (spelt-as (ap (λ l. k ∷ r .value ∷ l) (sym (map-append tokenWord (attributesTokens (a .value)) (name (t .value .0) ∷ word (t .value .1) ∷ []))) ∙ ap (λ (x : Opening). map tokenWord (x .tokens)) v) all)
 
     using-spells : (p : ℕ) (o : Opening) (q n : ℕ) → Spelt ws p (useHead ∷ []) q → readUsing bound ws q ≡ got o n → Spelt ws p (map tokenWord (o .tokens)) n
     unfolding readUsing useTokens tokenWord

@@ -3,10 +3,10 @@ use Prim.Native.Nat.{ℕ, zero, suc}
 use mathlib.Core.Path.{_≡_, refl, ap, sym, _∙_}
 use mathlib.Core.Bool.{Bool, true, false}
 use mathlib.Core.Option.{some, none}
-use mathlib.Core.List.{List, [], _∷_, _++_, map, append-nil, append-assoc}
+use mathlib.Core.List.{List, [], _∷_, _++_, map, map-append, map-id}
 use lib.Dec.{eqb}
 use lib.ListN.{length, take, drop, length-map}
-use Rattle.rast.specs.Tree.{Path, Global, Crate, Self, PMemberSelect, MSels, Ty}
+use Rattle.rast.specs.Tree.{Global, Crate, Self, MSels, Ty}
 use Rattle.rast.specs.Declaration.{Attribute, TypeParamDecl, Fields, EnumCase, StructDecl, EnumDecl, TypeDecl, UseDecl}
 use Rattle.encoding.specs.declared.Refusal.the-variants.{UnknownWord}
 use Rattle.encoding.specs.declared.PathAt.{PathAt}
@@ -17,6 +17,8 @@ use Rattle.encoding.specs.Types.{rootOf, pathOf}
 use Rattle.encoding.specs.Declarations.{structHead, enumHead, synonymHead, useHead, readList, readCounted, visibilityOf, readVisibility, readName, readAttribute, readParameter, readFields, readCase, readStruct, readEnum, readTypeSynonym, readUse, declarationAfter, readDeclaration}
 use Rattle.trees.specs.Renamed.{renamedSize}
 use Rattle.trees.specs.Encode.{Token, word, name, size, rootWord, names, pathTokens}
+use Rattle.trees.proofs.Spans.{root-nameless, select-root, select-names}
+use Rattle.trees.proofs.Renaming.{map-on}
 use Rattle.pieces.specs.declared.After.{After}
 use Rattle.pieces.specs.declared.After.the-variants.{FieldList, CaseList, OneType, NoMore}
 use Rattle.pieces.specs.declared.Walk.{Walk}
@@ -28,36 +30,16 @@ use Rattle.pieces.proofs.Steps.{left-parameters, rest-after, members-ca
 
 -- ---- own words by other names
 
--- a path's words
-pub select-root : {M : Type 0} (p : Path M) (xs : List M) → rootWord (MSels p xs) ≡ rootWord p
-unfolding MSels rootWord
-select-root p [] = refl
-select-root p (x ∷ xs) = select-root (PMemberSelect p x) xs
-
-pub select-names : {M : Type 0} (p : Path M) (xs : List M) → names (MSels p xs) ≡ names p ++ xs
-unfolding MSels names
-select-names p [] = sym (append-nil (names p))
-select-names p (x ∷ xs) = select-names (PMemberSelect p x) xs ∙ append-assoc (names p) (x ∷ []) xs
-
-pub root-same : {N : Type 0} (r : ℕ) → (rootWord {N = ℕ} (rootOf r) ≡ rootWord {N = N} (rootOf r)) × (names {N = ℕ} (rootOf r) ≡ []) × (names {N = N} (rootOf r) ≡ [])
-unfolding rootOf rootWord names
-root-same {N} r = go (eqb r 0) (eqb r 1)
+root-same : (N : Type 0) (r : ℕ) → rootWord {N = ℕ} (rootOf r) ≡ rootWord {N = N} (rootOf r)
+unfolding rootOf rootWord
+root-same N r = go (eqb r 0) (eqb r 1)
   where
-    go : (a b : Bool) → (rootWord {N = ℕ} (pick a Global (pick b Crate Self)) ≡ rootWord {N = N} (pick a Global (pick b Crate Self)))
-        × (names {N = ℕ} (pick a Global (pick b Crate Self)) ≡ []) × (names {N = N} (pick a Global (pick b Crate Self)) ≡ [])
-    go true b = (refl, refl, refl)
-    go false true = (refl, refl, refl)
-    go false false = (refl, refl, refl)
-
-pub map-same : (xs : List ℕ) → map (λ i. i) xs ≡ xs
-map-same [] = refl
-map-same (x ∷ xs) = ap (_∷_ x) (map-same xs)
+    go : (a b : Bool) → rootWord {N = ℕ} (pick a Global (pick b Crate Self)) ≡ rootWord {N = N} (pick a Global (pick b Crate Self))
+    go true b = refl
+    go false true = refl
+    go false false = refl
 
 module _ {N : Type 0} (nm : ℕ → N) where
-  tokens-append : (ks js : List (Token ℕ)) → map (renamedToken nm) (ks ++ js) ≡ map (renamedToken nm) ks ++ map (renamedToken nm) js
-  tokens-append [] js = refl
-  tokens-append (k ∷ ks) js = ap (_∷_ (renamedToken nm k)) (tokens-append ks js)
-
   names-renamed : (xs : List ℕ) → map (renamedToken nm) (map name xs) ≡ map name (map nm xs)
   unfolding renamedToken
   names-renamed [] = refl
@@ -70,7 +52,7 @@ module _ {N : Type 0} (nm : ℕ → N) where
   each-renamed : (l : List (Attribute ℕ)) → map (renamedToken nm) (runs attributeTokens l) ≡ runs attributeTokens (map (renamedAttribute nm) l)
   unfolding runs
   each-renamed [] = refl
-  each-renamed (a ∷ l) = tokens-append (attributeTokens a) (runs attributeTokens l) ∙ rw (attribute-renamed a, each-renamed l)
+  each-renamed (a ∷ l) = map-append (renamedToken nm) (attributeTokens a) (runs attributeTokens l) ∙ rw (attribute-renamed a, each-renamed l)
 
   attributes-renamed : (l : List (Attribute ℕ)) → map (renamedToken nm) (attributesTokens l) ≡ attributesTokens (map (renamedAttribute nm) l)
   unfolding attributesTokens renamedToken
@@ -78,16 +60,15 @@ module _ {N : Type 0} (nm : ℕ → N) where
 
   title-renamed : (k d : ℕ) (l : List (Attribute ℕ)) (x n : ℕ) → map (renamedToken nm) (titleTokens k d l x n) ≡ titleTokens k (nm d) (map (renamedAttribute nm) l) (nm x) n
   unfolding titleTokens renamedToken
-  title-renamed k d l x n = rw (tokens-append (attributesTokens l) (name x ∷ word n ∷ []), attributes-renamed l)
+  title-renamed k d l x n = rw (map-append (renamedToken nm) (attributesTokens l) (name x ∷ word n ∷ []), attributes-renamed l)
 
   path-renamed : (ws : List ℕ) (p : PathAt) → map (renamedToken nm) (pathTokens (pathOf ws (λ i. i) p)) ≡ pathTokens (pathOf ws nm p)
   unfolding pathTokens pathOf renamedToken
   path-renamed ws p =
       let xs = take (p .count) (drop (p .start) ws) in
-      let r = root-same {N = N} (p .root) in
-      let e : names (MSels (rootOf (p .root)) (map (λ i. i) xs)) ≡ xs = select-names (rootOf (p .root)) (map (λ i. i) xs) ∙ rw (r .1, map-same xs) in
-      let d : names (MSels (rootOf (p .root)) (map nm xs)) ≡ map nm xs = select-names (rootOf (p .root)) (map nm xs) ∙ rw (r .2) in
-      rw (e, d, names-renamed xs, length-map xs nm, select-root (rootOf (p .root)) (map (λ i. i) xs), select-root (rootOf (p .root)) (map nm xs), r .0)
+      let e : names (MSels (rootOf (p .root)) (map (λ i. i) xs)) ≡ xs = select-names (rootOf (p .root)) (map (λ i. i) xs) ∙ rw (root-nameless {N = ℕ} (p .root), map-id xs) in
+      let d : names (MSels (rootOf (p .root)) (map nm xs)) ≡ map nm xs = select-names (rootOf (p .root)) (map nm xs) ∙ rw (root-nameless {N = N} (p .root)) in
+      rw (e, d, names-renamed xs, length-map xs nm, select-root (rootOf (p .root)) (map (λ i. i) xs), select-root (rootOf (p .root)) (map nm xs), root-same N (p .root))
 
 -- names by their numbers are as they stand
 pub tokens-same : (ks : List (Token ℕ)) → map (renamedToken (λ x. x)) ks ≡ ks
@@ -98,19 +79,22 @@ tokens-same (name x ∷ ks) = ap (_∷_ (name x)) (tokens-same ks)
 tokens-same (size none ∷ ks) = ap (_∷_ (size none)) (tokens-same ks)
 tokens-same (size (some x) ∷ ks) = ap (_∷_ (size (some x))) (tokens-same ks)
 
--- what is read behind x′ is what is read behind x, mapped
-pub map-on : {A B C D : Type 0} (r : A → B) (s : C → D) (x : Reading A) {x′ : Reading B} (k : A → ℕ → Reading C) (k′ : B → ℕ → Reading D)
-    → x′ ≡ mapReading r x → ((a : A) (n : ℕ) → k′ (r a) n ≡ mapReading s (k a n)) → (x′ >>= k′) ≡ mapReading s (x >>= k)
-unfolding mapReading
-map-on r s (got a n) k k′ e h = ap (λ y. y >>= k′) e ∙ h a n
-map-on r s (stop i) k k′ e h = ap (λ y. y >>= k′) e
-
-pub list-renamed : {A B : Type 0} (r : A → B) (item : ℕ → Reading A) (item′ : ℕ → Reading B) → ((p : ℕ) → item′ p ≡ mapReading r (item p)) → (n p : ℕ)
+list-renamed : {A B : Type 0} (r : A → B) (item : ℕ → Reading A) (item′ : ℕ → Reading B) → ((p : ℕ) → item′ p ≡ mapReading r (item p)) → (n p : ℕ)
     → readList item′ n p ≡ mapReading (map r) (readList item n p)
 unfolding readList mapReading
 list-renamed r item item′ h zero p = refl
 list-renamed r item item′ h (suc n) p =
     map-on r (map r) (item p) _ _ (h p) λ x q. map-on (map r) (map r) (readList item n q) _ _ (list-renamed r item item′ h n q) λ xs s. refl
+
+pub same-read : {A : Type 0} (x : Reading A) → x ≡ mapReading (λ a. a) x
+unfolding mapReading
+same-read (got a n) = refl
+same-read (stop r) = refl
+
+pub counted-renamed : (ws : List ℕ) {A B : Type 0} (r : A → B) (item : ℕ → Reading A) (item′ : ℕ → Reading B) → ((p : ℕ) → item′ p ≡ mapReading r (item p)) → (p : ℕ)
+    → readCounted ws item′ p ≡ mapReading (map r) (readCounted ws item p)
+unfolding readCounted
+counted-renamed ws r item item′ h p = map-on (λ n. n) (map r) (readWord ws p) _ _ (same-read (readWord ws p)) λ n q. list-renamed r item item′ h n q
 
 module _ {N : Type 0} (bound : ℕ) (ws : List ℕ) (nm : ℕ → N) (ty : ℕ → Reading (Ty N)) where
   abbrev noType : ℕ → Reading (Ty ℕ)
@@ -124,24 +108,15 @@ module _ {N : Type 0} (bound : ℕ) (ws : List ℕ) (nm : ℕ → N) (ty : ℕ �
       go (got x q) = refl
       go (stop r) = refl
 
-  counted-renamed : {A B : Type 0} (r : A → B) (item : ℕ → Reading A) (item′ : ℕ → Reading B) → ((p : ℕ) → item′ p ≡ mapReading r (item p)) → (p : ℕ)
-      → readCounted ws item′ p ≡ mapReading (map r) (readCounted ws item p)
-  unfolding readCounted mapReading
-  counted-renamed r item item′ h p = map-on (λ n. n) (map r) (readWord ws p) _ _ (same (readWord ws p)) λ n q. list-renamed r item item′ h n q
-    where
-      same : (y : Reading ℕ) → y ≡ mapReading (λ n. n) y
-      same (got n q) = refl
-      same (stop r) = refl
-
   attribute-read : (p : ℕ) → readAttribute bound ws nm ty p ≡ mapReading (renamedAttribute nm) (readOneAttribute bound ws p)
   unfolding readAttribute mapReading
   attribute-read p =
       map-on nm (renamedAttribute nm) (readName bound ws (λ x. x) noType p) _ _ (name-read p) λ x q.
-      map-on (map nm) (renamedAttribute nm) (readCounted ws (readName bound ws (λ x. x) noType) q) _ _ (counted-renamed nm _ _ name-read q) λ xs r. refl
+      map-on (map nm) (renamedAttribute nm) (readCounted ws (readName bound ws (λ x. x) noType) q) _ _ (counted-renamed ws nm _ _ name-read q) λ xs r. refl
 
   attributes-read : (p : ℕ) → readCounted ws (readAttribute bound ws nm ty) p ≡ mapReading (map (renamedAttribute nm)) (readAttributes bound ws p)
   unfolding readAttributes
-  attributes-read p = counted-renamed (renamedAttribute nm) (readOneAttribute bound ws) (readAttribute bound ws nm ty) attribute-read p
+  attributes-read p = counted-renamed ws (renamedAttribute nm) (readOneAttribute bound ws) (readAttribute bound ws nm ty) attribute-read p
 
   -- a walk where nothing is due
   abbrev pub done : Walk

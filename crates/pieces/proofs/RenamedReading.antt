@@ -2,11 +2,10 @@
 use Prim.Native.Nat.{ℕ}
 use mathlib.Core.Path.{_≡_, refl, ap, sym, _∙_}
 use mathlib.Core.Bool.{Bool, true, false}
-use mathlib.Core.List.{List, [], _∷_, map}
+use mathlib.Core.List.{List, map}
 use lib.Dec.{eqb}
-use lib.ListN.{take, drop}
 use Rattle.rast.specs.Bytes.{Bytes}
-use Rattle.rast.specs.Tree.{Path, Global, Crate, Self, PMemberSelect, MSels, Ty}
+use Rattle.rast.specs.Tree.{Ty}
 use Rattle.rast.specs.Declaration.{Visibility, Attribute, TypeParamDecl, NamedFields, NamelessFields, Declaration, StructDecl, EnumDecl, TypeDecl, UseDecl}
 use Rattle.encoding.specs.declared.Refusal.the-variants.{UnknownWord}
 use Rattle.encoding.specs.declared.PathAt.{PathAt}
@@ -14,49 +13,19 @@ use Rattle.encoding.specs.Refusals.{pick}
 use Rattle.encoding.specs.Reading.{Reading, got, stop, _>>=_, mapReading, readWord, readBelow}
 use Rattle.encoding.specs.Tables.{nameBytes, nameCount}
 use Rattle.encoding.specs.Heads.{readPath}
-use Rattle.encoding.specs.Types.{rootOf, pathOf, typeAt}
+use Rattle.encoding.specs.Types.{pathOf, typeAt}
 use Rattle.encoding.specs.Declarations.{structHead, enumHead, synonymHead, useHead, readCounted, readVisibility, readName, readAttribute, readParameter, readFormal, readField, readNamelessField, readFields, readCase, readStruct, readEnum, readTypeSynonym, readUse, declarationAfter, readDeclaration, declarationAt}
 use Rattle.encoding.proofs.Tables.{impossible}
-use Rattle.trees.specs.Renamed.{renamedPath, renamed}
+use Rattle.trees.specs.Renamed.{renamed}
 use Rattle.trees.specs.Numbered.{treeAt}
-use Rattle.trees.proofs.Renaming.{spelled}
+use Rattle.trees.proofs.Renaming.{map-on, path-renamed, spelled}
 use Rattle.pieces.specs.Renamed.{renamedAttribute, renamedParameter, renamedFormal, renamedField, renamedNameless, renamedFields, renamedCase, renamedDeclaration}
-use Rattle.pieces.proofs.Openings.{map-on, list-renamed, titleThen, title-assoc}
-
-same-read : {A : Type 0} (x : Reading A) → x ≡ mapReading (λ a. a) x
-unfolding mapReading
-same-read (got a n) = refl
-same-read (stop r) = refl
+use Rattle.pieces.proofs.Openings.{same-read, counted-renamed, titleThen, title-assoc}
 
 module _ {N M : Type 0} (f : N → M) (g : ℕ → N) where
-  select-renamed : (p : Path N) (xs : List ℕ) → MSels (renamedPath f p) (map (λ x. f (g x)) xs) ≡ renamedPath f (MSels p (map g xs))
-  unfolding MSels renamedPath
-  select-renamed p [] = refl
-  select-renamed p (x ∷ xs) = select-renamed (PMemberSelect p (g x)) xs
-
-  root-renamed : (r : ℕ) → rootOf r ≡ renamedPath f (rootOf r)
-  unfolding rootOf renamedPath
-  root-renamed r = go (eqb r 0) (eqb r 1)
-    where
-      go : (a b : Bool) → _≡_ {A = Path M} (pick a Global (pick b Crate Self)) (renamedPath f (pick a Global (pick b Crate Self)))
-      go true b = refl
-      go false true = refl
-      go false false = refl
-
-  path-renamed : (ws : List ℕ) (p : PathAt) → pathOf ws (λ x. f (g x)) p ≡ renamedPath f (pathOf ws g p)
-  unfolding pathOf
-  path-renamed ws p =
-      ap (λ q. MSels q (map (λ x. f (g x)) (take (p .count) (drop (p .start) ws)))) (root-renamed (p .root))
-      ∙ select-renamed (rootOf (p .root)) (take (p .count) (drop (p .start) ws))
-
   module _ (bound : ℕ) (ws : List ℕ) (ty : ℕ → Reading (Ty N)) (ty′ : ℕ → Reading (Ty M)) (h : (p : ℕ) → ty′ p ≡ mapReading (renamed f) (ty p)) where
     abbrev g′ : ℕ → M
     g′ x = f (g x)
-
-    counted : {A B : Type 0} (r : A → B) (item : ℕ → Reading A) (item′ : ℕ → Reading B) → ((p : ℕ) → item′ p ≡ mapReading r (item p)) → (p : ℕ)
-        → readCounted ws item′ p ≡ mapReading (map r) (readCounted ws item p)
-    unfolding readCounted
-    counted r item item′ k p = map-on (λ n. n) (map r) (readWord ws p) _ _ (same-read (readWord ws p)) λ n q. list-renamed r item item′ k n q
 
     name : (p : ℕ) → readName bound ws g′ ty′ p ≡ mapReading f (readName bound ws g ty p)
     unfolding readName mapReading
@@ -66,13 +35,13 @@ module _ {N M : Type 0} (f : N → M) (g : ℕ → N) where
     unfolding readAttribute mapReading
     attribute p =
         map-on f (renamedAttribute f) (readName bound ws g ty p) _ _ (name p) λ x q.
-        map-on (map f) (renamedAttribute f) (readCounted ws (readName bound ws g ty) q) _ _ (counted f _ _ name q) λ xs r. refl
+        map-on (map f) (renamedAttribute f) (readCounted ws (readName bound ws g ty) q) _ _ (counted-renamed ws f _ _ name q) λ xs r. refl
 
     parameter : (p : ℕ) → readParameter bound ws g′ ty′ p ≡ mapReading (renamedParameter f) (readParameter bound ws g ty p)
     unfolding readParameter mapReading
     parameter p =
         map-on f (renamedParameter f) (readName bound ws g ty p) _ _ (name p) λ x q.
-        map-on (map (renamed f)) (renamedParameter f) (readCounted ws ty q) _ _ (counted (renamed f) ty ty′ h q) λ ts r. refl
+        map-on (map (renamed f)) (renamedParameter f) (readCounted ws ty q) _ _ (counted-renamed ws (renamed f) ty ty′ h q) λ ts r. refl
 
     formal : (p : ℕ) → readFormal bound ws g′ ty′ p ≡ mapReading (renamedFormal f) (readFormal bound ws g ty p)
     unfolding readFormal mapReading
@@ -99,8 +68,8 @@ module _ {N M : Type 0} (f : N → M) (g : ℕ → N) where
         go : (b : Bool) (q : ℕ)
             → pick b (readCounted ws (readField bound ws g′ ty′) q >>= λ xs r. got (NamedFields xs) r) (readCounted ws (readNamelessField bound ws g′ ty′) q >>= λ xs r. got (NamelessFields xs) r)
             ≡ mapReading (renamedFields f) (pick b (readCounted ws (readField bound ws g ty) q >>= λ xs r. got (NamedFields xs) r) (readCounted ws (readNamelessField bound ws g ty) q >>= λ xs r. got (NamelessFields xs) r))
-        go true q = map-on (map (renamedField f)) (renamedFields f) (readCounted ws (readField bound ws g ty) q) _ _ (counted (renamedField f) _ _ field q) λ xs r. refl
-        go false q = map-on (map (renamedNameless f)) (renamedFields f) (readCounted ws (readNamelessField bound ws g ty) q) _ _ (counted (renamedNameless f) _ _ nameless q) λ xs r. refl
+        go true q = map-on (map (renamedField f)) (renamedFields f) (readCounted ws (readField bound ws g ty) q) _ _ (counted-renamed ws (renamedField f) _ _ field q) λ xs r. refl
+        go false q = map-on (map (renamedNameless f)) (renamedFields f) (readCounted ws (readNamelessField bound ws g ty) q) _ _ (counted-renamed ws (renamedNameless f) _ _ nameless q) λ xs r. refl
 
     case : (p : ℕ) → readCase bound ws g′ ty′ p ≡ mapReading (renamedCase f) (readCase bound ws g ty p)
     unfolding readCase mapReading
@@ -127,9 +96,9 @@ module _ {N M : Type 0} (f : N → M) (g : ℕ → N) where
         → (p : ℕ) → titleThen bound ws g′ ty′ last′ p ≡ mapReading (renamedDeclaration f) (titleThen bound ws g ty last p)
     title last last′ k p =
         map-on f (renamedDeclaration f) (readName bound ws g ty p) _ _ (name p) λ d q.
-        map-on (map (renamedAttribute f)) (renamedDeclaration f) (readCounted ws (readAttribute bound ws g ty) q) _ _ (counted (renamedAttribute f) _ _ attribute q) λ l r.
+        map-on (map (renamedAttribute f)) (renamedDeclaration f) (readCounted ws (readAttribute bound ws g ty) q) _ _ (counted-renamed ws (renamedAttribute f) _ _ attribute q) λ l r.
         map-on f (renamedDeclaration f) (readName bound ws g ty r) _ _ (name r) λ x s.
-        map-on (map (renamedParameter f)) (renamedDeclaration f) (readCounted ws (readParameter bound ws g ty) s) _ _ (counted (renamedParameter f) _ _ parameter s) λ ps v. k d l x ps v
+        map-on (map (renamedParameter f)) (renamedDeclaration f) (readCounted ws (readParameter bound ws g ty) s) _ _ (counted-renamed ws (renamedParameter f) _ _ parameter s) λ ps v. k d l x ps v
 
     -- ---- declarations: each as `renamedDeclaration` gives it
 
@@ -146,7 +115,7 @@ module _ {N M : Type 0} (f : N → M) (g : ℕ → N) where
     enum p =
         title-assoc bound ws g′ ty′ (λ d l x ps s. readCounted ws (readCase bound ws g′ ty′) s >>= λ cs t. got (record { docString = d; attributes = l; name = x; typeParams = ps; variants = cs }) t) (λ e q. got (EnumDecl e) q) p
         ∙ title (λ d l x ps s. (readCounted ws (readCase bound ws g ty) s >>= λ cs t. got (record { docString = d; attributes = l; name = x; typeParams = ps; variants = cs }) t) >>= λ e q. got (EnumDecl e) q) _
-        (λ d l x ps s. made (map (renamedCase f)) (readCounted ws (readCase bound ws g ty) s) _ _ EnumDecl EnumDecl (counted (renamedCase f) _ _ case s) (λ cs. refl)) p
+        (λ d l x ps s. made (map (renamedCase f)) (readCounted ws (readCase bound ws g ty) s) _ _ EnumDecl EnumDecl (counted-renamed ws (renamedCase f) _ _ case s) (λ cs. refl)) p
         ∙ ap (mapReading (renamedDeclaration f)) (sym (title-assoc bound ws g ty (λ d l x ps s. readCounted ws (readCase bound ws g ty) s >>= λ cs t. got (record { docString = d; attributes = l; name = x; typeParams = ps; variants = cs }) t) (λ e q. got (EnumDecl e) q) p))
 
     synonym : (p : ℕ) → (readTypeSynonym bound ws g′ ty′ p >>= λ t q. got (TypeDecl t) q) ≡ mapReading (renamedDeclaration f) (readTypeSynonym bound ws g ty p >>= λ t q. got (TypeDecl t) q)
@@ -164,7 +133,7 @@ module _ {N M : Type 0} (f : N → M) (g : ℕ → N) where
         path : (v : Visibility) (y : Reading PathAt)
             → ((y >>= λ x r. got (record { visibility = v; path = pathOf ws g′ x }) r) >>= λ u q. got (UseDecl u) q)
             ≡ mapReading (renamedDeclaration f) ((y >>= λ x r. got (record { visibility = v; path = pathOf ws g x }) r) >>= λ u q. got (UseDecl u) q)
-        path v (got x r) = ap (λ y. got (UseDecl (record { visibility = v; path = y })) r) (path-renamed ws x)
+        path v (got x r) = ap (λ y. got (UseDecl (record { visibility = v; path = y })) r) (path-renamed f g ws x)
         path v (stop k) = refl
 
         go : (y : Reading Visibility)

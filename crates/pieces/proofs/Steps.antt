@@ -1,10 +1,9 @@
 -- Each step of a walk, by what is left to read before and behind it, under any names and any reader of types.
 use Prim.Native.Nat.{ℕ, zero, suc, _+_, _-_, _<_}
-use mathlib.Core.Path.{_≡_, refl, ap, sym, _∙_}
+use mathlib.Core.Path.{_≡_, refl, ap, sym, _∙_, subst}
 use mathlib.Core.Bool.{Bool, true, false}
 use mathlib.Core.List.{List, [], _∷_, map}
 use native.Mathlib.Omega.{arith}
-use native.Mathlib.Decide.{decLt}
 use borrow.Author.Tests.{ne-eqb, eq-eqb}
 use lib.Dec.{eqb}
 use lib.ListN.{length, getD}
@@ -14,11 +13,11 @@ use Rattle.encoding.specs.declared.Refusal.{Refusal}
 use Rattle.encoding.specs.Refusals.{pick}
 use Rattle.encoding.specs.Reading.{Reading, got, stop, _>>=_, mapReading, readWord, readBelow}
 use Rattle.encoding.specs.Declarations.{readList, readCounted, visibilityOf, readVisibility, readName, readParameter, readFormal, readField, readNamelessField, readFields, readCase}
-use Rattle.encoding.proofs.Tables.{impossible}
-use Rattle.encoding.proofs.Reading.{word-in, word-end}
+use Rattle.encoding.proofs.Inside.{Holds, There, Next, word-holds, below-holds}
 use Rattle.trees.specs.Encode.{Token, word, name, tokenWord}
 use Rattle.trees.specs.Runs.{Run}
 use Rattle.trees.proofs.Runs.{run-one, run-two}
+use Rattle.trees.proofs.Spans.{next-there}
 use Rattle.writing.proofs.Accepted.{below-there}
 use Rattle.pieces.specs.declared.After.{After}
 use Rattle.pieces.specs.declared.After.the-variants.{FieldList, CaseList, OneType, NoMore}
@@ -36,25 +35,16 @@ visibility-word (suc zero) h = refl
 visibility-word (suc (suc v)) h = absurd (let z : ⊥ = omega arith in z)
 
 -- a word that was read stands there
-pub record Stands (ws : List ℕ) (p x q : ℕ) : Type 0 where
-  pub here : p < length ws
-  pub same : x ≡ getD ws p 0
-  pub next : q ≡ p + 1
+pub any-word : (ws : List ℕ) (p : ℕ) {x q : ℕ} → readWord ws p ≡ got x q → There ws p x q
+any-word ws p e = subst (Holds (There ws p)) e (word-holds ws p)
 
-pub any-word : (ws : List ℕ) (p : ℕ) {x q : ℕ} → readWord ws p ≡ got x q → Stands ws p x q
-any-word ws p {x} {q} e = go (decLt p (length ws))
-  where
-    go : Dec (p < length ws) → Stands ws p x q
-    go (yes h) = let w = word-in ws p h in record { here = h; same = cc; next = cc }
-    go (no h) = let w = word-end ws p (omega arith) in impossible (cc)
+pub below-word : (b : ℕ) (ws : List ℕ) (p : ℕ) {x q : ℕ} → readBelow b ws p ≡ got x q → There ws p x q
+below-word b ws p e = next-there (subst (Holds (Next b ws p)) e (below-holds b ws p))
 
-pub below-word : (b : ℕ) (ws : List ℕ) (p : ℕ) {x q : ℕ} → readBelow b ws p ≡ got x q → Stands ws p x q
-below-word b ws p e = let w = below-there b ws p e in record { here = w .0; same = w .2; next = w .3 }
-
-pub one-run : (ws : List ℕ) (p : ℕ) {x q : ℕ} → Stands ws p x q → Run ws p (x ∷ []) × (q ≡ p + 1)
+pub one-run : (ws : List ℕ) (p : ℕ) {x q : ℕ} → There ws p x q → Run ws p (x ∷ []) × (q ≡ p + 1)
 one-run ws p s = (rw (s .same) (run-one ws p (s .here)), s .next)
 
-pub two-run : (ws : List ℕ) (p : ℕ) {x y m q : ℕ} → Stands ws p x m → Stands ws m y q → Run ws p (x ∷ y ∷ []) × (q ≡ p + 2)
+pub two-run : (ws : List ℕ) (p : ℕ) {x y m q : ℕ} → There ws p x m → There ws m y q → Run ws p (x ∷ y ∷ []) × (q ≡ p + 2)
 two-run ws p {x} {y} {m} s t =
     let e : y ≡ getD ws (p + 1) 0 = t .same ∙ ap (λ i. getD ws i 0) (s .next) in
     (rw (s .same, e) (run-two ws p (omega (arith, s .next, t .here))), omega (arith, s .next, t .next))

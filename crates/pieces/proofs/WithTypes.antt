@@ -1,7 +1,7 @@
 -- The pieces of a declaration with other types are its pieces with other types.
 use Prim.Native.Nat.{ℕ}
 use mathlib.Core.Path.{_≡_, refl, ap, sym, _∙_}
-use mathlib.Core.List.{List, [], _∷_, _++_, map, append-nil}
+use mathlib.Core.List.{List, [], _∷_, _++_, map, map-append, append-nil}
 use lib.ListN.{length, length-map}
 use Rattle.rast.specs.Tree.{Ty}
 use Rattle.rast.specs.Declaration.{Attribute, TypeParamDecl, Fields, NamedFields, NamelessFields, EnumCase, Declaration, StructDecl, EnumDecl, TypeDecl, UseDecl}
@@ -11,10 +11,6 @@ use Rattle.pieces.specs.Pieces.{Piece, own, runs, owned, titleTokens, us
 use Rattle.pieces.specs.WithTypes.{parameterWith, fieldWith, namelessWith, fieldsWith, caseWith, withTypes, pieceWith}
 
 module _ {N : Type 0} (r : Ty N → Ty N) where
-  with-append : (ps qs : List (Piece N)) → map (pieceWith r) (ps ++ qs) ≡ map (pieceWith r) ps ++ map (pieceWith r) qs
-  with-append [] qs = refl
-  with-append (p ∷ ps) qs = ap (_∷_ (pieceWith r p)) (with-append ps qs)
-
   with-owned : (ks : List (Token N)) → map (pieceWith r) (owned ks) ≡ owned ks
   unfolding pieceWith
   with-owned [] = refl
@@ -23,7 +19,7 @@ module _ {N : Type 0} (r : Ty N → Ty N) where
   with-runs : {A : Type 0} (f : A → List (Piece N)) (g : A → A) → ((x : A) → f (g x) ≡ map (pieceWith r) (f x)) → (xs : List A) → runs f (map g xs) ≡ map (pieceWith r) (runs f xs)
   unfolding runs
   with-runs f g h [] = refl
-  with-runs f g h (x ∷ xs) = rw (h x, with-runs f g h xs) (sym (with-append (f x) (runs f xs)))
+  with-runs f g h (x ∷ xs) = rw (h x, with-runs f g h xs) (sym (map-append (pieceWith r) (f x) (runs f xs)))
 
   with-counted : {A : Type 0} (f : A → List (Piece N)) (g : A → A) → ((x : A) → f (g x) ≡ map (pieceWith r) (f x)) → (xs : List A) → counted f (map g xs) ≡ map (pieceWith r) (counted f xs)
   unfolding counted pieceWith
@@ -47,17 +43,17 @@ module _ {N : Type 0} (r : Ty N → Ty N) where
   with-heading k doc l x ps =
       rw (length-map ps (parameterWith r), with-runs parameterPieces (parameterWith r) with-parameter ps)
       (ap (λ qs. qs ++ map (pieceWith r) (runs parameterPieces ps)) (sym (with-owned (titleTokens k doc l x (length ps))))
-      ∙ sym (with-append (owned (titleTokens k doc l x (length ps))) (runs parameterPieces ps)))
+      ∙ sym (map-append (pieceWith r) (owned (titleTokens k doc l x (length ps))) (runs parameterPieces ps)))
 
   pub with-pieces : (d : Declaration N) → pieces (withTypes r d) ≡ map (pieceWith r) (pieces d)
   unfolding pieces front rest withTypes pieceWith
   with-pieces (StructDecl s) =
       rw (with-heading structHead (s .docString) (s .attributes) (s .name) (s .typeParams), with-fields (s .fields))
-      (sym (with-append (heading structHead (s .docString) (s .attributes) (s .name) (s .typeParams)) (fieldsPieces (s .fields))))
+      (sym (map-append (pieceWith r) (heading structHead (s .docString) (s .attributes) (s .name) (s .typeParams)) (fieldsPieces (s .fields))))
   with-pieces (EnumDecl e) =
       rw (with-heading enumHead (e .docString) (e .attributes) (e .name) (e .typeParams), with-counted casePieces (caseWith r) with-case (e .variants))
-      (sym (with-append (heading enumHead (e .docString) (e .attributes) (e .name) (e .typeParams)) (counted casePieces (e .variants))))
+      (sym (map-append (pieceWith r) (heading enumHead (e .docString) (e .attributes) (e .name) (e .typeParams)) (counted casePieces (e .variants))))
   with-pieces (TypeDecl t) =
       rw (with-heading synonymHead (t .docString) (t .attributes) (t .name) (t .typeParams))
-      (sym (with-append (heading synonymHead (t .docString) (t .attributes) (t .name) (t .typeParams)) (typePiece (t .tpe))))
+      (sym (map-append (pieceWith r) (heading synonymHead (t .docString) (t .attributes) (t .name) (t .typeParams)) (typePiece (t .tpe))))
   with-pieces (UseDecl u) = rw (append-nil (owned (useTokens u))) (sym (with-owned (useTokens u)))

@@ -17,7 +17,7 @@ use Rattle.trees.specs.Encode.{count, tokensAll, encode, encodeAll, words, word
 use Rattle.trees.specs.Numbered.{treeAt}
 use Rattle.trees.proofs.Nodes.{Below, First, types-count, first-type}
 use Rattle.trees.proofs.Spans.{node-spells, encode-cons}
-use Rattle.trees.proofs.Heads.{tree-below}
+use Rattle.trees.proofs.Heads.{tree-below, Worded, tree-words}
 use Rattle.trees.proofs.Renaming.{tree-run, encode-words, encode-all, words-some}
 use Rattle.writing.specs.Written.{Readable}
 use Rattle.replace.specs.Same.{sameBy}
@@ -27,7 +27,6 @@ use Rattle.replace.specs.Rules.{Rule, rulesOf, mappingOf}
 use Rattle.replace.proofs.Nodes.{replaces-count, replace-node, peak-node, depth-node, peak-least, depth-words}
 use Rattle.rules.specs.declared.Found.{Found}
 use Rattle.rules.specs.Table.{toWords, foundFrom, RuleAt}
-use Rattle.rules.proofs.Depths.{Worded, tree-words}
 use Rattle.rules.proofs.Tables.{to-encoded, GivesWay, ways, stays as keeps, found-trees}
 use Rattle.rebuild.specs.declared.Settling.{Settling}
 use Rattle.rebuild.specs.declared.Settling.the-variants.{Settled, Overfull}

@@ -1,9 +1,9 @@
 -- Laws of pieces that are laid down one behind the other.
 use Prim.Native.Nat.{ℕ, suc, _+_, _≤_, max}
-use mathlib.Core.Path.{_≡_, refl, ap, sym, _∙_}
-use mathlib.Core.List.{List, [], _∷_, _++_, map, append-assoc, append-nil}
+use mathlib.Core.Path.{_≡_, refl, ap, _∙_}
+use mathlib.Core.List.{List, [], _∷_, _++_, map, map-append, map-congr-left, append-nil}
 use native.Mathlib.Omega.{arith}
-use lib.ListN.{length, length-append}
+use lib.ListN.{length, length-append, length-map}
 use Rattle.rast.specs.Tree.{Ty}
 use Rattle.rast.specs.Declaration.{Declaration, StructDecl, EnumDecl, TypeDecl, UseDecl, Fields, NamedFields, NamelessFields, EnumCase}
 use Rattle.trees.specs.Encode.{Token, tokenWord, tokens, words, encode}
@@ -13,22 +13,10 @@ use Rattle.replace.proofs.Nodes.{peak-least}
 use Rattle.pieces.specs.Pieces.{Piece, own, type, runs, owned, pieceTokens, pieces, declarationTokens, encodeDeclaration}
 use Rattle.pieces.specs.WithTypes.{fieldsWith, caseWith, withTypes, pieceWith}
 use Rattle.pieces.proofs.WithTypes.{with-pieces}
+use Rattle.pieces.proofs.Encoded.{runs-append}
 use Rattle.rebuild_declaration.specs.Replacer.{ReplaceTypeParams, ReplaceFields, ReplaceStruct, ReplaceEnumCase, ReplaceEnum, ReplaceTypeDecl, ReplaceUse, ReplaceModDecl}
 use Rattle.rebuild_declaration.specs.Laying.{encodePieces, deepestPiece, topPieces, rebuiltWords, rebuiltDepth}
 use Rattle.rebuild_declaration.specs.Calls.{laidDeclaration}
-
-map-append : {A B : Type 0} (f : A → B) (xs ys : List A) → map f (xs ++ ys) ≡ map f xs ++ map f ys
-map-append f [] ys = refl
-map-append f (x ∷ xs) ys = ap (λ l. f x ∷ l) (map-append f xs ys)
-
-pub token-count : (xs : List (Token ℕ)) → length (map tokenWord xs) ≡ length xs
-token-count [] = refl
-token-count (x ∷ xs) = ap suc (token-count xs)
-
-runs-append : {A B : Type 0} (f : A → List B) (xs ys : List A) → runs f (xs ++ ys) ≡ runs f xs ++ runs f ys
-unfolding runs
-runs-append f [] ys = refl
-runs-append f (x ∷ xs) ys = ap (λ l. f x ++ l) (runs-append f xs ys) ∙ sym (append-assoc (f x) (runs f xs) (runs f ys))
 
 encode-append : (ps qs : List (Piece ℕ)) → encodePieces (ps ++ qs) ≡ encodePieces ps ++ encodePieces qs
 unfolding encodePieces
@@ -52,7 +40,7 @@ pub encode-type : (t : Ty ℕ) (ps : List (Piece ℕ)) → length (encodePieces 
 unfolding encodePieces runs pieceTokens words
 encode-type t ps =
     ap length (map-append tokenWord (tokens t) (runs pieceTokens ps)) ∙ length-append (map tokenWord (tokens t)) (map tokenWord (runs pieceTokens ps))
-    ∙ ap (λ n. n + length (map tokenWord (runs pieceTokens ps))) (token-count (tokens t))
+    ∙ ap (λ n. n + length (map tokenWord (runs pieceTokens ps))) (length-map (tokens t) tokenWord)
 
 module _ (m : Ty ℕ → Ty ℕ) where
   pub words-append : (ps qs : List (Piece ℕ)) → rebuiltWords m (ps ++ qs) ≡ rebuiltWords m ps ++ rebuiltWords m qs
@@ -87,10 +75,6 @@ module _ (m : Ty ℕ → Ty ℕ) where
 
   -- ---- declarations
 
-  same-map : {A B : Type 0} (f g : A → B) → ((x : A) → f x ≡ g x) → (xs : List A) → map f xs ≡ map g xs
-  same-map f g h [] = refl
-  same-map f g h (x ∷ xs) = ap (λ y. y ∷ map f xs) (h x) ∙ ap (λ l. g x ∷ l) (same-map f g h xs)
-
   fields-with : (f : Fields ℕ) → ReplaceFields m f ≡ fieldsWith (Replace m) f
   unfolding ReplaceFields fieldsWith
   fields-with (NamedFields xs) = refl
@@ -105,7 +89,7 @@ module _ (m : Ty ℕ → Ty ℕ) where
   replaced-with (StructDecl s) = ap (λ (f : Fields ℕ). StructDecl (record { docString = s .docString; attributes = s .attributes; name = s .name; typeParams = ReplaceTypeParams m (s .typeParams); fields = f })) (fields-with (s .fields))
   replaced-with (EnumDecl e) =
       ap (λ (cs : List (EnumCase ℕ)). EnumDecl (record { docString = e .docString; attributes = e .attributes; name = e .name; typeParams = ReplaceTypeParams m (e .typeParams); variants = cs }))
-      (same-map (ReplaceEnumCase m) (caseWith (Replace m)) case-with (e .variants))
+      (map-congr-left {f = ReplaceEnumCase m} {g = caseWith (Replace m)} {l = e .variants} (λ c i. case-with c))
   replaced-with (TypeDecl t) = refl
   replaced-with (UseDecl u) = refl
 

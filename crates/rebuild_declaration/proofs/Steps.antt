@@ -3,7 +3,7 @@ use Prim.Native.Nat.{ℕ, _+_, _-_, _≤_, _<_, max}
 use mathlib.Core.Path.{_≡_, refl, ap, sym, _∙_, subst}
 use mathlib.Core.List.{List, [], _∷_, _++_, map, append-nil}
 use native.Mathlib.Omega.{arith}
-use lib.ListN.{length, take, drop}
+use lib.ListN.{length, take, drop, length-map}
 use Rattle.rast.specs.Tree.{Ty}
 use Rattle.encoding.specs.declared.Refusal.{Refusal}
 use Rattle.encoding.specs.Reading.{Reading, got, stop, mapReading}
@@ -40,7 +40,7 @@ use Rattle.rebuild_declaration.specs.declared.Advance.{Advance}
 use Rattle.rebuild_declaration.specs.declared.Advance.the-variants.{Further, Finished, NoSpace}
 use Rattle.rebuild_declaration.specs.Laying.{topPieces, rebuiltWords, rebuiltDepth, leftIn, Advanced, further, finished, noSpace, PiecesRebuild}
 use Rattle.rebuild_declaration.specs.Calls.{declarationIn, laidDeclaration, DeclarationRebuilds}
-use Rattle.rebuild_declaration.proofs.Pieces.{token-count, words-append, depth-append, top-append, own-words, one-type, declaration-words, declaration-depth}
+use Rattle.rebuild_declaration.proofs.Pieces.{words-append, depth-append, top-append, own-words, one-type, declaration-words, declaration-depth}
 
 -- ---- what a step reads
 
@@ -60,7 +60,7 @@ module _ (ws pairs : List ℕ) where
   pub own-laid : {w w′ : Walk} → Stepped (nameCount pairs) ws w (OwnWords w′) → OwnLaid w w′
   own-laid {w} {w′} s =
       let k = own-step (nameCount pairs) ws (λ x. x) (treeAt ws pairs) w s in
-      let n = token-count (k .tokens) in
+      let n = length-map (k .tokens) tokenWord in
       let z : w′ .place - w .place ≡ length (map tokenWord (k .tokens)) = omega (arith, k .end, n) in
       record {
         tokens = k .tokens;
@@ -94,7 +94,7 @@ module _ (m : Ty ℕ → Ty ℕ) (ws pairs : List ℕ) (w : Walk) (limit : ℕ) 
       let h = lays-to l e in
       let c = own-words m (k .tokens) in
       let g : Grown o p (rebuiltWords m (owned (k .tokens))) o′ q = rw (c .0, sym (k .words)) (h .1) in
-      let f : p + topPieces m (owned (k .tokens)) ≤ limit = omega (arith, h .0, c .1, g .next, ap length (c .0), ap length (k .words), k .count, token-count (k .tokens)) in
+      let f : p + topPieces m (owned (k .tokens)) ≤ limit = omega (arith, h .0, c .1, g .next, ap length (c .0), ap length (k .words), k .count, length-map (k .tokens) tokenWord) in
       further (owned (k .tokens)) (k .reads) (k .further) (k .inside) (h .0) f g (sym (c .2))
 
   pub own-over : {w′ : Walk} {o′ : List ℕ} {r : Laying} → (k : OwnLaid ws pairs w w′) → Readable (leftIn ws pairs w) → Lays limit o p (take (w′ .place - w .place) (drop (w .place) ws)) o′ r → r ≡ Over
@@ -226,7 +226,7 @@ module _ (m : Ty ℕ → Ty ℕ) (ws pairs : List ℕ) (limit : ℕ) (o : List �
           let i : opened y n ≡ w = cc in
           let h = opening-run ws (nameCount pairs) 0 y n f in
           let l = whole-left (nameCount pairs) ws (λ x. x) (treeAt ws pairs) 0 (c .reads) f in
-          let ml = token-count (y .tokens) in
+          let ml = length-map (y .tokens) tokenWord in
           subst Opened i record {
             tokens = y .tokens;
             left = l .left;
@@ -272,7 +272,7 @@ module _ (m : Ty ℕ → Ty ℕ) (ws pairs : List ℕ) (limit : ℕ) (o : List �
           let t : topPieces m (pieces (c .value)) ≡ max (topPieces m (owned (k .tokens))) (length (rebuiltWords m (owned (k .tokens))) + topPieces m ps) = ap (topPieces m) pr ∙ top-append m (owned (k .tokens)) ps in
           let ow : Grown o 0 (rebuiltWords m (owned (k .tokens))) o₁ q = rw (a .0, sym (k .words)) (h .1) in
           let gr : Grown o 0 (rebuiltWords m (pieces (c .value))) o₂ q′ = rw (pr, words-append m (owned (k .tokens)) ps) (grown-then ow g) in
-          let fi : 0 + topPieces m (pieces (c .value)) ≤ limit = omega (arith, t, h .0, ow .next, f, a .1, ap length (a .0), k .count, ap length (k .words), token-count (k .tokens)) in
+          let fi : 0 + topPieces m (pieces (c .value)) ≤ limit = omega (arith, t, h .0, ow .next, f, a .1, ap length (a .0), k .count, ap length (k .words), length-map (k .tokens) tokenWord) in
           let de : d ≡ laidDeclaration m (c .value) .deep = omega (arith, i, declaration-depth m (c .value), ap (rebuiltDepth m) pr, depth-append m (owned (k .tokens)) ps, a .2) in
           rebuilt (c .reads ∙ ap (got (c .value)) (sym j)) fi v (rw (declaration-words m (c .value)) gr) de
       go (full {a = ps} x f i) =

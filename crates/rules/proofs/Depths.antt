@@ -5,37 +5,20 @@ use mathlib.Core.List.{List}
 use native.Mathlib.Omega.{arith}
 use lib.ListN.{length}
 use Rattle.rast.specs.Tree.{Ty, Tys, nil, cons}
-use Rattle.encoding.specs.declared.Head.{Head}
 use Rattle.encoding.specs.Tables.{nameCount}
 use Rattle.encoding.specs.Reading.{Reading, got}
-use Rattle.encoding.specs.Heads.{readHead, kids, HeadHere, typesBelow, ownEnd}
+use Rattle.encoding.specs.Heads.{HeadHere, typesBelow, ownEnd}
 use Rattle.encoding.specs.Types.{readTypes}
 use Rattle.encoding.proofs.Inside.{head-lies}
-use Rattle.encoding.proofs.HeadWords.{words-kids, words-end}
 use Rattle.trees.specs.Numbered.{treeAt}
 use Rattle.trees.proofs.Nodes.{first-type}
-use Rattle.trees.proofs.Heads.{tree-head, tree-below}
+use Rattle.trees.proofs.Heads.{tree-below, head-here, tree-words}
 use Rattle.trees.proofs.Renaming.{tree-run, encode-words}
 use Rattle.writing.specs.Written.{Readable}
 use Rattle.replace.specs.Laying.{depth, deepest}
 use Rattle.replace.proofs.Nodes.{depth-node, depth-words}
 use Rattle.rules.specs.declared.Deep.{Deep}
 use Rattle.rules.specs.Scans.{Deepens}
-
--- where a type stands, a head stands, and its words say where it ends and how many types follow
-module _ (ws pairs : List ℕ) (at : ℕ) {t : Ty ℕ} {n : ℕ} (e : treeAt ws pairs at ≡ got t n) where
-  pub head-here : HeadHere ws at
-  head-here = let h = tree-head ws pairs at e in record { bound = nameCount pairs; head = h .head; next = h .own; reads = h .reads }
-
-  pub record Worded : Type 0 where
-    pub head : Head
-    pub reads : readHead (nameCount pairs) ws at ≡ got head (ownEnd ws at)
-    pub many : typesBelow ws at ≡ kids head
-
-  pub tree-words : Worded
-  tree-words =
-      let h = tree-head ws pairs at e in
-      record { head = h .head; reads = rw (words-end (nameCount pairs) ws at (h .reads)) (h .reads); many = words-kids (nameCount pairs) ws at (h .reads) }
 
 -- a pass over the types of x: those from `place` on are left, and those before it are `found` deep
 pub record Deepening (ws pairs : List ℕ) (x : Reading (Tys ℕ)) (place found left : ℕ) : Type 0 where

@@ -8,9 +8,10 @@ use Rattle.rast.specs.Tree.{Ty}
 use Rattle.encoding.specs.declared.Head.{Head}
 use Rattle.encoding.specs.Tables.{nameCount}
 use Rattle.encoding.specs.Reading.{got}
-use Rattle.encoding.specs.Heads.{readHead}
+use Rattle.encoding.specs.Heads.{readHead, kids, HeadHere, typesBelow, ownEnd}
 use Rattle.encoding.specs.Types.{readType}
 use Rattle.encoding.proofs.Inside.{head-lies}
+use Rattle.encoding.proofs.HeadWords.{words-kids, words-end}
 use Rattle.encoding.proofs.Types.{bind-got, node-parts}
 use Rattle.trees.specs.Numbered.{treeAt}
 use Rattle.trees.proofs.Nodes.{Below, node-below}
@@ -32,3 +33,17 @@ module _ (ws pairs : List ℕ) (at : ℕ) {t : Ty ℕ} {n : ℕ} (e : treeAt ws 
   -- the trees below the head are read like the tree itself
   pub tree-below : {h : Head} {q : ℕ} → readHead (nameCount pairs) ws at ≡ got h q → Below ws (λ x. x) (treeAt ws pairs) h q t n
   tree-below {h} {q} d = node-below ws (λ x. x) (treeAt ws pairs) h q (node-parts (nameCount pairs) ws (λ x. x) 63 at e d)
+
+  pub head-here : HeadHere ws at
+  head-here = let h = tree-head in record { bound = nameCount pairs; head = h .head; next = h .own; reads = h .reads }
+
+  -- the words of the head say where it ends and how many types follow
+  pub record Worded : Type 0 where
+    pub head : Head
+    pub reads : readHead (nameCount pairs) ws at ≡ got head (ownEnd ws at)
+    pub many : typesBelow ws at ≡ kids head
+
+  pub tree-words : Worded
+  tree-words =
+      let h = tree-head in
+      record { head = h .head; reads = rw (words-end (nameCount pairs) ws at (h .reads)) (h .reads); many = words-kids (nameCount pairs) ws at (h .reads) }

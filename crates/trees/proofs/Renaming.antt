@@ -7,7 +7,7 @@ use mathlib.Core.Option.{some, none}
 use native.Mathlib.Omega.{arith}
 use native.Mathlib.Decide.{decLt}
 use lib.Dec.{eqb}
-use lib.ListN.{length, take, drop, length-append}
+use lib.ListN.{length, take, drop, length-append, length-map}
 use Rattle.rast.specs.Bytes.{Bytes}
 use Rattle.rast.specs.Tree.{Path, Global, Crate, Self, PMemberSelect, MSels, Ty, Tys, Primitive, TIdentifier, TypeFromPath, TypeApp, Borrowed, BorrowedMut, ImplType, DynType, TupleType, FnType, IntersectionType, Array, TSynonym, TMetaData, nil, cons}
 use Rattle.encoding.specs.declared.Head.{Head}
@@ -27,7 +27,7 @@ use Rattle.trees.specs.Runs.{Run}
 use Rattle.trees.proofs.Spans.{type-stands}
 
 -- what is read behind x′ is what is read behind x, mapped
-map-on : {A B C D : Type 0} (r : A → B) (s : C → D) (x : Reading A) {x′ : Reading B} (k : A → ℕ → Reading C) (k′ : B → ℕ → Reading D)
+pub map-on : {A B C D : Type 0} (r : A → B) (s : C → D) (x : Reading A) {x′ : Reading B} (k : A → ℕ → Reading C) (k′ : B → ℕ → Reading D)
     → x′ ≡ mapReading r x → ((a : A) (n : ℕ) → k′ (r a) n ≡ mapReading s (k a n)) → (x′ >>= k′) ≡ mapReading s (x >>= k)
 unfolding mapReading
 map-on r s (got a n) k k′ e h = ap (λ y. y >>= k′) e ∙ h a n
@@ -48,7 +48,7 @@ module _ {N M : Type 0} (f : N → M) (g : ℕ → N) where
       go false true = refl
       go false false = refl
 
-  path-renamed : (ws : List ℕ) (p : PathAt) → pathOf ws (λ x. f (g x)) p ≡ renamedPath f (pathOf ws g p)
+  pub path-renamed : (ws : List ℕ) (p : PathAt) → pathOf ws (λ x. f (g x)) p ≡ renamedPath f (pathOf ws g p)
   unfolding pathOf
   path-renamed ws p =
       let xs = take (p .count) (drop (p .start) ws) in
@@ -98,10 +98,6 @@ module _ {N M : Type 0} (f : N → M) (g : ℕ → N) where
 
 -- ---- a tree takes as many words under any names
 
-map-length : {A B : Type 0} (c : A → B) (xs : List A) → length (map c xs) ≡ length xs
-map-length c [] = refl
-map-length c (x ∷ xs) = ap suc (map-length c xs)
-
 module _ {N M : Type 0} (f : N → M) where
   names-kept : (p : Path N) → length (names (renamedPath f p)) ≡ length (names p)
   unfolding names renamedPath
@@ -114,7 +110,7 @@ module _ {N M : Type 0} (f : N → M) where
 
   path-kept : (p : Path N) → length (pathTokens (renamedPath f p)) ≡ length (pathTokens p)
   unfolding pathTokens
-  path-kept p = omega (arith, names-kept p, map-length {B = Token M} name (names (renamedPath f p)), map-length {B = Token N} name (names p))
+  path-kept p = omega (arith, names-kept p, length-map {B = Token M} (names (renamedPath f p)) name, length-map {B = Token N} (names p) name)
 
   two-kept : (a a′ : List (Token M)) (b b′ : List (Token N)) → length a ≡ length b → length a′ ≡ length b′ → length (a ++ a′) ≡ length (b ++ b′)
   two-kept a a′ b b′ e d = omega (arith, e, d, length-append a a′, length-append b b′)
@@ -167,11 +163,11 @@ numbered ws pairs text at {t} {n} e = go (treeAt ws pairs at) refl (sym (spelled
 
 pub encode-words : (t : Ty ℕ) → length (encode t) ≡ words t
 unfolding encode words
-encode-words t = map-length tokenWord (tokens t)
+encode-words t = length-map (tokens t) tokenWord
 
 pub encode-all : (ts : Tys ℕ) → length (encodeAll ts) ≡ wordsAll ts
 unfolding encodeAll wordsAll
-encode-all ts = map-length tokenWord (tokensAll ts)
+encode-all ts = length-map (tokensAll ts) tokenWord
 
 -- a type takes a word at least
 pub words-some : {N : Type 0} (t : Ty N) → 0 < words t

@@ -2,77 +2,34 @@
 use Prim.Native.Nat.{ℕ, zero, suc, _+_, _-_, _%_, _≤_, _<_}
 use mathlib.Core.Path.{_≡_, refl, ap, sym, _∙_, subst}
 use mathlib.Core.Bool.{Bool, true, false}
-use mathlib.Core.List.{List, [], _∷_, _++_, map, append-nil, append-assoc}
+use mathlib.Core.List.{List, [], _∷_, _++_, map, append-nil, append-assoc, map-append, map-id}
 use native.Mathlib.Omega.{arith}
 use borrow.Author.Tests.{ltb-true, eqb-true, ne-eqb}
 use lib.Dec.{ltb, eqb, leb}
 use lib.ListN.{length, getD, take, drop, length-append}
 use Rattle.rast.specs.Bytes.{_and_}
 use Rattle.rast.specs.Tree.{Path, Global, Crate, Self, PMemberSelect, MSels, U8, Ty, Tys, TypeFromPath, nil, cons}
-use Rattle.encoding.specs.declared.Refusal.{Refusal}
 use Rattle.encoding.specs.declared.PathAt.{PathAt}
 use Rattle.encoding.specs.declared.Head.{Head}
 use Rattle.encoding.specs.declared.Head.the-variants.{Plain, Name, FromPath, Apply, Ref, RefMut, Impl, Dyn, Tuple, Function, Both, ArrayOf, Synonym, Meta}
 use Rattle.encoding.specs.Refusals.{pick}
-use Rattle.encoding.specs.Reading.{Reading, got, stop, _>>=_, readWord, readBelow, readNames}
+use Rattle.encoding.specs.Reading.{Reading, got, _>>=_, readWord, readBelow, readNames}
 use Rattle.encoding.specs.Heads.{headKind, readPath, pathHead, headAfter, readHead, kids}
 use Rattle.encoding.specs.Types.{primitives, rootOf, pathOf, sizeOf, readTypes, readType}
 use Rattle.encoding.proofs.Tables.{impossible, everyBelow, every-at}
 use Rattle.encoding.proofs.Heads.{head-at}
-use Rattle.encoding.proofs.Inside.{head-lies, path-lies, path-end}
+use Rattle.encoding.proofs.Inside.{Holds, holds-on, holds-pick, There, Next, Names, word-holds, below-holds, names-hold, head-lies}
 use Rattle.encoding.proofs.TypeKinds.{head-kind}
 use Rattle.encoding.proofs.Types.{bind-got, made₂-got}
-use Rattle.trees.specs.Encode.{Token, name, size, tokenWord, primitiveWord, flagsWord, rootWord, names, pathTokens, count, tokens, tokensAll, encode, encodeAll}
+use Rattle.trees.specs.Encode.{name, size, tokenWord, primitiveWord, flagsWord, rootWord, names, pathTokens, count, tokens, tokensAll, encode, encodeAll}
 use Rattle.trees.proofs.Nodes.{Node, plain, ident, path, apply, ref, refMut, impl, dyn, tuple, function, both, array, synonym, meta, snoc, node-below, types-count, count-snoc}
 use Rattle.trees.specs.Runs.{Run}
 use Rattle.trees.proofs.Runs.{run-none, run-one, run-two, run-part, run-join}
 
 -- ---- what stands behind a kind
 
-abbrev Holds : {A : Type 0} → (A → ℕ → Type 0) → Reading A → Type 0
-Holds {A} P x = (a : A) (n : ℕ) → x ≡ got a n → P a n
-
-module _ {A : Type 0} (P : A → ℕ → Type 0) where
-  HoldsOf : Reading A → Type 0
-  HoldsOf (got a n) = P a n
-  HoldsOf (stop r) = Unit {0}
-
-  holds-got : {a : A} {n : ℕ} → P a n → Holds P (got a n)
-  unfolding HoldsOf
-  holds-got k b m e = subst HoldsOf e k
-
-  holds-stop : {x : Reading A} {k : Refusal} → x ≡ stop k → Holds P x
-  holds-stop d a n e = impossible (cc)
-
-  holds-pick : (t : Bool) (x y : Reading A) → (t ≡ true → Holds P x) → Holds P y → Holds P (pick t x y)
-  holds-pick true x y h k = h refl
-  holds-pick false x y h k = k
-
-  holds-on : {B : Type 0} (x : Reading B) (g : B → ℕ → Reading A) → ((b : B) (m : ℕ) → x ≡ got b m → Holds P (g b m)) → Holds P (x >>= g)
-  holds-on x g k a n e = let t = bind-got x g e in k (t .value) (t .end) (t .first) a n (t .rest)
-
--- the word x stands at p, and q is behind it
-record Word (ws : List ℕ) (p x q : ℕ) : Type 0 where
-  here : p < length ws
-  same : x ≡ getD ws p 0
-  next : q ≡ p + 1
-
-word-there : (ws : List ℕ) (p : ℕ) → Holds (Word ws p) (readWord ws p)
-unfolding readWord
-word-there ws p =
-    holds-pick (Word ws p) (ltb p (length ws)) _ _ (λ t. holds-got (Word ws p) (record { here = ltb-true p (length ws) t; same = refl; next = refl }))
-    (holds-stop (Word ws p) refl)
-
-record Below (b : ℕ) (ws : List ℕ) (p x q : ℕ) : Type 0 where
-  word : Word ws p x q
-  below : x < b
-
-below-there : (b : ℕ) (ws : List ℕ) (p : ℕ) → Holds (Below b ws p) (readBelow b ws p)
-unfolding readBelow
-below-there b ws p =
-    holds-on (Below b ws p) (readWord ws p) _ λ x q e.
-    holds-pick (Below b ws p) (ltb x b) _ _ (λ t. holds-got (Below b ws p) (record { word = word-there ws p x q e; below = ltb-true x b t }))
-    (holds-stop (Below b ws p) refl)
+pub next-there : {b : ℕ} {ws : List ℕ} {p x q : ℕ} → Next b ws p x q → There ws p x q
+next-there h = record { here = h .here; next = h .next; same = h .same }
 
 -- a path's words stand at p
 record PathWords (ws : List ℕ) (p : ℕ) (x : PathAt) (q : ℕ) : Type 0 where
@@ -85,71 +42,59 @@ record PathWords (ws : List ℕ) (p : ℕ) (x : PathAt) (q : ℕ) : Type 0 where
 
 path-there : (b : ℕ) (ws : List ℕ) (p : ℕ) → Holds (PathWords ws p) (readPath b ws p)
 unfolding readPath
-path-there b ws p x q e =
-    let r = bind-got (readBelow 3 ws p) _ e in
-    let k = bind-got (readWord ws (r .end)) _ (r .rest) in
-    let u = bind-got (readNames b ws (k .value) (k .end)) _ (k .rest) in
-    let w₁ = below-there 3 ws p (r .value) (r .end) (r .first) in
-    let w₂ = word-there ws (r .end) (k .value) (k .end) (k .first) in
-    let l = path-lies b ws p e in
-    let m = path-end b ws p e in
-    let d₁ : x .root ≡ r .value = ap PathAt.root (same-value (u .rest)) in
-    let d₂ : x .count ≡ k .value = ap PathAt.count (same-value (u .rest)) in
-    let d₃ : x .start ≡ k .end = ap PathAt.start (same-value (u .rest)) in
-    let s : k .end ≡ p + 2 = omega (arith, w₁ .word .next, w₂ .next) in
-    record {
-      root = d₁ ∙ w₁ .word .same;
-      known = l .own .root;
-      count = d₂ ∙ w₂ .same ∙ ap (λ i. getD ws i 0) (w₁ .word .next);
-      start = d₃ ∙ s;
-      end = omega (arith, m, d₃, s);
-      inside = omega (arith, l .own .inside, d₃, s);
+path-there b ws p =
+    holds-on (Next 3 ws p) (PathWords ws p) (readBelow 3 ws p) _ (below-holds 3 ws p) λ root q h.
+    holds-on (There ws q) (PathWords ws p) (readWord ws q) _ (word-holds ws q) λ n r k.
+    holds-on (Names b ws n r) (PathWords ws p) (readNames b ws n r) _ (names-hold b ws n r (omega (arith, k .here, k .next))) λ u s m. record {
+      root = h .same;
+      known = h .below;
+      count = k .same ∙ ap (λ i. getD ws i 0) (h .next);
+      start = omega (arith, h .next, k .next);
+      end = omega (arith, h .next, k .next, m .end);
+      inside = omega (arith, h .next, k .next, m .inside);
     }
-  where
-    same-value : {A : Type 0} {a c : A} {m n : ℕ} → got a m ≡ got c n → c ≡ a
-    same-value e = cc
 
 -- what a head says of the words from p on, which stand behind its kind
 abbrev Own : List ℕ → ℕ → Head → ℕ → Type 0
 Own ws p (Plain w) q = (q ≡ p) × (w < 12)
-Own ws p (Name x) q = Word ws p x q
+Own ws p (Name x) q = There ws p x q
 Own ws p (FromPath x) q = PathWords ws p x q
-Own ws p (Apply n) q = Word ws p n q
+Own ws p (Apply n) q = There ws p n q
 Own ws p Ref q = q ≡ p
 Own ws p RefMut q = q ≡ p
 Own ws p Impl q = q ≡ p
 Own ws p Dyn q = q ≡ p
-Own ws p (Tuple n) q = Word ws p n q
-Own ws p (Function n) q = Word ws p n q
+Own ws p (Tuple n) q = There ws p n q
+Own ws p (Function n) q = There ws p n q
 Own ws p Both q = q ≡ p
-Own ws p (ArrayOf s) q = Word ws p s q
+Own ws p (ArrayOf s) q = There ws p s q
 Own ws p Synonym q = q ≡ p
-Own ws p (Meta x) q = Below 4 ws p x q
+Own ws p (Meta x) q = Next 4 ws p x q
 
 after-own : (b : ℕ) (ws : List ℕ) (w p : ℕ) → Holds (Own ws p) (headAfter b ws w p)
 unfolding headAfter pathHead
 after-own b ws w p =
-    test (ltb w 12) (λ t. one {h = Plain w} (refl, ltb-true w 12 t))
-    (test (eqb w 12) (λ t. holds-on (Own ws p) (readBelow b ws p) _ λ x q e. one {h = Name x} (below-there b ws p x q e .word))
-    (test (eqb w 13) (λ t. holds-on (Own ws p) (readPath b ws p) _ λ x q e. one {h = FromPath x} (path-there b ws p x q e))
-    (test (eqb w 14) (λ t. holds-on (Own ws p) (readWord ws p) _ λ x q e. one {h = Apply x} (word-there ws p x q e))
-    (test (eqb w 15) (λ t. one {h = Ref} refl)
-    (test (eqb w 16) (λ t. one {h = RefMut} refl)
-    (test (eqb w 17) (λ t. one {h = Impl} refl)
-    (test (eqb w 18) (λ t. one {h = Dyn} refl)
-    (test (eqb w 19) (λ t. holds-on (Own ws p) (readWord ws p) _ λ x q e. one {h = Tuple x} (word-there ws p x q e))
-    (test (eqb w 20) (λ t. holds-on (Own ws p) (readWord ws p) _ λ x q e. one {h = Function x} (word-there ws p x q e))
-    (test (eqb w 21) (λ t. one {h = Both} refl)
-    (test (eqb w 22) (λ t. holds-on (Own ws p) (readBelow (b + 1) ws p) _ λ x q e. one {h = ArrayOf x} (below-there (b + 1) ws p x q e .word))
-    (test (eqb w 23) (λ t. one {h = Synonym} refl)
-    (test (eqb w 24) (λ t. holds-on (Own ws p) (readBelow 4 ws p) _ λ x q e. one {h = Meta x} (below-there 4 ws p x q e))
-    (holds-stop (Own ws p) refl))))))))))))))
+    holds-pick (Own ws p) (ltb w 12) _ _ (λ t. (refl, ltb-true w 12 t))
+    (holds-pick (Own ws p) (eqb w 12) _ _ (λ t. name b Name (λ x q h. next-there h))
+    (holds-pick (Own ws p) (eqb w 13) _ _ (λ t. holds-on (PathWords ws p) (Own ws p) (readPath b ws p) _ (path-there b ws p) (λ x q h. h))
+    (holds-pick (Own ws p) (eqb w 14) _ _ (λ t. word Apply (λ x q h. h))
+    (holds-pick (Own ws p) (eqb w 15) _ _ (λ t. refl)
+    (holds-pick (Own ws p) (eqb w 16) _ _ (λ t. refl)
+    (holds-pick (Own ws p) (eqb w 17) _ _ (λ t. refl)
+    (holds-pick (Own ws p) (eqb w 18) _ _ (λ t. refl)
+    (holds-pick (Own ws p) (eqb w 19) _ _ (λ t. word Tuple (λ x q h. h))
+    (holds-pick (Own ws p) (eqb w 20) _ _ (λ t. word Function (λ x q h. h))
+    (holds-pick (Own ws p) (eqb w 21) _ _ (λ t. refl)
+    (holds-pick (Own ws p) (eqb w 22) _ _ (λ t. name (b + 1) ArrayOf (λ x q h. next-there h))
+    (holds-pick (Own ws p) (eqb w 23) _ _ (λ t. refl)
+    (holds-pick (Own ws p) (eqb w 24) _ _ (λ t. name 4 Meta (λ x q h. h))
+    tt)))))))))))))
   where
-    test : (t : Bool) {x y : Reading Head} → (t ≡ true → Holds (Own ws p) x) → Holds (Own ws p) y → Holds (Own ws p) (pick t x y)
-    test t {x} {y} h k = holds-pick (Own ws p) t x y h k
+    word : (f : ℕ → Head) → ((x q : ℕ) → There ws p x q → Own ws p (f x) q) → Holds (Own ws p) (readWord ws p >>= λ x q. got (f x) q)
+    word f k = holds-on (There ws p) (Own ws p) (readWord ws p) _ (word-holds ws p) k
 
-    one : {h : Head} {q : ℕ} → Own ws p h q → Holds (Own ws p) (got h q)
-    one {h} {q} k = holds-got (Own ws p) {a = h} {n = q} k
+    name : (c : ℕ) (f : ℕ → Head) → ((x q : ℕ) → Next c ws p x q → Own ws p (f x) q) → Holds (Own ws p) (readBelow c ws p >>= λ x q. got (f x) q)
+    name c f k = holds-on (Next c ws p) (Own ws p) (readBelow c ws p) _ (below-holds c ws p) k
 
 -- ---- own words are encoded as they stand
 
@@ -170,43 +115,54 @@ root-known : (r : ℕ) → r < 3 → rootWord {N = ℕ} (rootOf r) ≡ r
 unfolding everyBelow _and_ rootWord rootOf
 root-known r h = eqb-true (rootWord {N = ℕ} (rootOf r)) r (every-at (λ i. eqb (rootWord {N = ℕ} (rootOf i)) i) 3 refl r h)
 
-root-nameless : (r : ℕ) → names {N = ℕ} (rootOf r) ≡ []
+pub root-nameless : {N : Type 0} (r : ℕ) → names {N = N} (rootOf r) ≡ []
 unfolding rootOf names
-root-nameless r = go (eqb r 0) (eqb r 1)
+root-nameless {N} r = go (eqb r 0) (eqb r 1)
   where
-    go : (a b : Bool) → names {N = ℕ} (pick a Global (pick b Crate Self)) ≡ []
+    go : (a b : Bool) → names {N = N} (pick a Global (pick b Crate Self)) ≡ []
     go true b = refl
     go false true = refl
     go false false = refl
 
-select-root : (p : Path ℕ) (xs : List ℕ) → rootWord (MSels p xs) ≡ rootWord p
+pub select-root : {N : Type 0} (p : Path N) (xs : List N) → rootWord (MSels p xs) ≡ rootWord p
 unfolding MSels rootWord
 select-root p [] = refl
 select-root p (x ∷ xs) = select-root (PMemberSelect p x) xs
 
-select-names : (p : Path ℕ) (xs : List ℕ) → names (MSels p xs) ≡ names p ++ xs
+pub select-names : {N : Type 0} (p : Path N) (xs : List N) → names (MSels p xs) ≡ names p ++ xs
 unfolding MSels names
 select-names p [] = sym (append-nil (names p))
 select-names p (x ∷ xs) = select-names (PMemberSelect p x) xs ∙ append-assoc (names p) (x ∷ []) xs
-
-map-id : (xs : List ℕ) → map (λ x. x) xs ≡ xs
-map-id [] = refl
-map-id (x ∷ xs) = ap (λ l. x ∷ l) (map-id xs)
 
 name-words : (xs : List ℕ) → map tokenWord (map name xs) ≡ xs
 unfolding tokenWord
 name-words [] = refl
 name-words (x ∷ xs) = ap (λ l. x ∷ l) (name-words xs)
 
-map-append : (xs ys : List (Token ℕ)) → map tokenWord (xs ++ ys) ≡ map tokenWord xs ++ map tokenWord ys
-map-append [] ys = refl
-map-append (x ∷ xs) ys = ap (λ l. tokenWord x ∷ l) (map-append xs ys)
+-- what f reads at a position stands there by its encoding, and ends behind it
+abbrev pub Stands : {A : Type 0} → (A → List ℕ) → List ℕ → (ℕ → Reading A) → Type 0
+Stands {A} code ws f = (p : ℕ) (a : A) (n : ℕ) → p ≤ length ws → f p ≡ got a n → Run ws p (code a) × (n ≡ p + length (code a))
+
+path-run : (ws : List ℕ) (p : ℕ) (x : PathAt) (q : ℕ) → PathWords ws p x q
+    → Run ws p (map tokenWord (pathTokens (pathOf ws (λ i. i) x))) × (q ≡ p + length (map tokenWord (pathTokens (pathOf ws (λ i. i) x))))
+unfolding pathTokens pathOf tokenWord
+path-run ws p x q w =
+    let xs = take (x .count) (drop (x .start) ws) in
+    let l = run-part ws (x .start) (x .count) (omega (arith, w .inside, w .start)) in
+    let m : names (MSels (rootOf (x .root)) (map (λ i. i) xs)) ≡ xs = select-names (rootOf (x .root)) (map (λ i. i) xs) ∙ rw (root-nameless {N = ℕ} (x .root)) (map-id xs) in
+    let t : Run ws p (x .root ∷ x .count ∷ []) = rw (w .root, w .count) (run-two ws p (omega (arith, w .inside))) in
+    rw (m, select-root (rootOf (x .root)) (map (λ i. i) xs), root-known (x .root) (w .known), name-words xs, l .0)
+    (run-join (x .root ∷ x .count ∷ []) xs t (omega (arith, w .start)) (l .1), omega (arith, w .end))
+
+-- a path that was read stands there
+pub path-stands : (b : ℕ) (ws : List ℕ) → Stands (λ x. map tokenWord (pathTokens (pathOf ws (λ i. i) x))) ws (readPath b ws)
+path-stands b ws p x q l e = path-run ws p x q (subst (Holds (PathWords ws p)) e (path-there b ws p))
 
 -- ---- a head's type
 
 pub encode-cons : (t : Ty ℕ) (ts : Tys ℕ) → encodeAll (cons t ts) ≡ encode t ++ encodeAll ts
 unfolding encode encodeAll tokensAll
-encode-cons t ts = map-append (tokens t) (tokensAll ts)
+encode-cons t ts = map-append tokenWord (tokens t) (tokensAll ts)
 
 encode-snoc : (ts : Tys ℕ) (t : Ty ℕ) → encodeAll (snoc ts t) ≡ encodeAll ts ++ encode t
 unfolding snoc encode encodeAll tokensAll
@@ -228,7 +184,7 @@ module _ (ws : List ℕ) (at : ℕ) where
   bare k q ts t h e d s = record { own = getD ws at 0 ∷ []; run = run-one ws at h; end = d; spells = s ∙ ap (λ i. i ∷ encodeAll ts) e }
 
   -- one own word
-  worded : (k x q : ℕ) (ts : Tys ℕ) (t : Ty ℕ) → k ≡ getD ws at 0 → Word ws (at + 1) x q → encode t ≡ k ∷ x ∷ encodeAll ts → Spelled ws at q ts t
+  worded : (k x q : ℕ) (ts : Tys ℕ) (t : Ty ℕ) → k ≡ getD ws at 0 → There ws (at + 1) x q → encode t ≡ k ∷ x ∷ encodeAll ts → Spelled ws at q ts t
   worded k x q ts t e w s = record {
     own = getD ws at 0 ∷ getD ws (at + 1) 0 ∷ [];
     run = run-two ws at (w .here);
@@ -237,20 +193,15 @@ module _ (ws : List ℕ) (at : ℕ) where
   }
 
   pathed : (x : PathAt) (q : ℕ) → 13 ≡ getD ws at 0 → PathWords ws (at + 1) x q → Spelled ws at q nil (TypeFromPath (pathOf ws (λ i. i) x))
-  unfolding encode tokens pathTokens pathOf tokensAll encodeAll tokenWord
+  unfolding encode tokens tokensAll encodeAll tokenWord
   pathed x q e w =
-      let xs = take (x .count) (drop (x .start) ws) in
-      let l = run-part ws (x .start) (x .count) (omega (arith, w .inside, w .start)) in
-      let m : names (MSels (rootOf (x .root)) (map (λ i. i) xs)) ≡ xs = select-names (rootOf (x .root)) (map (λ i. i) xs) ∙ rw (root-nameless (x .root)) (map-id xs) in
+      let code = map tokenWord (pathTokens (pathOf ws (λ i. i) x)) in
+      let r = path-run ws (at + 1) x q w in
       record {
-        own = getD ws at 0 ∷ getD ws (at + 1) 0 ∷ getD ws (at + 2) 0 ∷ xs;
-        run = run-join (getD ws at 0 ∷ getD ws (at + 1) 0 ∷ []) (getD ws (at + 2) 0 ∷ xs) (run-two ws at (omega (arith, w .inside))) refl
-            (run-join (getD ws (at + 2) 0 ∷ []) xs (run-one ws (at + 2) (omega (arith, w .inside))) (omega (arith, w .start)) (l .1));
-        end = omega (arith, w .end, l .0);
-        spells =
-            let z : at + 1 + 1 ≡ at + 2 = omega arith in
-            rw (m, select-root (rootOf (x .root)) (map (λ i. i) xs), root-known (x .root) (w .known), name-words xs, l .0, append-nil xs)
-            (rw (sym e, sym (w .root), sym (rw z at (w .count))) refl);
+        own = getD ws at 0 ∷ code;
+        run = run-join (getD ws at 0 ∷ []) code (run-one ws at (omega (arith, w .inside))) refl (r .0);
+        end = omega (arith, r .1);
+        spells = ap (λ k. k ∷ code) e ∙ sym (append-nil (getD ws at 0 ∷ code));
       }
 
   own-spells : (h : Head) (q : ℕ) {ts : Tys ℕ} {t : Ty ℕ} → at < length ws → headKind h ≡ getD ws at 0 → Own ws (at + 1) h q → Node ws (λ x. x) h ts t → count ts ≡ kids h
@@ -267,19 +218,15 @@ module _ (ws : List ℕ) (at : ℕ) where
   own-spells Dyn q h e o (dyn t) k = bare 18 q (cons t nil) _ h e o (ap (λ l. 18 ∷ l) (sym (ap (map tokenWord) (append-nil (tokens t)))))
   own-spells (Tuple n) q h e o (tuple i ts) k = worded 19 n q ts _ e o (rw k refl)
   own-spells (Function n) q h e o (function i ts t) k =
-      worded 20 n q (snoc ts t) _ e o (rw (let z : count ts ≡ n = omega (arith, k, count-snoc ts t) in z) (ap (λ l. 20 ∷ n ∷ l) (map-append (tokensAll ts) (tokens t) ∙ sym (encode-snoc ts t))))
+      worded 20 n q (snoc ts t) _ e o (rw (let z : count ts ≡ n = omega (arith, k, count-snoc ts t) in z) (ap (λ l. 20 ∷ n ∷ l) (map-append tokenWord (tokensAll ts) (tokens t) ∙ sym (encode-snoc ts t))))
   own-spells Both q h e o (both l r) k = bare 21 q (cons l (cons r nil)) _ h e o (ap (λ x. 21 ∷ map tokenWord (tokens l ++ x)) (sym (append-nil (tokens r))))
   own-spells (ArrayOf s) q h e o (array i t) k =
       worded 22 s q (cons t nil) _ e o (rw (size-word s) (ap (λ l. 22 ∷ s ∷ l) (sym (ap (map tokenWord) (append-nil (tokens t))))))
   own-spells Synonym q h e o (synonym d b) k = bare 23 q (cons d (cons b nil)) _ h e o (ap (λ x. 23 ∷ map tokenWord (tokens d ++ x)) (sym (append-nil (tokens b))))
   own-spells (Meta x) q h e o (meta i d) k =
-      worded 24 x q (cons d nil) _ e (o .word) (rw (flags-word x (o .below)) (ap (λ l. 24 ∷ x ∷ l) (sym (ap (map tokenWord) (append-nil (tokens d))))))
+      worded 24 x q (cons d nil) _ e (next-there o) (rw (flags-word x (o .below)) (ap (λ l. 24 ∷ x ∷ l) (sym (ap (map tokenWord) (append-nil (tokens d))))))
 
 -- ---- whole types
-
--- what f reads at a position stands there by its encoding, and ends behind it
-abbrev pub Stands : {A : Type 0} → (A → List ℕ) → List ℕ → (ℕ → Reading A) → Type 0
-Stands {A} code ws f = (p : ℕ) (a : A) (n : ℕ) → p ≤ length ws → f p ≡ got a n → Run ws p (code a) × (n ≡ p + length (code a))
 
 pub types-stand : (ws : List ℕ) (f : ℕ → Reading (Ty ℕ)) → Stands encode ws f → (k : ℕ) → Stands encodeAll ws (readTypes f k)
 unfolding readTypes encodeAll tokensAll
@@ -307,7 +254,7 @@ type-stands b ws (suc deep) p t n l e =
     let a : headAfter b ws (getD ws p 0) (p + 1) ≡ got (d .value) (d .end) = sym (head-at b ws p here) ∙ d .first in
     let m = node-below ws (λ x. x) f (d .value) (d .end) (d .rest) in
     let s = own-spells ws p (d .value) (d .end) here (head-kind b ws (getD ws p 0) (p + 1) (d .value) (d .end) a)
-    (after-own b ws (getD ws p 0) (p + 1) (d .value) (d .end) a) (m .node) (types-count f (kids (d .value)) (d .end) (m .reads)) in
+    (subst (Holds (Own ws (p + 1))) a (after-own b ws (getD ws p 0) (p + 1))) (m .node) (types-count f (kids (d .value)) (d .end) (m .reads)) in
     let c = types-stand ws f (type-stands b ws deep) (kids (d .value)) (d .end) (m .types) n (k .ends) (m .reads) in
     (rw (s .spells) (run-join (s .own) (encodeAll (m .types)) (s .run) (s .end) (c .0)), omega (arith, s .end, c .1, ap length (s .spells), length-append (s .own) (encodeAll (m .types))))
 
@@ -318,7 +265,7 @@ node-spells b ws at {h} {q} {ts} {t} e k c =
     let l = head-lies b ws at e in
     let here : at < length ws = omega (arith, l .starts, l .ends) in
     let a : headAfter b ws (getD ws at 0) (at + 1) ≡ got h q = sym (head-at b ws at here) ∙ e in
-    let s = own-spells ws at h q here (head-kind b ws (getD ws at 0) (at + 1) h q a) (after-own b ws (getD ws at 0) (at + 1) h q a) k c in
+    let s = own-spells ws at h q here (head-kind b ws (getD ws at 0) (at + 1) h q a) (subst (Holds (Own ws (at + 1))) a (after-own b ws (getD ws at 0) (at + 1))) k c in
     let z : q - at ≡ length (s .own) = omega (arith, s .end) in
     let y : take (q - at) (drop at ws) ≡ s .own = rw z (s .run .words) in
     s .spells ∙ ap (λ l. l ++ encodeAll ts) (sym y)

@@ -1,6 +1,6 @@
 use Prim.Native.Nat.{_*_, _+_, _-_, _<_, _≤_, ℕ}
 use Rattle.encoding.specs.Types.{readTypes}
-use Rattle.rules.proofs.Depths.{head-here}
+use Rattle.trees.proofs.Heads.{head-here}
 use Rattle.rebuild.proofs.Growing.{lays-over, lays-to}
 use Rattle.rebuild.proofs.Types.{Rebuilding, below-full, below-reads, built, finished, own-fits, own-over, rebuilding-ends, rebuilding-starts, settle-ends, type-done, type-over, type-reads, types-full, types-more, types-past}
 use Rattle.rebuild.specs.Laid.{mapping}
