@@ -18,6 +18,7 @@ use Rattle.encoding.proofs.Types.{Made₂, bind-got, made-got, made₂-got, nod
 use Rattle.encoding.proofs.Inside.{head-lies}
 use Rattle.encoding.proofs.HeadWords.{words-kids, words-end}
 use Rattle.writing.specs.Written.{Readable, EndsAt}
+use Rattle.writing.proofs.Accepted.{type-here}
 
 -- some types were read up to n
 pub record Types (x : Reading (Tys Bytes)) (n : ℕ) : Type 0 where
@@ -90,17 +91,23 @@ pub record Skipping (ws pairs : List ℕ) (text : Bytes) (at due place : ℕ) : 
   pub left : Types (readTypes (typeAt ws pairs text) due place) end
   pub inside : place ≤ length ws
 
-module _ (ws pairs : List ℕ) (text : Bytes) (at : ℕ) where
-  pub skip-start : at ≤ length ws → Readable (typeAt ws pairs text at) → Skipping ws pairs text at 1 at
-  skip-start h r = record { type = r .value; end = r .end; reads = r .reads; left = types-one (typeAt ws pairs text) at (r .reads); inside = h }
+pub record Stepped (ws pairs : List ℕ) (text : Bytes) (at due place k q : ℕ) : Type 0 where
+  pub next : Skipping ws pairs text at (due - 1 + k) q
+  pub few : due - 1 + k ≤ length ws
+  pub ahead : place < q
 
-  pub record Stepped (due place k q : ℕ) : Type 0 where
-    pub next : Skipping ws pairs text at (due - 1 + k) q
-    pub few : due - 1 + k ≤ length ws
-    pub ahead : place < q
+pub skip-start : (ws pairs : List ℕ) (text : Bytes) (at : ℕ) → Readable (typeAt ws pairs text at) → Skipping ws pairs text at 1 at
+skip-start ws pairs text at r = record {
+  type = r .value;
+  end = r .end;
+  reads = r .reads;
+  left = types-one (typeAt ws pairs text) at (r .reads);
+  inside = omega (arith, type-here ws pairs text at (r .reads));
+}
 
-  skip-step : (due place : ℕ) {h : Head} {q : ℕ} → 0 < due → Skipping ws pairs text at due place → readHead (nameCount pairs) ws place ≡ got h q → Stepped due place (kids h) q
-  skip-step due place {h} {q} d s e =
+module _ {ws pairs : List ℕ} {text : Bytes} {at : ℕ} where
+  skip-step : {due place : ℕ} {h : Head} {q : ℕ} → Skipping ws pairs text at due place → 0 < due → readHead (nameCount pairs) ws place ≡ got h q → Stepped ws pairs text at due place (kids h) q
+  skip-step {due} {place} {h} {q} s d e =
       let f = first-of ws pairs text due place d (s .left .reads) in
       let l = head-lies (nameCount pairs) ws place e in
       let node = node-of ws pairs text place (f .reads) e in
@@ -115,7 +122,7 @@ module _ (ws pairs : List ℕ) (text : Bytes) (at : ℕ) where
       }
 
   -- where a type is due, a head stands
-  module _ (due place : ℕ) (d : 0 < due) (s : Skipping ws pairs text at due place) where
+  module _ {due place : ℕ} (s : Skipping ws pairs text at due place) (d : 0 < due) where
     pub head-due : HeadHere ws place
     unfolding readType
     head-due =
@@ -123,15 +130,15 @@ module _ (ws pairs : List ℕ) (text : Bytes) (at : ℕ) where
         record { bound = nameCount pairs; head = h .value; next = h .end; reads = h .first }
 
     -- and its words say what is due behind it
-    pub skip-words : Stepped due place (typesBelow ws place) (ownEnd ws place)
+    pub skip-words : Stepped ws pairs text at due place (typesBelow ws place) (ownEnd ws place)
     unfolding readType
     skip-words =
         let h = bind-got (readHead (nameCount pairs) ws place) _ (first-of ws pairs text due place d (s .left .reads) .reads) in
-        rw (words-kids (nameCount pairs) ws place (h .first), words-end (nameCount pairs) ws place (h .first)) (skip-step due place d s (h .first))
+        rw (words-kids (nameCount pairs) ws place (h .first), words-end (nameCount pairs) ws place (h .first)) (skip-step s d (h .first))
 
   -- where nothing is due, the type ends
-  pub skip-end : (due place : ℕ) → due ≡ 0 → Skipping ws pairs text at due place → EndsAt (typeAt ws pairs text at) place
+  pub skip-end : {due place : ℕ} → Skipping ws pairs text at due place → due ≡ 0 → EndsAt (typeAt ws pairs text at) place
   unfolding readTypes
-  skip-end due place z s =
+  skip-end {place = place} s z =
       let e : place ≡ s .end = (let l = rw z at (s .left .reads) in cc) in
       record { value = s .type; reads = s .reads ∙ ap (got (s .type)) (sym e) }

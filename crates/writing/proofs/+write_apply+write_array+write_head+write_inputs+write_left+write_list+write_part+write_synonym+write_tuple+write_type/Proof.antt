@@ -1,23 +1,14 @@
-use Prim.Native.Nat.{_+_, _-_, _*_, _%_}
-use mathlib.Core.Path.{refl, ap, sym, _∙_}
-use mathlib.Core.List.{[]}
-use lib.Dec.{eqb, leb}
-use lib.ListN.{length, getD}
+use Prim.Native.Nat.{ℕ, _+_, _-_, _*_, _<_}
+use lib.ListN.{length}
 use Rattle.rast.specs.Bytes.{ascii}
-use Rattle.rast.specs.Tree.{U8, Borrowed, BorrowedMut, ImplType, DynType, TMetaData}
-use Rattle.rast.specs.ToString.{Primitive·ToString, Type·ToString}
 use Rattle.output.proofs.Laws.{wrote-nothing, wrote-then, wrote-kept}
 use Rattle.encoding.specs.declared.Head.the-variants.{Apply, Tuple, Function, Both, ArrayOf, Synonym}
-use Rattle.encoding.specs.Types.{primitives, readNode, typeAt}
-use Rattle.writing.specs.Written.{Front, front, whole}
-use Rattle.writing.proofs.Laws.{room-as, written-as, written-same}
-use Rattle.encoding.specs.Tables.{nameBytes}
-use Rattle.writing.proofs.Accepted.{type-here, plain-type, name-type, ref-head, mut-head, impl-head, dyn-head, both-head, synonym-head, apply-head, tuple-head, function-head, array-head, meta-head}
-use Rattle.writing.proofs.Parts.{apply-base, apply-none, apply-open, apply-list, apply-close, apply-done, tuple-empty, tuple-none, tuple-open, tuple-list, tuple-close, tuple-done, inputs-open, inputs-none-arrow, inputs-none, inputs-list, inputs-arrow, inputs-done, left-type, left-plus, left-done, array-open, array-element, array-end, array-done, synonym-display, synonym-base, synonym-done}
-use Rattle.writing.proofs.Turns.{ListLeft, written-later, part-rest, part-done, front-same, node-room, prefix-room, prefix-done, turn-start, turn-next, turn-here, turn-again, turn-last, list-start, item-room, item-here, list-done, comma-room, list-again}
+use Rattle.writing.specs.Written.{whole}
+use Rattle.writing.proofs.Parts.{NodeRoom, apply-base, apply-none, apply-later, apply-open, apply-list, apply-close, apply-done, tuple-empty, tuple-none, tuple-open, tuple-list, tuple-close, tuple-done, inputs-open, inputs-none-arrow, inputs-none, inputs-list, inputs-arrow, inputs-done, left-type, left-plus, left-done, array-open, array-element, array-end, array-done, synonym-display, synonym-base, synonym-done}
+use Rattle.writing.proofs.Rooms.{TypeRoom, WordNode, room-here, plain-leaf, name-there, name-leaf, ref-prefix, mut-prefix, impl-prefix, dyn-prefix, meta-prefix, apply-node, tuple-node, function-node, both-node, array-node, array-size, synonym-node, leaf-room, leaf-done, prefix-room, prefix-done, node-room, node-whole, node-front}
+use Rattle.writing.proofs.Turns.{ListLeft, Turning, part-rest, part-done, turn-start, turn-next, turn-here, turn-again, turn-last, list-start, item-room, item-here, list-done, comma-room, list-again}
 use borrow.Author.Needs.{needs}
 use native.Mathlib.Omega.{arith}
-use Prim.Native.Nat.{ℕ, _<_}
 use borrow.Fn.Kinds.{In}
 use borrow.Fn.PlainCycle.{Measures, is, falls, and}
 use Rattle.writing.proofs.write_apply.Reads as write-apply
@@ -90,92 +81,64 @@ abbrev μ-write-type : Measures 4 write-type-kinds.ps ℕ
 μ-write-type κs a = 5 * (length (a .0 .now) - a .1 .1 .1 .0) + 1
 
 abbrev write-apply-at : ℕ → In 4 write-apply-kinds.ps
-write-apply-at t =
-    and 4 write-apply-kinds.ps (is 4 write-apply-kinds.ps μ-write-apply t) write-apply.Pre
+write-apply-at t = and 4 write-apply-kinds.ps (is 4 write-apply-kinds.ps μ-write-apply t) write-apply.Pre
 
 abbrev write-apply-below : ℕ → In 4 write-apply-kinds.ps
-write-apply-below t =
-    and 4 write-apply-kinds.ps (falls 4 write-apply-kinds.ps _<_ μ-write-apply t) write-apply.Pre
+write-apply-below t = and 4 write-apply-kinds.ps (falls 4 write-apply-kinds.ps _<_ μ-write-apply t) write-apply.Pre
 
 abbrev write-array-at : ℕ → In 4 write-array-kinds.ps
-write-array-at t =
-    and 4 write-array-kinds.ps (is 4 write-array-kinds.ps μ-write-array t) write-array.Pre
+write-array-at t = and 4 write-array-kinds.ps (is 4 write-array-kinds.ps μ-write-array t) write-array.Pre
 
 abbrev write-array-below : ℕ → In 4 write-array-kinds.ps
-write-array-below t =
-    and 4 write-array-kinds.ps (falls 4 write-array-kinds.ps _<_ μ-write-array t) write-array.Pre
+write-array-below t = and 4 write-array-kinds.ps (falls 4 write-array-kinds.ps _<_ μ-write-array t) write-array.Pre
 
 abbrev write-head-at : ℕ → In 4 write-head-kinds.ps
-write-head-at t =
-    and 4 write-head-kinds.ps (is 4 write-head-kinds.ps μ-write-head t) write-head.Pre
+write-head-at t = and 4 write-head-kinds.ps (is 4 write-head-kinds.ps μ-write-head t) write-head.Pre
 
 abbrev write-head-below : ℕ → In 4 write-head-kinds.ps
-write-head-below t =
-    and 4 write-head-kinds.ps (falls 4 write-head-kinds.ps _<_ μ-write-head t) write-head.Pre
+write-head-below t = and 4 write-head-kinds.ps (falls 4 write-head-kinds.ps _<_ μ-write-head t) write-head.Pre
 
 abbrev write-inputs-at : ℕ → In 4 write-inputs-kinds.ps
-write-inputs-at t =
-    and 4 write-inputs-kinds.ps (is 4 write-inputs-kinds.ps μ-write-inputs t) write-inputs.Pre
+write-inputs-at t = and 4 write-inputs-kinds.ps (is 4 write-inputs-kinds.ps μ-write-inputs t) write-inputs.Pre
 
 abbrev write-inputs-below : ℕ → In 4 write-inputs-kinds.ps
-write-inputs-below t =
-    and
-    4
-    write-inputs-kinds.ps
-    (falls 4 write-inputs-kinds.ps _<_ μ-write-inputs t)
-    write-inputs.Pre
+write-inputs-below t = and 4 write-inputs-kinds.ps (falls 4 write-inputs-kinds.ps _<_ μ-write-inputs t) write-inputs.Pre
 
 abbrev write-left-at : ℕ → In 4 write-left-kinds.ps
-write-left-at t =
-    and 4 write-left-kinds.ps (is 4 write-left-kinds.ps μ-write-left t) write-left.Pre
+write-left-at t = and 4 write-left-kinds.ps (is 4 write-left-kinds.ps μ-write-left t) write-left.Pre
 
 abbrev write-left-below : ℕ → In 4 write-left-kinds.ps
-write-left-below t =
-    and 4 write-left-kinds.ps (falls 4 write-left-kinds.ps _<_ μ-write-left t) write-left.Pre
+write-left-below t = and 4 write-left-kinds.ps (falls 4 write-left-kinds.ps _<_ μ-write-left t) write-left.Pre
 
 abbrev write-list-at : ℕ → In 4 write-list-kinds.ps
-write-list-at t =
-    and 4 write-list-kinds.ps (is 4 write-list-kinds.ps μ-write-list t) write-list.Pre
+write-list-at t = and 4 write-list-kinds.ps (is 4 write-list-kinds.ps μ-write-list t) write-list.Pre
 
 abbrev write-list-below : ℕ → In 4 write-list-kinds.ps
-write-list-below t =
-    and 4 write-list-kinds.ps (falls 4 write-list-kinds.ps _<_ μ-write-list t) write-list.Pre
+write-list-below t = and 4 write-list-kinds.ps (falls 4 write-list-kinds.ps _<_ μ-write-list t) write-list.Pre
 
 abbrev write-part-at : ℕ → In 4 write-part-kinds.ps
-write-part-at t =
-    and 4 write-part-kinds.ps (is 4 write-part-kinds.ps μ-write-part t) write-part.Pre
+write-part-at t = and 4 write-part-kinds.ps (is 4 write-part-kinds.ps μ-write-part t) write-part.Pre
 
 abbrev write-part-below : ℕ → In 4 write-part-kinds.ps
-write-part-below t =
-    and 4 write-part-kinds.ps (falls 4 write-part-kinds.ps _<_ μ-write-part t) write-part.Pre
+write-part-below t = and 4 write-part-kinds.ps (falls 4 write-part-kinds.ps _<_ μ-write-part t) write-part.Pre
 
 abbrev write-synonym-at : ℕ → In 4 write-synonym-kinds.ps
-write-synonym-at t =
-    and 4 write-synonym-kinds.ps (is 4 write-synonym-kinds.ps μ-write-synonym t) write-synonym.Pre
+write-synonym-at t = and 4 write-synonym-kinds.ps (is 4 write-synonym-kinds.ps μ-write-synonym t) write-synonym.Pre
 
 abbrev write-synonym-below : ℕ → In 4 write-synonym-kinds.ps
-write-synonym-below t =
-    and
-    4
-    write-synonym-kinds.ps
-    (falls 4 write-synonym-kinds.ps _<_ μ-write-synonym t)
-    write-synonym.Pre
+write-synonym-below t = and 4 write-synonym-kinds.ps (falls 4 write-synonym-kinds.ps _<_ μ-write-synonym t) write-synonym.Pre
 
 abbrev write-tuple-at : ℕ → In 4 write-tuple-kinds.ps
-write-tuple-at t =
-    and 4 write-tuple-kinds.ps (is 4 write-tuple-kinds.ps μ-write-tuple t) write-tuple.Pre
+write-tuple-at t = and 4 write-tuple-kinds.ps (is 4 write-tuple-kinds.ps μ-write-tuple t) write-tuple.Pre
 
 abbrev write-tuple-below : ℕ → In 4 write-tuple-kinds.ps
-write-tuple-below t =
-    and 4 write-tuple-kinds.ps (falls 4 write-tuple-kinds.ps _<_ μ-write-tuple t) write-tuple.Pre
+write-tuple-below t = and 4 write-tuple-kinds.ps (falls 4 write-tuple-kinds.ps _<_ μ-write-tuple t) write-tuple.Pre
 
 abbrev write-type-at : ℕ → In 4 write-type-kinds.ps
-write-type-at t =
-    and 4 write-type-kinds.ps (is 4 write-type-kinds.ps μ-write-type t) write-type.Pre
+write-type-at t = and 4 write-type-kinds.ps (is 4 write-type-kinds.ps μ-write-type t) write-type.Pre
 
 abbrev write-type-below : ℕ → In 4 write-type-kinds.ps
-write-type-below t =
-    and 4 write-type-kinds.ps (falls 4 write-type-kinds.ps _<_ μ-write-type t) write-type.Pre
+write-type-below t = and 4 write-type-kinds.ps (falls 4 write-type-kinds.ps _<_ μ-write-type t) write-type.Pre
 
 abbrev write-apply-calls : ℕ → write-apply-lts.Claims
 write-apply-calls t = (write-part-below t, write-part.Post, put-reads.Asked, put-reads.Learnt, write-list-below t, write-list.Post)
@@ -207,110 +170,92 @@ write-tuple-calls t = (put-reads.Asked, put-reads.Learnt, write-list-below t, wr
 abbrev write-type-calls : ℕ → write-type-lts.Claims
 write-type-calls t = (write-head-below t, write-head.Post)
 
+write-apply-room : (t : ℕ) (s : write-apply-lts.Start (write-apply-calls t) (write-apply-at t) write-apply.Post) → NodeRoom (s .args .words .now) (s .args .pairs .now) (s .args .text .now) (Apply (s .args .n)) (s .args .at) (s .args .out .now) (s .args .pos)
+write-apply-room t s = record { there = s .pre .1 .1 }
+
 write-apply-write-part-requires : (t : ℕ) → write-apply-lts.Need-write-part-requires (write-apply-calls t) (write-apply-at t) write-apply.Post
 write-apply-write-part-requires t c κs =
-    let a = c .before .before .before .before .before .args in
-    let pre = c .before .before .before .before .before .pre .1 in
-    (omega (arith, c .before .before .before .before .before .pre .0), (pre .0, apply-base (a .words .now) (a .pairs .now) (a .text .now) (a .n) (a .at) (pre .1)))
+    let s = c .before .before .before .before .before in
+    (omega (arith, s .pre .0), (s .pre .1 .0, apply-base (write-apply-room t s)))
 
 write-apply-same-length : (t : ℕ) → write-apply-lts.Need-same-length (write-apply-calls t) (write-apply-at t) write-apply.Post
 write-apply-same-length t c = search needs
 
 write-apply-returns : (t : ℕ) → write-apply-lts.Need-returns (write-apply-calls t) (write-apply-at t) write-apply.Post
-write-apply-returns t c =
-    let a = c .before .before .before .before .before .before .before .before .before .args in
-    let pre = c .before .before .before .before .before .before .before .before .before .pre .1 in
-    apply-none (a .words .now) (a .pairs .now) (a .text .now) (a .n) (a .at) (pre .1) (c .before .before .before .write-part .ensures) (c .if1 .taken)
+write-apply-returns t c = apply-none (write-apply-room t (c .before .before .before .before .before .before .before .before .before)) (c .before .before .before .write-part .ensures) (c .if1 .taken)
 
 write-apply-slice-aggregate-put : (t : ℕ) → write-apply-lts.Need-slice-aggregate-put (write-apply-calls t) (write-apply-at t) write-apply.Post
 write-apply-slice-aggregate-put t c = search needs
 
 write-apply-put-requires : (t : ℕ) → write-apply-lts.Need-put-requires (write-apply-calls t) (write-apply-at t) write-apply.Post
 unfolding ascii
-write-apply-put-requires t c κs =
-    let a = c .before .before .before .before .before .before .before .before .before .before .before .args in
-    let pre = c .before .before .before .before .before .before .before .before .before .before .before .pre .1 in
-    apply-open (a .words .now) (a .pairs .now) (a .text .now) (a .n) (a .at) (pre .1) (c .before .before .before .before .before .write-part .ensures) (c .before .before .if1 .left)
+write-apply-put-requires t c κs = apply-open (write-apply-room t (c .before .before .before .before .before .before .before .before .before .before .before)) (c .before .before .before .before .before .write-part .ensures) (c .before .before .if1 .left)
 
 write-apply-write-list-requires : (t : ℕ) → write-apply-lts.Need-write-list-requires (write-apply-calls t) (write-apply-at t) write-apply.Post
 unfolding ascii
 write-apply-write-list-requires t c κs =
-    let a = c .before .before .before .before .before .before .before .before .before .before .before .before .before .before .before .args in
-    let pre = c .before .before .before .before .before .before .before .before .before .before .before .before .before .before .before .pre .1 in
-    let later = written-later (a .words .now) (a .pairs .now) (a .text .now) (a .at) (c .before .before .before .before .before .before .before .before .before .write-part .ensures) in
-    (omega (arith, c .before .before .before .before .before .before .before .before .before .before .before .before .before .before .before .pre .0), (omega (arith, c .before .before .before .before .before .before .if1 .left), pre .0, apply-list (a .words .now) (a .pairs .now) (a .text .now) (a .n) (a .at) (pre .1) (c .before .before .before .before .before .before .before .before .before .write-part .ensures) (c .before .before .before .before .before .before .if1 .left) (c .before .before .before .put .ensures)))
+    let s = c .before .before .before .before .before .before .before .before .before .before .before .before .before .before .before in
+    let r = write-apply-room t s in
+    let base = c .before .before .before .before .before .before .before .before .before .write-part .ensures in
+    let some = c .before .before .before .before .before .before .if1 .left in
+    (omega (arith, s .pre .0, apply-later r base), (omega (arith, some), s .pre .1 .0, apply-list r base some (c .before .before .before .put .ensures)))
 
 write-apply-slice-aggregate-put-2 : (t : ℕ) → write-apply-lts.Need-slice-aggregate-put-2 (write-apply-calls t) (write-apply-at t) write-apply.Post
 write-apply-slice-aggregate-put-2 t c = search needs
 
 write-apply-put-requires-2 : (t : ℕ) → write-apply-lts.Need-put-requires-2 (write-apply-calls t) (write-apply-at t) write-apply.Post
 unfolding ascii
-write-apply-put-requires-2 t c κs =
-    let a = c .before .before .before .before .before .before .before .before .before .before .before .before .before .before .before .before .before .before .before .before .args in
-    let pre = c .before .before .before .before .before .before .before .before .before .before .before .before .before .before .before .before .before .before .before .before .pre .1 in
-    apply-close (a .words .now) (a .pairs .now) (a .text .now) (a .n) (a .at) (pre .1) (c .before .before .before .before .before .before .before .before .before .before .before .before .before .before .write-part .ensures) (c .before .before .before .before .before .before .before .before .before .before .before .if1 .left) (c .before .before .before .before .before .before .before .before .put .ensures) (c .before .before .before .before .write-list .ensures)
+write-apply-put-requires-2 t c κs = apply-close (write-apply-room t (c .before .before .before .before .before .before .before .before .before .before .before .before .before .before .before .before .before .before .before .before)) (c .before .before .before .before .before .before .before .before .before .before .before .before .before .before .write-part .ensures) (c .before .before .before .before .before .before .before .before .before .before .before .if1 .left) (c .before .before .before .before .before .before .before .before .put .ensures) (c .before .before .before .before .write-list .ensures)
 
 write-apply-same-length-2 : (t : ℕ) → write-apply-lts.Need-same-length-2 (write-apply-calls t) (write-apply-at t) write-apply.Post
 write-apply-same-length-2 t c = search needs
 
 write-apply-returns-2 : (t : ℕ) → write-apply-lts.Need-returns-2 (write-apply-calls t) (write-apply-at t) write-apply.Post
 unfolding ascii
-write-apply-returns-2 t c =
-    let a = c .before .before .before .before .before .before .before .before .before .before .before .before .before .before .before .before .before .before .before .before .before .before .before .args in
-    let pre = c .before .before .before .before .before .before .before .before .before .before .before .before .before .before .before .before .before .before .before .before .before .before .before .pre .1 in
-    apply-done (a .words .now) (a .pairs .now) (a .text .now) (a .n) (a .at) (pre .1) (c .before .before .before .before .before .before .before .before .before .before .before .before .before .before .before .before .before .write-part .ensures) (c .before .before .before .before .before .before .before .before .before .before .before .before .before .before .if1 .left) (c .before .before .before .before .before .before .before .before .before .before .before .put .ensures) (c .before .before .before .before .before .before .before .write-list .ensures) (c .before .before .put2 .ensures)
+write-apply-returns-2 t c = apply-done (write-apply-room t (c .before .before .before .before .before .before .before .before .before .before .before .before .before .before .before .before .before .before .before .before .before .before .before)) (c .before .before .before .before .before .before .before .before .before .before .before .before .before .before .before .before .before .write-part .ensures) (c .before .before .before .before .before .before .before .before .before .before .before .before .before .before .if1 .left) (c .before .before .before .before .before .before .before .before .before .before .before .put .ensures) (c .before .before .before .before .before .before .before .write-list .ensures) (c .before .before .put2 .ensures)
+
+write-array-room : (t : ℕ) (s : write-array-lts.Start (write-array-calls t) (write-array-at t) write-array.Post) → NodeRoom (s .args .words .now) (s .args .pairs .now) (s .args .text .now) (ArrayOf (s .args .size)) (s .args .at) (s .args .out .now) (s .args .pos)
+write-array-room t s = record { there = s .pre .1 .2 }
 
 write-array-slice-aggregate-put : (t : ℕ) → write-array-lts.Need-slice-aggregate-put (write-array-calls t) (write-array-at t) write-array.Post
 write-array-slice-aggregate-put t c = search needs
 
 write-array-put-requires : (t : ℕ) → write-array-lts.Need-put-requires (write-array-calls t) (write-array-at t) write-array.Post
 unfolding ascii
-write-array-put-requires t c κs =
-    let a = c .before .before .before .before .before .before .args in
-    let pre = c .before .before .before .before .before .before .pre .1 in
-    array-open (a .words .now) (a .pairs .now) (a .text .now) (a .size) (a .at) (pre .2)
+write-array-put-requires t c κs = array-open (write-array-room t (c .before .before .before .before .before .before))
 
 write-array-write-part-requires : (t : ℕ) → write-array-lts.Need-write-part-requires (write-array-calls t) (write-array-at t) write-array.Post
 unfolding ascii
 write-array-write-part-requires t c κs =
-    let a = c .before .before .before .before .before .before .before .before .before .before .args in
-    let pre = c .before .before .before .before .before .before .before .before .before .before .pre .1 in
-    (omega (arith, c .before .before .before .before .before .before .before .before .before .before .pre .0), (pre .1, array-element (a .words .now) (a .pairs .now) (a .text .now) (a .size) (a .at) (pre .2) (c .before .before .before .put .ensures)))
+    let s = c .before .before .before .before .before .before .before .before .before .before in
+    (omega (arith, s .pre .0), (s .pre .1 .1, array-element (write-array-room t s) (c .before .before .before .put .ensures)))
 
 write-array-put-size-requires : (t : ℕ) → write-array-lts.Need-put-size-requires (write-array-calls t) (write-array-at t) write-array.Post
 unfolding ascii
 write-array-put-size-requires t c κs =
-    let a = c .before .before .before .before .before .before .before .before .before .before .before .before .before .before .args in
-    let pre = c .before .before .before .before .before .before .before .before .before .before .before .before .before .before .pre .1 in
-    (pre .0, pre .1, array-end (a .words .now) (a .pairs .now) (a .text .now) (a .size) (a .at) (pre .2) (c .before .before .before .before .before .before .before .put .ensures) (c .before .before .before .write-part .ensures))
+    let s = c .before .before .before .before .before .before .before .before .before .before .before .before .before .before in
+    (s .pre .1 .0, s .pre .1 .1, array-end (write-array-room t s) (c .before .before .before .before .before .before .before .put .ensures) (c .before .before .before .write-part .ensures))
 
 write-array-same-length : (t : ℕ) → write-array-lts.Need-same-length (write-array-calls t) (write-array-at t) write-array.Post
 write-array-same-length t c = search needs
 
 write-array-returns : (t : ℕ) → write-array-lts.Need-returns (write-array-calls t) (write-array-at t) write-array.Post
 unfolding ascii
-write-array-returns t c =
-    let a = c .before .before .before .before .before .before .before .before .before .before .before .before .before .before .before .before .before .args in
-    let pre = c .before .before .before .before .before .before .before .before .before .before .before .before .before .before .before .before .before .pre .1 in
-    array-done (a .words .now) (a .pairs .now) (a .text .now) (a .size) (a .at) (pre .2) (c .before .before .before .before .before .before .before .before .before .before .put .ensures) (c .before .before .before .before .before .before .write-part .ensures) (c .before .before .put-size .ensures)
+write-array-returns t c = array-done (write-array-room t (c .before .before .before .before .before .before .before .before .before .before .before .before .before .before .before .before .before)) (c .before .before .before .before .before .before .before .before .before .before .put .ensures) (c .before .before .before .before .before .before .write-part .ensures) (c .before .before .put-size .ensures)
+
+write-head-room : (t : ℕ) (s : write-head-lts.Start (write-head-calls t) (write-head-at t) write-head.Post) → TypeRoom (s .args .words .now) (s .args .pairs .now) (s .args .text .now) (s .args .at) (s .args .out .now) (s .args .pos)
+write-head-room t s = record { there = s .pre .1 .1 }
 
 write-head-mul-w : (t : ℕ) → write-head-lts.Need-mul-w (write-head-calls t) (write-head-at t) write-head.Post
-write-head-mul-w t c =
-    let a = c .before .before .before .before .args in
-    let pre = c .before .before .before .before .pre .1 in
-    omega (arith, type-here (a .words .now) (a .pairs .now) (a .text .now) (a .at) (pre .1 .reads))
+write-head-mul-w t c = omega (arith, room-here (write-head-room t (c .before .before .before .before)))
 
 write-head-shared-slice-read-w : (t : ℕ) → write-head-lts.Need-shared-slice-read-w (write-head-calls t) (write-head-at t) write-head.Post
-write-head-shared-slice-read-w t c =
-    let a = c .before .before .before .before .before .args in
-    let pre = c .before .before .before .before .before .pre .1 in
-    omega (arith, type-here (a .words .now) (a .pairs .now) (a .text .now) (a .at) (pre .1 .reads))
+write-head-shared-slice-read-w t c = omega (arith, room-here (write-head-room t (c .before .before .before .before .before)))
 
 write-head-write-leaf-requires : (t : ℕ) → write-head-lts.Need-write-leaf-requires (write-head-calls t) (write-head-at t) write-head.Post
 write-head-write-leaf-requires t c κs =
-    let a = c .before .before .before .before .before .before .before .args in
-    let pre = c .before .before .before .before .before .before .before .pre .1 in
-    (c .before .if1 .taken, pre .0, pre .1)
+    let s = c .before .before .before .before .before .before .before in
+    (c .before .if1 .taken, s .pre .1 .0, s .pre .1 .1)
 
 write-head-same-length : (t : ℕ) → write-head-lts.Need-same-length (write-head-calls t) (write-head-at t) write-head.Post
 write-head-same-length t c = search needs
@@ -318,409 +263,283 @@ write-head-same-length t c = search needs
 write-head-returns : (t : ℕ) → write-head-lts.Need-returns (write-head-calls t) (write-head-at t) write-head.Post
 write-head-returns t c = whole (c .before .before .write-leaf .ensures)
 
+write-head-apply : (t : ℕ) (c : write-head-lts.At-match-keys1 (write-head-calls t) (write-head-at t) write-head.Post) → WordNode (write-head-room t (c .before .before .before .before .before .before .before)) Apply
+write-head-apply t c = apply-node (write-head-room t (c .before .before .before .before .before .before .before)) (c .match .keys1)
+
 write-head-add-write-apply : (t : ℕ) → write-head-lts.Need-add-write-apply (write-head-calls t) (write-head-at t) write-head.Post
-write-head-add-write-apply t c =
-    let a = c .before .before .before .before .before .before .before .args in
-    let pre = c .before .before .before .before .before .before .before .pre .1 in
-    omega (arith, apply-head (a .words .now) (a .pairs .now) (a .text .now) (a .at) (pre .1 .reads) (c .match .keys1) .0)
+write-head-add-write-apply t c = omega (arith, write-head-apply t c .inside)
 
 write-head-add-write-apply-2 : (t : ℕ) → write-head-lts.Need-add-write-apply-2 (write-head-calls t) (write-head-at t) write-head.Post
-write-head-add-write-apply-2 t c =
-    let a = c .before .before .before .before .before .before .before .args in
-    let pre = c .before .before .before .before .before .before .before .pre .1 in
-    omega (arith, apply-head (a .words .now) (a .pairs .now) (a .text .now) (a .at) (pre .1 .reads) (c .match .keys1) .0)
+write-head-add-write-apply-2 t c = omega (arith, write-head-apply t c .inside)
 
 write-head-mul-write-apply : (t : ℕ) → write-head-lts.Need-mul-write-apply (write-head-calls t) (write-head-at t) write-head.Post
-write-head-mul-write-apply t c =
-    let a = c .before .before .before .before .before .before .before .args in
-    let pre = c .before .before .before .before .before .before .before .pre .1 in
-    omega (arith, apply-head (a .words .now) (a .pairs .now) (a .text .now) (a .at) (pre .1 .reads) (c .match .keys1) .0)
+write-head-mul-write-apply t c = omega (arith, write-head-apply t c .inside)
 
 write-head-shared-slice-read-write-apply : (t : ℕ) → write-head-lts.Need-shared-slice-read-write-apply (write-head-calls t) (write-head-at t) write-head.Post
-write-head-shared-slice-read-write-apply t c =
-    let a = c .before .before .before .before .before .before .before .before .args in
-    let pre = c .before .before .before .before .before .before .before .before .pre .1 in
-    omega (arith, apply-head (a .words .now) (a .pairs .now) (a .text .now) (a .at) (pre .1 .reads) (c .before .match .keys1) .0)
+write-head-shared-slice-read-write-apply t c = omega (arith, write-head-apply t (c .before) .inside)
 
 write-head-write-apply-requires : (t : ℕ) → write-head-lts.Need-write-apply-requires (write-head-calls t) (write-head-at t) write-head.Post
 write-head-write-apply-requires t c κs =
-    let a = c .before .before .before .before .before .before .before .before .before .args in
-    let pre = c .before .before .before .before .before .before .before .before .before .pre .1 in
-    let h = type-here (a .words .now) (a .pairs .now) (a .text .now) (a .at) (pre .1 .reads) in
-    (omega (arith, c .before .before .before .before .before .before .before .before .before .pre .0), (pre .0, node-room (a .words .now) (a .pairs .now) (a .text .now) (a .at) (pre .1) (Apply (getD (a .words .now) (a .at + 1) 0)) (a .at + 2) (apply-head (a .words .now) (a .pairs .now) (a .text .now) (a .at) (pre .1 .reads) (c .before .before .match .keys1) .1)))
+    let s = c .before .before .before .before .before .before .before .before .before in
+    let d = write-head-apply t (c .before .before) in
+    (omega (arith, s .pre .0, d .inside), (s .pre .1 .0, node-room d))
 
 write-head-add-t28 : (t : ℕ) → write-head-lts.Need-add-t28 (write-head-calls t) (write-head-at t) write-head.Post
-write-head-add-t28 t c =
-    let a = c .before .before .before .before .before .before .before .args in
-    let pre = c .before .before .before .before .before .before .before .pre .1 in
-    omega (arith, type-here (a .words .now) (a .pairs .now) (a .text .now) (a .at) (pre .1 .reads))
+write-head-add-t28 t c = omega (arith, room-here (write-head-room t (c .before .before .before .before .before .before .before)))
 
 write-head-slice-aggregate-put : (t : ℕ) → write-head-lts.Need-slice-aggregate-put (write-head-calls t) (write-head-at t) write-head.Post
 write-head-slice-aggregate-put t c = search needs
 
 write-head-put-requires : (t : ℕ) → write-head-lts.Need-put-requires (write-head-calls t) (write-head-at t) write-head.Post
-unfolding readNode Type·ToString ascii
-write-head-put-requires t c κs =
-    let a = c .before .before .before .before .before .before .before .before .before .args in
-    let pre = c .before .before .before .before .before .before .before .before .before .pre .1 in
-    prefix-room (a .words .now) (a .pairs .now) (a .text .now) (a .at) (pre .1) (ascii "&") Borrowed (a .at + 1) (λ t. refl) (ref-head (a .words .now) (a .pairs .now) (a .text .now) (a .at) (pre .1 .reads) (c .before .before .match .keys2))
+unfolding ascii
+write-head-put-requires t c κs = prefix-room (ref-prefix (write-head-room t (c .before .before .before .before .before .before .before .before .before)) (c .before .before .match .keys2))
 
 write-head-add-t35 : (t : ℕ) → write-head-lts.Need-add-t35 (write-head-calls t) (write-head-at t) write-head.Post
-write-head-add-t35 t c =
-    let a = c .before .before .before .before .before .before .before .args in
-    let pre = c .before .before .before .before .before .before .before .pre .1 in
-    omega (arith, type-here (a .words .now) (a .pairs .now) (a .text .now) (a .at) (pre .1 .reads))
+write-head-add-t35 t c = omega (arith, room-here (write-head-room t (c .before .before .before .before .before .before .before)))
 
 write-head-slice-aggregate-put-2 : (t : ℕ) → write-head-lts.Need-slice-aggregate-put-2 (write-head-calls t) (write-head-at t) write-head.Post
 write-head-slice-aggregate-put-2 t c = search needs
 
 write-head-put-requires-2 : (t : ℕ) → write-head-lts.Need-put-requires-2 (write-head-calls t) (write-head-at t) write-head.Post
-unfolding readNode Type·ToString ascii
-write-head-put-requires-2 t c κs =
-    let a = c .before .before .before .before .before .before .before .before .before .args in
-    let pre = c .before .before .before .before .before .before .before .before .before .pre .1 in
-    prefix-room (a .words .now) (a .pairs .now) (a .text .now) (a .at) (pre .1) (ascii "&mut ") BorrowedMut (a .at + 1) (λ t. refl) (mut-head (a .words .now) (a .pairs .now) (a .text .now) (a .at) (pre .1 .reads) (c .before .before .match .keys3))
+unfolding ascii
+write-head-put-requires-2 t c κs = prefix-room (mut-prefix (write-head-room t (c .before .before .before .before .before .before .before .before .before)) (c .before .before .match .keys3))
 
 write-head-add-t42 : (t : ℕ) → write-head-lts.Need-add-t42 (write-head-calls t) (write-head-at t) write-head.Post
-write-head-add-t42 t c =
-    let a = c .before .before .before .before .before .before .before .args in
-    let pre = c .before .before .before .before .before .before .before .pre .1 in
-    omega (arith, type-here (a .words .now) (a .pairs .now) (a .text .now) (a .at) (pre .1 .reads))
+write-head-add-t42 t c = omega (arith, room-here (write-head-room t (c .before .before .before .before .before .before .before)))
 
 write-head-slice-aggregate-put-3 : (t : ℕ) → write-head-lts.Need-slice-aggregate-put-3 (write-head-calls t) (write-head-at t) write-head.Post
 write-head-slice-aggregate-put-3 t c = search needs
 
 write-head-put-requires-3 : (t : ℕ) → write-head-lts.Need-put-requires-3 (write-head-calls t) (write-head-at t) write-head.Post
-unfolding readNode Type·ToString ascii
-write-head-put-requires-3 t c κs =
-    let a = c .before .before .before .before .before .before .before .before .before .args in
-    let pre = c .before .before .before .before .before .before .before .before .before .pre .1 in
-    prefix-room (a .words .now) (a .pairs .now) (a .text .now) (a .at) (pre .1) (ascii "impl ") ImplType (a .at + 1) (λ t. refl) (impl-head (a .words .now) (a .pairs .now) (a .text .now) (a .at) (pre .1 .reads) (c .before .before .match .keys4))
+unfolding ascii
+write-head-put-requires-3 t c κs = prefix-room (impl-prefix (write-head-room t (c .before .before .before .before .before .before .before .before .before)) (c .before .before .match .keys4))
 
 write-head-add-t49 : (t : ℕ) → write-head-lts.Need-add-t49 (write-head-calls t) (write-head-at t) write-head.Post
-write-head-add-t49 t c =
-    let a = c .before .before .before .before .before .before .before .args in
-    let pre = c .before .before .before .before .before .before .before .pre .1 in
-    omega (arith, type-here (a .words .now) (a .pairs .now) (a .text .now) (a .at) (pre .1 .reads))
+write-head-add-t49 t c = omega (arith, room-here (write-head-room t (c .before .before .before .before .before .before .before)))
 
 write-head-slice-aggregate-put-4 : (t : ℕ) → write-head-lts.Need-slice-aggregate-put-4 (write-head-calls t) (write-head-at t) write-head.Post
 write-head-slice-aggregate-put-4 t c = search needs
 
 write-head-put-requires-4 : (t : ℕ) → write-head-lts.Need-put-requires-4 (write-head-calls t) (write-head-at t) write-head.Post
-unfolding readNode Type·ToString ascii
-write-head-put-requires-4 t c κs =
-    let a = c .before .before .before .before .before .before .before .before .before .args in
-    let pre = c .before .before .before .before .before .before .before .before .before .pre .1 in
-    prefix-room (a .words .now) (a .pairs .now) (a .text .now) (a .at) (pre .1) (ascii "dyn ") DynType (a .at + 1) (λ t. refl) (dyn-head (a .words .now) (a .pairs .now) (a .text .now) (a .at) (pre .1 .reads) (c .before .before .match .keys5))
+unfolding ascii
+write-head-put-requires-4 t c κs = prefix-room (dyn-prefix (write-head-room t (c .before .before .before .before .before .before .before .before .before)) (c .before .before .match .keys5))
+
+write-head-tuple : (t : ℕ) (c : write-head-lts.At-match-keys6 (write-head-calls t) (write-head-at t) write-head.Post) → WordNode (write-head-room t (c .before .before .before .before .before .before .before)) Tuple
+write-head-tuple t c = tuple-node (write-head-room t (c .before .before .before .before .before .before .before)) (c .match .keys6)
 
 write-head-add-write-tuple : (t : ℕ) → write-head-lts.Need-add-write-tuple (write-head-calls t) (write-head-at t) write-head.Post
-write-head-add-write-tuple t c =
-    let a = c .before .before .before .before .before .before .before .args in
-    let pre = c .before .before .before .before .before .before .before .pre .1 in
-    omega (arith, tuple-head (a .words .now) (a .pairs .now) (a .text .now) (a .at) (pre .1 .reads) (c .match .keys6) .0)
+write-head-add-write-tuple t c = omega (arith, write-head-tuple t c .inside)
 
 write-head-add-write-tuple-2 : (t : ℕ) → write-head-lts.Need-add-write-tuple-2 (write-head-calls t) (write-head-at t) write-head.Post
-write-head-add-write-tuple-2 t c =
-    let a = c .before .before .before .before .before .before .before .args in
-    let pre = c .before .before .before .before .before .before .before .pre .1 in
-    omega (arith, tuple-head (a .words .now) (a .pairs .now) (a .text .now) (a .at) (pre .1 .reads) (c .match .keys6) .0)
+write-head-add-write-tuple-2 t c = omega (arith, write-head-tuple t c .inside)
 
 write-head-mul-write-tuple : (t : ℕ) → write-head-lts.Need-mul-write-tuple (write-head-calls t) (write-head-at t) write-head.Post
-write-head-mul-write-tuple t c =
-    let a = c .before .before .before .before .before .before .before .args in
-    let pre = c .before .before .before .before .before .before .before .pre .1 in
-    omega (arith, tuple-head (a .words .now) (a .pairs .now) (a .text .now) (a .at) (pre .1 .reads) (c .match .keys6) .0)
+write-head-mul-write-tuple t c = omega (arith, write-head-tuple t c .inside)
 
 write-head-shared-slice-read-write-tuple : (t : ℕ) → write-head-lts.Need-shared-slice-read-write-tuple (write-head-calls t) (write-head-at t) write-head.Post
-write-head-shared-slice-read-write-tuple t c =
-    let a = c .before .before .before .before .before .before .before .before .args in
-    let pre = c .before .before .before .before .before .before .before .before .pre .1 in
-    omega (arith, tuple-head (a .words .now) (a .pairs .now) (a .text .now) (a .at) (pre .1 .reads) (c .before .match .keys6) .0)
+write-head-shared-slice-read-write-tuple t c = omega (arith, write-head-tuple t (c .before) .inside)
 
 write-head-write-tuple-requires : (t : ℕ) → write-head-lts.Need-write-tuple-requires (write-head-calls t) (write-head-at t) write-head.Post
 write-head-write-tuple-requires t c κs =
-    let a = c .before .before .before .before .before .before .before .before .before .args in
-    let pre = c .before .before .before .before .before .before .before .before .before .pre .1 in
-    let h = type-here (a .words .now) (a .pairs .now) (a .text .now) (a .at) (pre .1 .reads) in
-    (omega (arith, c .before .before .before .before .before .before .before .before .before .pre .0), (pre .0, node-room (a .words .now) (a .pairs .now) (a .text .now) (a .at) (pre .1) (Tuple (getD (a .words .now) (a .at + 1) 0)) (a .at + 2) (tuple-head (a .words .now) (a .pairs .now) (a .text .now) (a .at) (pre .1 .reads) (c .before .before .match .keys6) .1)))
+    let s = c .before .before .before .before .before .before .before .before .before in
+    let d = write-head-tuple t (c .before .before) in
+    (omega (arith, s .pre .0, d .inside), (s .pre .1 .0, node-room d))
+
+write-head-function : (t : ℕ) (c : write-head-lts.At-match-keys7 (write-head-calls t) (write-head-at t) write-head.Post) → WordNode (write-head-room t (c .before .before .before .before .before .before .before)) Function
+write-head-function t c = function-node (write-head-room t (c .before .before .before .before .before .before .before)) (c .match .keys7)
 
 write-head-add-write-inputs : (t : ℕ) → write-head-lts.Need-add-write-inputs (write-head-calls t) (write-head-at t) write-head.Post
-write-head-add-write-inputs t c =
-    let a = c .before .before .before .before .before .before .before .args in
-    let pre = c .before .before .before .before .before .before .before .pre .1 in
-    omega (arith, function-head (a .words .now) (a .pairs .now) (a .text .now) (a .at) (pre .1 .reads) (c .match .keys7) .0)
+write-head-add-write-inputs t c = omega (arith, write-head-function t c .inside)
 
 write-head-add-write-inputs-2 : (t : ℕ) → write-head-lts.Need-add-write-inputs-2 (write-head-calls t) (write-head-at t) write-head.Post
-write-head-add-write-inputs-2 t c =
-    let a = c .before .before .before .before .before .before .before .args in
-    let pre = c .before .before .before .before .before .before .before .pre .1 in
-    omega (arith, function-head (a .words .now) (a .pairs .now) (a .text .now) (a .at) (pre .1 .reads) (c .match .keys7) .0)
+write-head-add-write-inputs-2 t c = omega (arith, write-head-function t c .inside)
 
 write-head-mul-write-inputs : (t : ℕ) → write-head-lts.Need-mul-write-inputs (write-head-calls t) (write-head-at t) write-head.Post
-write-head-mul-write-inputs t c =
-    let a = c .before .before .before .before .before .before .before .args in
-    let pre = c .before .before .before .before .before .before .before .pre .1 in
-    omega (arith, function-head (a .words .now) (a .pairs .now) (a .text .now) (a .at) (pre .1 .reads) (c .match .keys7) .0)
+write-head-mul-write-inputs t c = omega (arith, write-head-function t c .inside)
 
 write-head-shared-slice-read-write-inputs : (t : ℕ) → write-head-lts.Need-shared-slice-read-write-inputs (write-head-calls t) (write-head-at t) write-head.Post
-write-head-shared-slice-read-write-inputs t c =
-    let a = c .before .before .before .before .before .before .before .before .args in
-    let pre = c .before .before .before .before .before .before .before .before .pre .1 in
-    omega (arith, function-head (a .words .now) (a .pairs .now) (a .text .now) (a .at) (pre .1 .reads) (c .before .match .keys7) .0)
+write-head-shared-slice-read-write-inputs t c = omega (arith, write-head-function t (c .before) .inside)
 
 write-head-write-inputs-requires : (t : ℕ) → write-head-lts.Need-write-inputs-requires (write-head-calls t) (write-head-at t) write-head.Post
 write-head-write-inputs-requires t c κs =
-    let a = c .before .before .before .before .before .before .before .before .before .args in
-    let pre = c .before .before .before .before .before .before .before .before .before .pre .1 in
-    let h = type-here (a .words .now) (a .pairs .now) (a .text .now) (a .at) (pre .1 .reads) in
-    (omega (arith, c .before .before .before .before .before .before .before .before .before .pre .0), (pre .0, node-room (a .words .now) (a .pairs .now) (a .text .now) (a .at) (pre .1) (Function (getD (a .words .now) (a .at + 1) 0)) (a .at + 2) (function-head (a .words .now) (a .pairs .now) (a .text .now) (a .at) (pre .1 .reads) (c .before .before .match .keys7) .1)))
+    let s = c .before .before .before .before .before .before .before .before .before in
+    let d = write-head-function t (c .before .before) in
+    (omega (arith, s .pre .0, d .inside), (s .pre .1 .0, node-room d))
 
 write-head-add-write-left : (t : ℕ) → write-head-lts.Need-add-write-left (write-head-calls t) (write-head-at t) write-head.Post
-write-head-add-write-left t c =
-    let a = c .before .before .before .before .before .before .before .args in
-    let pre = c .before .before .before .before .before .before .before .pre .1 in
-    omega (arith, type-here (a .words .now) (a .pairs .now) (a .text .now) (a .at) (pre .1 .reads))
+write-head-add-write-left t c = omega (arith, room-here (write-head-room t (c .before .before .before .before .before .before .before)))
 
 write-head-write-left-requires : (t : ℕ) → write-head-lts.Need-write-left-requires (write-head-calls t) (write-head-at t) write-head.Post
 write-head-write-left-requires t c κs =
-    let a = c .before .before .before .before .before .before .before .before .args in
-    let pre = c .before .before .before .before .before .before .before .before .pre .1 in
-    let h = type-here (a .words .now) (a .pairs .now) (a .text .now) (a .at) (pre .1 .reads) in
-    (omega (arith, c .before .before .before .before .before .before .before .before .pre .0), (pre .0, node-room (a .words .now) (a .pairs .now) (a .text .now) (a .at) (pre .1) Both (a .at + 1) (both-head (a .words .now) (a .pairs .now) (a .text .now) (a .at) (pre .1 .reads) (c .before .match .keys8))))
+    let s = c .before .before .before .before .before .before .before .before in
+    let d = both-node (write-head-room t s) (c .before .match .keys8) in
+    (omega (arith, s .pre .0, d .inside), (s .pre .1 .0, node-room d))
+
+write-head-array : (t : ℕ) (c : write-head-lts.At-match-keys9 (write-head-calls t) (write-head-at t) write-head.Post) → WordNode (write-head-room t (c .before .before .before .before .before .before .before)) ArrayOf
+write-head-array t c = array-node (write-head-room t (c .before .before .before .before .before .before .before)) (c .match .keys9)
 
 write-head-add-write-array : (t : ℕ) → write-head-lts.Need-add-write-array (write-head-calls t) (write-head-at t) write-head.Post
-write-head-add-write-array t c =
-    let a = c .before .before .before .before .before .before .before .args in
-    let pre = c .before .before .before .before .before .before .before .pre .1 in
-    omega (arith, array-head (a .words .now) (a .pairs .now) (a .text .now) (a .at) (pre .1 .reads) (c .match .keys9) .0)
+write-head-add-write-array t c = omega (arith, write-head-array t c .inside)
 
 write-head-add-write-array-2 : (t : ℕ) → write-head-lts.Need-add-write-array-2 (write-head-calls t) (write-head-at t) write-head.Post
-write-head-add-write-array-2 t c =
-    let a = c .before .before .before .before .before .before .before .args in
-    let pre = c .before .before .before .before .before .before .before .pre .1 in
-    omega (arith, array-head (a .words .now) (a .pairs .now) (a .text .now) (a .at) (pre .1 .reads) (c .match .keys9) .0)
+write-head-add-write-array-2 t c = omega (arith, write-head-array t c .inside)
 
 write-head-mul-write-array : (t : ℕ) → write-head-lts.Need-mul-write-array (write-head-calls t) (write-head-at t) write-head.Post
-write-head-mul-write-array t c =
-    let a = c .before .before .before .before .before .before .before .args in
-    let pre = c .before .before .before .before .before .before .before .pre .1 in
-    omega (arith, array-head (a .words .now) (a .pairs .now) (a .text .now) (a .at) (pre .1 .reads) (c .match .keys9) .0)
+write-head-mul-write-array t c = omega (arith, write-head-array t c .inside)
 
 write-head-shared-slice-read-write-array : (t : ℕ) → write-head-lts.Need-shared-slice-read-write-array (write-head-calls t) (write-head-at t) write-head.Post
-write-head-shared-slice-read-write-array t c =
-    let a = c .before .before .before .before .before .before .before .before .args in
-    let pre = c .before .before .before .before .before .before .before .before .pre .1 in
-    omega (arith, array-head (a .words .now) (a .pairs .now) (a .text .now) (a .at) (pre .1 .reads) (c .before .match .keys9) .0)
+write-head-shared-slice-read-write-array t c = omega (arith, write-head-array t (c .before) .inside)
 
 write-head-write-array-requires : (t : ℕ) → write-head-lts.Need-write-array-requires (write-head-calls t) (write-head-at t) write-head.Post
 write-head-write-array-requires t c κs =
-    let a = c .before .before .before .before .before .before .before .before .before .args in
-    let pre = c .before .before .before .before .before .before .before .before .before .pre .1 in
-    let h = type-here (a .words .now) (a .pairs .now) (a .text .now) (a .at) (pre .1 .reads) in
-    (omega (arith, c .before .before .before .before .before .before .before .before .before .pre .0), (array-head (a .words .now) (a .pairs .now) (a .text .now) (a .at) (pre .1 .reads) (c .before .before .match .keys9) .1, pre .0, node-room (a .words .now) (a .pairs .now) (a .text .now) (a .at) (pre .1) (ArrayOf (getD (a .words .now) (a .at + 1) 0)) (a .at + 2) (array-head (a .words .now) (a .pairs .now) (a .text .now) (a .at) (pre .1 .reads) (c .before .before .match .keys9) .2)))
+    let s = c .before .before .before .before .before .before .before .before .before in
+    let d = write-head-array t (c .before .before) in
+    (omega (arith, s .pre .0, d .inside), (array-size (write-head-room t s) (c .before .before .match .keys9), s .pre .1 .0, node-room d))
 
 write-head-add-write-synonym : (t : ℕ) → write-head-lts.Need-add-write-synonym (write-head-calls t) (write-head-at t) write-head.Post
-write-head-add-write-synonym t c =
-    let a = c .before .before .before .before .before .before .before .args in
-    let pre = c .before .before .before .before .before .before .before .pre .1 in
-    omega (arith, type-here (a .words .now) (a .pairs .now) (a .text .now) (a .at) (pre .1 .reads))
+write-head-add-write-synonym t c = omega (arith, room-here (write-head-room t (c .before .before .before .before .before .before .before)))
 
 write-head-write-synonym-requires : (t : ℕ) → write-head-lts.Need-write-synonym-requires (write-head-calls t) (write-head-at t) write-head.Post
 write-head-write-synonym-requires t c κs =
-    let a = c .before .before .before .before .before .before .before .before .args in
-    let pre = c .before .before .before .before .before .before .before .before .pre .1 in
-    let h = type-here (a .words .now) (a .pairs .now) (a .text .now) (a .at) (pre .1 .reads) in
-    (omega (arith, c .before .before .before .before .before .before .before .before .pre .0), (pre .0, node-room (a .words .now) (a .pairs .now) (a .text .now) (a .at) (pre .1) Synonym (a .at + 1) (synonym-head (a .words .now) (a .pairs .now) (a .text .now) (a .at) (pre .1 .reads) (c .before .match .keys10))))
+    let s = c .before .before .before .before .before .before .before .before in
+    let d = synonym-node (write-head-room t s) (c .before .match .keys10) in
+    (omega (arith, s .pre .0, d .inside), (s .pre .1 .0, node-room d))
 
 write-head-add-t88 : (t : ℕ) → write-head-lts.Need-add-t88 (write-head-calls t) (write-head-at t) write-head.Post
-write-head-add-t88 t c =
-    let a = c .before .before .before .before .before .before .before .args in
-    let pre = c .before .before .before .before .before .before .before .pre .1 in
-    omega (arith, meta-head (a .words .now) (a .pairs .now) (a .text .now) (a .at) (pre .1 .reads) (c .before .if1 .left) (c .match .rest .0 .0 .0 .0 .0 .0 .0 .0 .0 .1) (c .match .rest .0 .0 .0 .0 .0 .0 .0 .0 .1) (c .match .rest .0 .0 .0 .0 .0 .0 .0 .1) (c .match .rest .0 .0 .0 .0 .0 .0 .1) (c .match .rest .0 .0 .0 .0 .0 .1) (c .match .rest .0 .0 .0 .0 .1) (c .match .rest .0 .0 .0 .1) (c .match .rest .0 .0 .1) (c .match .rest .0 .1) (c .match .rest .1) .0)
+write-head-add-t88 t c = omega (arith, meta-prefix (write-head-room t (c .before .before .before .before .before .before .before)) (c .before .if1 .left) (c .match .rest) .inside)
 
 write-head-same-length-2 : (t : ℕ) → write-head-lts.Need-same-length-2 (write-head-calls t) (write-head-at t) write-head.Post
 write-head-same-length-2 t c = search needs
 
 write-head-returns-2 : (t : ℕ) → write-head-lts.Need-returns-2 (write-head-calls t) (write-head-at t) write-head.Post
-write-head-returns-2 t c =
-    let a = c .before .before .before .before .before .before .before .before .before .before .before .before .args in
-    let pre = c .before .before .before .before .before .before .before .before .before .before .before .before .pre .1 in
-    whole (written-same (apply-head (a .words .now) (a .pairs .now) (a .text .now) (a .at) (pre .1 .reads) (c .before .before .before .before .before .match .keys1) .1 ∙ sym (pre .1 .reads)) (c .before .before .write-apply .ensures))
+write-head-returns-2 t c = node-whole (write-head-apply t (c .before .before .before .before .before)) (c .before .before .write-apply .ensures)
 
 write-head-same-length-3 : (t : ℕ) → write-head-lts.Need-same-length-3 (write-head-calls t) (write-head-at t) write-head.Post
 write-head-same-length-3 t c = search needs
 
 write-head-returns-3 : (t : ℕ) → write-head-lts.Need-returns-3 (write-head-calls t) (write-head-at t) write-head.Post
-unfolding readNode Type·ToString ascii
-write-head-returns-3 t c =
-    let a = c .before .before .before .before .before .before .before .before .before .before .before .before .args in
-    let pre = c .before .before .before .before .before .before .before .before .before .before .before .before .pre .1 in
-    prefix-done (a .words .now) (a .pairs .now) (a .text .now) (a .at) (pre .1) (ascii "&") Borrowed (a .at + 1) (λ t. refl) (ref-head (a .words .now) (a .pairs .now) (a .text .now) (a .at) (pre .1 .reads) (c .before .before .before .before .before .match .keys2)) (omega arith) (c .before .before .put .ensures)
+unfolding ascii
+write-head-returns-3 t c = prefix-done (ref-prefix (write-head-room t (c .before .before .before .before .before .before .before .before .before .before .before .before)) (c .before .before .before .before .before .match .keys2)) (c .before .before .put .ensures)
 
 write-head-same-length-4 : (t : ℕ) → write-head-lts.Need-same-length-4 (write-head-calls t) (write-head-at t) write-head.Post
 write-head-same-length-4 t c = search needs
 
 write-head-returns-4 : (t : ℕ) → write-head-lts.Need-returns-4 (write-head-calls t) (write-head-at t) write-head.Post
-unfolding readNode Type·ToString ascii
-write-head-returns-4 t c =
-    let a = c .before .before .before .before .before .before .before .before .before .before .before .before .args in
-    let pre = c .before .before .before .before .before .before .before .before .before .before .before .before .pre .1 in
-    prefix-done (a .words .now) (a .pairs .now) (a .text .now) (a .at) (pre .1) (ascii "&mut ") BorrowedMut (a .at + 1) (λ t. refl) (mut-head (a .words .now) (a .pairs .now) (a .text .now) (a .at) (pre .1 .reads) (c .before .before .before .before .before .match .keys3)) (omega arith) (c .before .before .put2 .ensures)
+unfolding ascii
+write-head-returns-4 t c = prefix-done (mut-prefix (write-head-room t (c .before .before .before .before .before .before .before .before .before .before .before .before)) (c .before .before .before .before .before .match .keys3)) (c .before .before .put2 .ensures)
 
 write-head-same-length-5 : (t : ℕ) → write-head-lts.Need-same-length-5 (write-head-calls t) (write-head-at t) write-head.Post
 write-head-same-length-5 t c = search needs
 
 write-head-returns-5 : (t : ℕ) → write-head-lts.Need-returns-5 (write-head-calls t) (write-head-at t) write-head.Post
-unfolding readNode Type·ToString ascii
-write-head-returns-5 t c =
-    let a = c .before .before .before .before .before .before .before .before .before .before .before .before .args in
-    let pre = c .before .before .before .before .before .before .before .before .before .before .before .before .pre .1 in
-    prefix-done (a .words .now) (a .pairs .now) (a .text .now) (a .at) (pre .1) (ascii "impl ") ImplType (a .at + 1) (λ t. refl) (impl-head (a .words .now) (a .pairs .now) (a .text .now) (a .at) (pre .1 .reads) (c .before .before .before .before .before .match .keys4)) (omega arith) (c .before .before .put3 .ensures)
+unfolding ascii
+write-head-returns-5 t c = prefix-done (impl-prefix (write-head-room t (c .before .before .before .before .before .before .before .before .before .before .before .before)) (c .before .before .before .before .before .match .keys4)) (c .before .before .put3 .ensures)
 
 write-head-same-length-6 : (t : ℕ) → write-head-lts.Need-same-length-6 (write-head-calls t) (write-head-at t) write-head.Post
 write-head-same-length-6 t c = search needs
 
 write-head-returns-6 : (t : ℕ) → write-head-lts.Need-returns-6 (write-head-calls t) (write-head-at t) write-head.Post
-unfolding readNode Type·ToString ascii
-write-head-returns-6 t c =
-    let a = c .before .before .before .before .before .before .before .before .before .before .before .before .args in
-    let pre = c .before .before .before .before .before .before .before .before .before .before .before .before .pre .1 in
-    prefix-done (a .words .now) (a .pairs .now) (a .text .now) (a .at) (pre .1) (ascii "dyn ") DynType (a .at + 1) (λ t. refl) (dyn-head (a .words .now) (a .pairs .now) (a .text .now) (a .at) (pre .1 .reads) (c .before .before .before .before .before .match .keys5)) (omega arith) (c .before .before .put4 .ensures)
+unfolding ascii
+write-head-returns-6 t c = prefix-done (dyn-prefix (write-head-room t (c .before .before .before .before .before .before .before .before .before .before .before .before)) (c .before .before .before .before .before .match .keys5)) (c .before .before .put4 .ensures)
 
 write-head-same-length-7 : (t : ℕ) → write-head-lts.Need-same-length-7 (write-head-calls t) (write-head-at t) write-head.Post
 write-head-same-length-7 t c = search needs
 
 write-head-returns-7 : (t : ℕ) → write-head-lts.Need-returns-7 (write-head-calls t) (write-head-at t) write-head.Post
-write-head-returns-7 t c =
-    let a = c .before .before .before .before .before .before .before .before .before .before .before .before .args in
-    let pre = c .before .before .before .before .before .before .before .before .before .before .before .before .pre .1 in
-    whole (written-same (tuple-head (a .words .now) (a .pairs .now) (a .text .now) (a .at) (pre .1 .reads) (c .before .before .before .before .before .match .keys6) .1 ∙ sym (pre .1 .reads)) (c .before .before .write-tuple .ensures))
+write-head-returns-7 t c = node-whole (write-head-tuple t (c .before .before .before .before .before)) (c .before .before .write-tuple .ensures)
 
 write-head-same-length-8 : (t : ℕ) → write-head-lts.Need-same-length-8 (write-head-calls t) (write-head-at t) write-head.Post
 write-head-same-length-8 t c = search needs
 
 write-head-returns-8 : (t : ℕ) → write-head-lts.Need-returns-8 (write-head-calls t) (write-head-at t) write-head.Post
-write-head-returns-8 t c =
-    let a = c .before .before .before .before .before .before .before .before .before .before .before .before .args in
-    let pre = c .before .before .before .before .before .before .before .before .before .before .before .before .pre .1 in
-    front (front-same (function-head (a .words .now) (a .pairs .now) (a .text .now) (a .at) (pre .1 .reads) (c .before .before .before .before .before .match .keys7) .1 ∙ sym (pre .1 .reads)) (omega arith) (c .before .before .write-inputs .ensures))
+write-head-returns-8 t c = node-front (write-head-function t (c .before .before .before .before .before)) (c .before .before .write-inputs .ensures)
 
 write-head-same-length-9 : (t : ℕ) → write-head-lts.Need-same-length-9 (write-head-calls t) (write-head-at t) write-head.Post
 write-head-same-length-9 t c = search needs
 
 write-head-returns-9 : (t : ℕ) → write-head-lts.Need-returns-9 (write-head-calls t) (write-head-at t) write-head.Post
-write-head-returns-9 t c =
-    let a = c .before .before .before .before .before .before .before .before .before .before .before .args in
-    let pre = c .before .before .before .before .before .before .before .before .before .before .before .pre .1 in
-    front (front-same (both-head (a .words .now) (a .pairs .now) (a .text .now) (a .at) (pre .1 .reads) (c .before .before .before .before .match .keys8) ∙ sym (pre .1 .reads)) (omega arith) (c .before .before .write-left .ensures))
+write-head-returns-9 t c = node-front (both-node (write-head-room t (c .before .before .before .before .before .before .before .before .before .before .before)) (c .before .before .before .before .match .keys8)) (c .before .before .write-left .ensures)
 
 write-head-same-length-10 : (t : ℕ) → write-head-lts.Need-same-length-10 (write-head-calls t) (write-head-at t) write-head.Post
 write-head-same-length-10 t c = search needs
 
 write-head-returns-10 : (t : ℕ) → write-head-lts.Need-returns-10 (write-head-calls t) (write-head-at t) write-head.Post
-write-head-returns-10 t c =
-    let a = c .before .before .before .before .before .before .before .before .before .before .before .before .args in
-    let pre = c .before .before .before .before .before .before .before .before .before .before .before .before .pre .1 in
-    whole (written-same (array-head (a .words .now) (a .pairs .now) (a .text .now) (a .at) (pre .1 .reads) (c .before .before .before .before .before .match .keys9) .2 ∙ sym (pre .1 .reads)) (c .before .before .write-array .ensures))
+write-head-returns-10 t c = node-whole (write-head-array t (c .before .before .before .before .before)) (c .before .before .write-array .ensures)
 
 write-head-same-length-11 : (t : ℕ) → write-head-lts.Need-same-length-11 (write-head-calls t) (write-head-at t) write-head.Post
 write-head-same-length-11 t c = search needs
 
 write-head-returns-11 : (t : ℕ) → write-head-lts.Need-returns-11 (write-head-calls t) (write-head-at t) write-head.Post
-write-head-returns-11 t c =
-    let a = c .before .before .before .before .before .before .before .before .before .before .before .args in
-    let pre = c .before .before .before .before .before .before .before .before .before .before .before .pre .1 in
-    whole (written-same (synonym-head (a .words .now) (a .pairs .now) (a .text .now) (a .at) (pre .1 .reads) (c .before .before .before .before .match .keys10) ∙ sym (pre .1 .reads)) (c .before .before .write-synonym .ensures))
+write-head-returns-11 t c = node-whole (synonym-node (write-head-room t (c .before .before .before .before .before .before .before .before .before .before .before)) (c .before .before .before .before .match .keys10)) (c .before .before .write-synonym .ensures)
 
 write-head-returns-12 : (t : ℕ) → write-head-lts.Need-returns-12 (write-head-calls t) (write-head-at t) write-head.Post
-unfolding readNode Type·ToString
-write-head-returns-12 t c =
-    let a = c .before .before .before .before .before .before .before .args in
-    let pre = c .before .before .before .before .before .before .before .pre .1 in
-    prefix-done (a .words .now) (a .pairs .now) (a .text .now) (a .at) (pre .1) [] (λ t. TMetaData t (eqb (getD (a .words .now) (a .at + 1) 0 % 2) 1) (leb 2 (getD (a .words .now) (a .at + 1) 0))) (a .at + 2) (λ t. refl) (meta-head (a .words .now) (a .pairs .now) (a .text .now) (a .at) (pre .1 .reads) (c .before .if1 .left) (c .match .rest .0 .0 .0 .0 .0 .0 .0 .0 .0 .1) (c .match .rest .0 .0 .0 .0 .0 .0 .0 .0 .1) (c .match .rest .0 .0 .0 .0 .0 .0 .0 .1) (c .match .rest .0 .0 .0 .0 .0 .0 .1) (c .match .rest .0 .0 .0 .0 .0 .1) (c .match .rest .0 .0 .0 .0 .1) (c .match .rest .0 .0 .0 .1) (c .match .rest .0 .0 .1) (c .match .rest .0 .1) (c .match .rest .1) .2) (omega arith) (wrote-nothing _ _)
+write-head-returns-12 t c = prefix-done (meta-prefix (write-head-room t (c .before .before .before .before .before .before .before)) (c .before .if1 .left) (c .match .rest)) (wrote-nothing _ _)
+
+write-inputs-room : (t : ℕ) (s : write-inputs-lts.Start (write-inputs-calls t) (write-inputs-at t) write-inputs.Post) → NodeRoom (s .args .words .now) (s .args .pairs .now) (s .args .text .now) (Function (s .args .n)) (s .args .at) (s .args .out .now) (s .args .pos)
+write-inputs-room t s = record { there = s .pre .1 .1 }
 
 write-inputs-slice-aggregate-put : (t : ℕ) → write-inputs-lts.Need-slice-aggregate-put (write-inputs-calls t) (write-inputs-at t) write-inputs.Post
 write-inputs-slice-aggregate-put t c = search needs
 
 write-inputs-put-requires : (t : ℕ) → write-inputs-lts.Need-put-requires (write-inputs-calls t) (write-inputs-at t) write-inputs.Post
 unfolding ascii
-write-inputs-put-requires t c κs =
-    let a = c .before .before .before .before .before .before .args in
-    let pre = c .before .before .before .before .before .before .pre .1 in
-    inputs-open (a .words .now) (a .pairs .now) (a .text .now) (a .n) (a .at) (pre .1)
+write-inputs-put-requires t c κs = inputs-open (write-inputs-room t (c .before .before .before .before .before .before))
 
 write-inputs-slice-aggregate-put-2 : (t : ℕ) → write-inputs-lts.Need-slice-aggregate-put-2 (write-inputs-calls t) (write-inputs-at t) write-inputs.Post
 write-inputs-slice-aggregate-put-2 t c = search needs
 
 write-inputs-put-requires-2 : (t : ℕ) → write-inputs-lts.Need-put-requires-2 (write-inputs-calls t) (write-inputs-at t) write-inputs.Post
 unfolding ascii
-write-inputs-put-requires-2 t c κs =
-    let a = c .before .before .before .before .before .before .before .before .before .before .before .before .args in
-    let pre = c .before .before .before .before .before .before .before .before .before .before .before .before .pre .1 in
-    inputs-none-arrow (a .words .now) (a .pairs .now) (a .text .now) (a .n) (a .at) (pre .1) (c .before .before .before .before .before .put .ensures) (c .before .before .if1 .taken)
+write-inputs-put-requires-2 t c κs = inputs-none-arrow (write-inputs-room t (c .before .before .before .before .before .before .before .before .before .before .before .before)) (c .before .before .before .before .before .put .ensures) (c .before .before .if1 .taken)
 
 write-inputs-same-length : (t : ℕ) → write-inputs-lts.Need-same-length (write-inputs-calls t) (write-inputs-at t) write-inputs.Post
 write-inputs-same-length t c = search needs
 
 write-inputs-returns : (t : ℕ) → write-inputs-lts.Need-returns (write-inputs-calls t) (write-inputs-at t) write-inputs.Post
 unfolding ascii
-write-inputs-returns t c =
-    let a = c .before .before .before .before .before .before .before .before .before .before .before .before .before .before .before .args in
-    let pre = c .before .before .before .before .before .before .before .before .before .before .before .before .before .before .before .pre .1 in
-    inputs-none (a .words .now) (a .pairs .now) (a .text .now) (a .n) (a .at) (pre .1) (c .before .before .before .before .before .before .before .before .put .ensures) (c .before .before .before .before .before .if1 .taken) (c .before .before .put2 .ensures)
+write-inputs-returns t c = inputs-none (write-inputs-room t (c .before .before .before .before .before .before .before .before .before .before .before .before .before .before .before)) (c .before .before .before .before .before .before .before .before .put .ensures) (c .before .before .before .before .before .if1 .taken) (c .before .before .put2 .ensures)
 
 write-inputs-write-list-requires : (t : ℕ) → write-inputs-lts.Need-write-list-requires (write-inputs-calls t) (write-inputs-at t) write-inputs.Post
 unfolding ascii
 write-inputs-write-list-requires t c κs =
-    let a = c .before .before .before .before .before .before .before .before .before .before .before .args in
-    let pre = c .before .before .before .before .before .before .before .before .before .before .before .pre .1 in
-    (omega (arith, c .before .before .before .before .before .before .before .before .before .before .before .pre .0), (omega (arith, c .before .if1 .left), pre .0, inputs-list (a .words .now) (a .pairs .now) (a .text .now) (a .n) (a .at) (pre .1) (c .before .before .before .before .put .ensures)))
+    let s = c .before .before .before .before .before .before .before .before .before .before .before in
+    (omega (arith, s .pre .0), (omega (arith, c .before .if1 .left), s .pre .1 .0, inputs-list (write-inputs-room t s) (c .before .before .before .before .put .ensures)))
 
 write-inputs-slice-aggregate-put-3 : (t : ℕ) → write-inputs-lts.Need-slice-aggregate-put-3 (write-inputs-calls t) (write-inputs-at t) write-inputs.Post
 write-inputs-slice-aggregate-put-3 t c = search needs
 
 write-inputs-put-requires-3 : (t : ℕ) → write-inputs-lts.Need-put-requires-3 (write-inputs-calls t) (write-inputs-at t) write-inputs.Post
 unfolding ascii
-write-inputs-put-requires-3 t c κs =
-    let a = c .before .before .before .before .before .before .before .before .before .before .before .before .before .before .before .before .args in
-    let pre = c .before .before .before .before .before .before .before .before .before .before .before .before .before .before .before .before .pre .1 in
-    inputs-arrow (a .words .now) (a .pairs .now) (a .text .now) (a .n) (a .at) (pre .1) (c .before .before .before .before .before .before .before .before .before .put .ensures) (c .before .before .before .before .write-list .ensures)
+write-inputs-put-requires-3 t c κs = inputs-arrow (write-inputs-room t (c .before .before .before .before .before .before .before .before .before .before .before .before .before .before .before .before)) (c .before .before .before .before .before .before .before .before .before .put .ensures) (c .before .before .before .before .write-list .ensures)
 
 write-inputs-same-length-2 : (t : ℕ) → write-inputs-lts.Need-same-length-2 (write-inputs-calls t) (write-inputs-at t) write-inputs.Post
 write-inputs-same-length-2 t c = search needs
 
 write-inputs-returns-2 : (t : ℕ) → write-inputs-lts.Need-returns-2 (write-inputs-calls t) (write-inputs-at t) write-inputs.Post
 unfolding ascii
-write-inputs-returns-2 t c =
-    let a = c .before .before .before .before .before .before .before .before .before .before .before .before .before .before .before .before .before .before .before .args in
-    let pre = c .before .before .before .before .before .before .before .before .before .before .before .before .before .before .before .before .before .before .before .pre .1 in
-    inputs-done (a .words .now) (a .pairs .now) (a .text .now) (a .n) (a .at) (pre .1) (c .before .before .before .before .before .before .before .before .before .before .before .before .put .ensures) (c .before .before .before .before .before .before .before .write-list .ensures) (c .before .before .put3 .ensures)
+write-inputs-returns-2 t c = inputs-done (write-inputs-room t (c .before .before .before .before .before .before .before .before .before .before .before .before .before .before .before .before .before .before .before)) (c .before .before .before .before .before .before .before .before .before .before .before .before .put .ensures) (c .before .before .before .before .before .before .before .write-list .ensures) (c .before .before .put3 .ensures)
+
+write-left-room : (t : ℕ) (s : write-left-lts.Start (write-left-calls t) (write-left-at t) write-left.Post) → NodeRoom (s .args .words .now) (s .args .pairs .now) (s .args .text .now) Both (s .args .at) (s .args .out .now) (s .args .pos)
+write-left-room t s = record { there = s .pre .1 .1 }
 
 write-left-write-part-requires : (t : ℕ) → write-left-lts.Need-write-part-requires (write-left-calls t) (write-left-at t) write-left.Post
 write-left-write-part-requires t c κs =
-    let a = c .before .before .before .before .before .args in
-    let pre = c .before .before .before .before .before .pre .1 in
-    (omega (arith, c .before .before .before .before .before .pre .0), (pre .0, left-type (a .words .now) (a .pairs .now) (a .text .now) (a .at) (pre .1)))
+    let s = c .before .before .before .before .before in
+    (omega (arith, s .pre .0), (s .pre .1 .0, left-type (write-left-room t s)))
 
 write-left-slice-aggregate-put : (t : ℕ) → write-left-lts.Need-slice-aggregate-put (write-left-calls t) (write-left-at t) write-left.Post
 write-left-slice-aggregate-put t c = search needs
 
 write-left-put-requires : (t : ℕ) → write-left-lts.Need-put-requires (write-left-calls t) (write-left-at t) write-left.Post
 unfolding ascii
-write-left-put-requires t c κs =
-    let a = c .before .before .before .before .before .before .before .before .before .before .args in
-    let pre = c .before .before .before .before .before .before .before .before .before .before .pre .1 in
-    left-plus (a .words .now) (a .pairs .now) (a .text .now) (a .at) (pre .1) (c .before .before .before .before .write-part .ensures)
+write-left-put-requires t c κs = left-plus (write-left-room t (c .before .before .before .before .before .before .before .before .before .before)) (c .before .before .before .before .write-part .ensures)
 
 write-left-same-length : (t : ℕ) → write-left-lts.Need-same-length (write-left-calls t) (write-left-at t) write-left.Post
 write-left-same-length t c = search needs
 
 write-left-returns : (t : ℕ) → write-left-lts.Need-returns (write-left-calls t) (write-left-at t) write-left.Post
 unfolding ascii
-write-left-returns t c =
-    let a = c .before .before .before .before .before .before .before .before .before .before .before .before .before .args in
-    let pre = c .before .before .before .before .before .before .before .before .before .before .before .before .before .pre .1 in
-    left-done (a .words .now) (a .pairs .now) (a .text .now) (a .at) (pre .1) (c .before .before .before .before .before .before .before .write-part .ensures) (c .before .before .put .ensures)
+write-left-returns t c = left-done (write-left-room t (c .before .before .before .before .before .before .before .before .before .before .before .before .before)) (c .before .before .before .before .before .before .before .write-part .ensures) (c .before .before .put .ensures)
 
 abbrev write-list-Inv-loop : write-list-lts.InvT-loop
 write-list-Inv-loop words pairs text at n out₀ pos place₀ p₀ left₀ t12 out place p left = ListLeft words pairs text n at out₀ pos out p left place
@@ -730,153 +549,86 @@ write-list-μ-loop words pairs text at n out₀ pos place₀ p₀ left₀ t12 ou
 
 write-list-loop-holds : (t : ℕ) → write-list-lts.Need-loop-holds (write-list-calls t) (write-list-at t) write-list.Post write-list-Inv-loop write-list-μ-loop
 write-list-loop-holds t c =
-    let a = c .before .before .before .before .args in
-    let pre = c .before .before .before .before .pre .1 in
-    list-start (a .words .now) (a .pairs .now) (a .text .now) (a .n) (a .at) (pre .0) (pre .2)
+    let s = c .before .before .before .before in
+    list-start (s .args .words .now) (s .args .pairs .now) (s .args .text .now) (s .args .n) (s .args .at) (s .pre .1 .0) (s .pre .1 .2)
 
 write-list-write-part-requires : (t : ℕ) → write-list-lts.Need-write-part-requires (write-list-calls t) (write-list-at t) write-list.Post write-list-Inv-loop write-list-μ-loop
 write-list-write-part-requires t c κs =
-    let a = c .before .before .before .before .before .before .args in
-    let pre = c .before .before .before .before .before .before .pre .1 in
+    let pre = c .before .before .before .before .before .before .pre in
     let l = c .before .loop .inv in
-    (omega (arith, c .before .before .before .before .before .before .pre .0, l .ahead, item-here (a .words .now) (a .pairs .now) (a .text .now) (a .n) (a .at) l), (pre .1, item-room (a .words .now) (a .pairs .now) (a .text .now) (a .n) (a .at) l))
+    (omega (arith, pre .0, l .ahead, item-here l), (pre .1 .1, item-room l))
 
 write-list-sub-left : (t : ℕ) → write-list-lts.Need-sub-left (write-list-calls t) (write-list-at t) write-list.Post write-list-Inv-loop write-list-μ-loop
-write-list-sub-left t c =
-    let a = c .before .before .before .before .before .before .before .before .before .args in
-    let pre = c .before .before .before .before .before .before .before .before .before .pre .1 in
-    let l = c .before .before .before .before .loop .inv in
-    omega (arith, l .some)
+write-list-sub-left t c = omega (arith, c .before .before .before .before .loop .inv .some)
 
 write-list-same-length : (t : ℕ) → write-list-lts.Need-same-length (write-list-calls t) (write-list-at t) write-list.Post write-list-Inv-loop write-list-μ-loop
-write-list-same-length t c =
-    let a = c .before .before .before .before .before .before .before .before .before .before .args in
-    let pre = c .before .before .before .before .before .before .before .before .before .before .pre .1 in
-    let l = c .before .before .before .before .before .loop .inv in
-    wrote-kept (wrote-then (l .wrote) (c .before .before .before .write-part .ensures .wrote))
+write-list-same-length t c = wrote-kept (wrote-then (c .before .before .before .before .before .loop .inv .wrote) (c .before .before .before .write-part .ensures .wrote))
 
 write-list-returns : (t : ℕ) → write-list-lts.Need-returns (write-list-calls t) (write-list-at t) write-list.Post write-list-Inv-loop write-list-μ-loop
-write-list-returns t c =
-    let a = c .before .before .before .before .before .before .before .before .before .before .args in
-    let pre = c .before .before .before .before .before .before .before .before .before .before .pre .1 in
-    let l = c .before .before .before .before .before .loop .inv in
-    list-done (a .words .now) (a .pairs .now) (a .text .now) (a .n) (a .at) l (c .before .before .before .write-part .ensures) (c .if1 .taken)
+write-list-returns t c = list-done (c .before .before .before .before .before .loop .inv) (c .before .before .before .write-part .ensures) (c .if1 .taken)
 
 write-list-slice-aggregate-put : (t : ℕ) → write-list-lts.Need-slice-aggregate-put (write-list-calls t) (write-list-at t) write-list.Post write-list-Inv-loop write-list-μ-loop
 write-list-slice-aggregate-put t c = search needs
 
 write-list-put-requires : (t : ℕ) → write-list-lts.Need-put-requires (write-list-calls t) (write-list-at t) write-list.Post write-list-Inv-loop write-list-μ-loop
 unfolding ascii
-write-list-put-requires t c κs =
-    let a = c .before .before .before .before .before .before .before .before .before .before .before .before .args in
-    let pre = c .before .before .before .before .before .before .before .before .before .before .before .before .pre .1 in
-    let l = c .before .before .before .before .before .before .before .loop .inv in
-    comma-room (a .words .now) (a .pairs .now) (a .text .now) (a .n) (a .at) l (c .before .before .before .before .before .write-part .ensures) (omega (arith, c .before .before .if1 .left))
+write-list-put-requires t c κs = comma-room (c .before .before .before .before .before .before .before .loop .inv) (c .before .before .before .before .before .write-part .ensures) (omega (arith, c .before .before .if1 .left))
 
 write-list-loop-less : (t : ℕ) → write-list-lts.Need-loop-less (write-list-calls t) (write-list-at t) write-list.Post write-list-Inv-loop write-list-μ-loop
-write-list-loop-less t c =
-    let a = c .before .before .before .before .before .before .before .before .before .before .before .before .before .before .before .args in
-    let pre = c .before .before .before .before .before .before .before .before .before .before .before .before .before .before .before .pre .1 in
-    let l = c .before .before .before .before .before .before .before .before .before .before .loop .inv in
-    omega (arith, l .some)
+write-list-loop-less t c = omega (arith, c .before .before .before .before .before .before .before .before .before .before .loop .inv .some)
 
 write-list-loop-again : (t : ℕ) → write-list-lts.Need-loop-again (write-list-calls t) (write-list-at t) write-list.Post write-list-Inv-loop write-list-μ-loop
 unfolding ascii
-write-list-loop-again t c =
-    let a = c .before .before .before .before .before .before .before .before .before .before .before .before .before .before .before .args in
-    let pre = c .before .before .before .before .before .before .before .before .before .before .before .before .before .before .before .pre .1 in
-    let l = c .before .before .before .before .before .before .before .before .before .before .loop .inv in
-    list-again (a .words .now) (a .pairs .now) (a .text .now) (a .n) (a .at) l (c .before .before .before .before .before .before .before .before .write-part .ensures) (omega (arith, c .before .before .before .before .before .if1 .left)) (c .before .before .put .ensures)
+write-list-loop-again t c = list-again (c .before .before .before .before .before .before .before .before .before .before .loop .inv) (c .before .before .before .before .before .before .before .before .write-part .ensures) (omega (arith, c .before .before .before .before .before .if1 .left)) (c .before .before .put .ensures)
+
+write-part-room : (t : ℕ) (s : write-part-lts.Start (write-part-calls t) (write-part-at t) write-part.Post) → TypeRoom (s .args .words .now) (s .args .pairs .now) (s .args .text .now) (s .args .at) (s .args .out .now) (s .args .pos)
+write-part-room t s = record { there = s .pre .1 .1 }
 
 write-part-mul-w : (t : ℕ) → write-part-lts.Need-mul-w (write-part-calls t) (write-part-at t) write-part.Post
-write-part-mul-w t c =
-    let a = c .before .before .before .before .args in
-    let pre = c .before .before .before .before .pre .1 in
-    omega (arith, type-here (a .words .now) (a .pairs .now) (a .text .now) (a .at) (pre .1 .reads))
+write-part-mul-w t c = omega (arith, room-here (write-part-room t (c .before .before .before .before)))
 
 write-part-shared-slice-read-w : (t : ℕ) → write-part-lts.Need-shared-slice-read-w (write-part-calls t) (write-part-at t) write-part.Post
-write-part-shared-slice-read-w t c =
-    let a = c .before .before .before .before .before .args in
-    let pre = c .before .before .before .before .before .pre .1 in
-    omega (arith, type-here (a .words .now) (a .pairs .now) (a .text .now) (a .at) (pre .1 .reads))
+write-part-shared-slice-read-w t c = omega (arith, room-here (write-part-room t (c .before .before .before .before .before)))
 
 write-part-add-t13 : (t : ℕ) → write-part-lts.Need-add-t13 (write-part-calls t) (write-part-at t) write-part.Post
-write-part-add-t13 t c =
-    let a = c .before .before .before .before .before .before .args in
-    let pre = c .before .before .before .before .before .before .pre .1 in
-    let k = name-type (a .words .now) (a .pairs .now) (a .text .now) (a .at) (pre .1 .reads) (c .if1 .taken) in
-    omega (arith, k .inside)
+write-part-add-t13 t c = omega (arith, name-there (write-part-room t (c .before .before .before .before .before .before)) (c .if1 .taken) .inside)
 
 write-part-add-put-name : (t : ℕ) → write-part-lts.Need-add-put-name (write-part-calls t) (write-part-at t) write-part.Post
-write-part-add-put-name t c =
-    let a = c .before .before .before .before .before .before .args in
-    let pre = c .before .before .before .before .before .before .pre .1 in
-    let k = name-type (a .words .now) (a .pairs .now) (a .text .now) (a .at) (pre .1 .reads) (c .if1 .taken) in
-    omega (arith, k .inside)
+write-part-add-put-name t c = omega (arith, name-there (write-part-room t (c .before .before .before .before .before .before)) (c .if1 .taken) .inside)
 
 write-part-mul-put-name : (t : ℕ) → write-part-lts.Need-mul-put-name (write-part-calls t) (write-part-at t) write-part.Post
-write-part-mul-put-name t c =
-    let a = c .before .before .before .before .before .before .args in
-    let pre = c .before .before .before .before .before .before .pre .1 in
-    let k = name-type (a .words .now) (a .pairs .now) (a .text .now) (a .at) (pre .1 .reads) (c .if1 .taken) in
-    omega (arith, k .inside)
+write-part-mul-put-name t c = omega (arith, name-there (write-part-room t (c .before .before .before .before .before .before)) (c .if1 .taken) .inside)
 
 write-part-shared-slice-read-put-name : (t : ℕ) → write-part-lts.Need-shared-slice-read-put-name (write-part-calls t) (write-part-at t) write-part.Post
-write-part-shared-slice-read-put-name t c =
-    let a = c .before .before .before .before .before .before .before .args in
-    let pre = c .before .before .before .before .before .before .before .pre .1 in
-    let k = name-type (a .words .now) (a .pairs .now) (a .text .now) (a .at) (pre .1 .reads) (c .before .if1 .taken) in
-    omega (arith, k .inside)
+write-part-shared-slice-read-put-name t c = omega (arith, name-there (write-part-room t (c .before .before .before .before .before .before .before)) (c .before .if1 .taken) .inside)
 
 write-part-put-name-requires : (t : ℕ) → write-part-lts.Need-put-name-requires (write-part-calls t) (write-part-at t) write-part.Post
-unfolding Type·ToString
 write-part-put-name-requires t c κs =
-    let a = c .before .before .before .before .before .before .before .before .args in
-    let pre = c .before .before .before .before .before .before .before .before .pre .1 in
-    let k = name-type (a .words .now) (a .pairs .now) (a .text .now) (a .at) (pre .1 .reads) (c .before .before .if1 .taken) in
-    (k .below, pre .0, room-as (pre .1) (nameBytes (a .pairs .now) (a .text .now) (getD (a .words .now) (a .at + 1) 0)) (ap Type·ToString (k .type)))
+    let s = c .before .before .before .before .before .before .before .before in
+    (name-there (write-part-room t s) (c .before .before .if1 .taken) .below, s .pre .1 .0, leaf-room (name-leaf (write-part-room t s) (c .before .before .if1 .taken)))
 
 write-part-same-length : (t : ℕ) → write-part-lts.Need-same-length (write-part-calls t) (write-part-at t) write-part.Post
 write-part-same-length t c = search needs
 
 write-part-returns : (t : ℕ) → write-part-lts.Need-returns (write-part-calls t) (write-part-at t) write-part.Post
-unfolding Type·ToString
-write-part-returns t c =
-    let a = c .before .before .before .before .before .before .before .before .before .before .before .args in
-    let pre = c .before .before .before .before .before .before .before .before .before .before .before .pre .1 in
-    let k = name-type (a .words .now) (a .pairs .now) (a .text .now) (a .at) (pre .1 .reads) (c .before .before .before .before .before .if1 .taken) in
-    written-as (pre .1) (a .at + 2) _ (k .end) (nameBytes (a .pairs .now) (a .text .now) (getD (a .words .now) (a .at + 1) 0)) (ap Type·ToString (k .type)) (c .before .before .put-name .ensures)
+write-part-returns t c = leaf-done (name-leaf (write-part-room t (c .before .before .before .before .before .before .before .before .before .before .before)) (c .before .before .before .before .before .if1 .taken)) (c .before .before .put-name .ensures)
 
 write-part-add-t21 : (t : ℕ) → write-part-lts.Need-add-t21 (write-part-calls t) (write-part-at t) write-part.Post
-write-part-add-t21 t c =
-    let a = c .before .before .before .before .before .before .before .args in
-    let pre = c .before .before .before .before .before .before .before .pre .1 in
-    omega (arith, type-here (a .words .now) (a .pairs .now) (a .text .now) (a .at) (pre .1 .reads))
+write-part-add-t21 t c = omega (arith, room-here (write-part-room t (c .before .before .before .before .before .before .before)))
 
 write-part-put-primitive-requires : (t : ℕ) → write-part-lts.Need-put-primitive-requires (write-part-calls t) (write-part-at t) write-part.Post
-unfolding Type·ToString
-write-part-put-primitive-requires t c κs =
-    let a = c .before .before .before .before .before .before .before .before .args in
-    let pre = c .before .before .before .before .before .before .before .before .pre .1 in
-    let k = plain-type (a .words .now) (a .pairs .now) (a .text .now) (a .at) (pre .1 .reads) (c .before .if2 .taken) in
-    (c .before .if2 .taken, room-as (pre .1) (Primitive·ToString (getD primitives (getD (a .words .now) (a .at) 0) U8)) (ap Type·ToString (k .0)))
+write-part-put-primitive-requires t c κs = (c .before .if2 .taken, leaf-room (plain-leaf (write-part-room t (c .before .before .before .before .before .before .before .before)) (c .before .if2 .taken)))
 
 write-part-same-length-2 : (t : ℕ) → write-part-lts.Need-same-length-2 (write-part-calls t) (write-part-at t) write-part.Post
 write-part-same-length-2 t c = search needs
 
 write-part-returns-2 : (t : ℕ) → write-part-lts.Need-returns-2 (write-part-calls t) (write-part-at t) write-part.Post
-unfolding Type·ToString
-write-part-returns-2 t c =
-    let a = c .before .before .before .before .before .before .before .before .before .before .before .args in
-    let pre = c .before .before .before .before .before .before .before .before .before .before .before .pre .1 in
-    let k = plain-type (a .words .now) (a .pairs .now) (a .text .now) (a .at) (pre .1 .reads) (c .before .before .before .before .if2 .taken) in
-    written-as (pre .1) (a .at + 1) _ (k .1) (Primitive·ToString (getD primitives (getD (a .words .now) (a .at) 0) U8)) (ap Type·ToString (k .0)) (c .before .before .put-primitive .ensures)
+write-part-returns-2 t c = leaf-done (plain-leaf (write-part-room t (c .before .before .before .before .before .before .before .before .before .before .before)) (c .before .before .before .before .if2 .taken)) (c .before .before .put-primitive .ensures)
 
 write-part-write-type-requires : (t : ℕ) → write-part-lts.Need-write-type-requires (write-part-calls t) (write-part-at t) write-part.Post
 write-part-write-type-requires t c κs =
-    let a = c .before .before .before .before .before .before .before .before .args in
-    let pre = c .before .before .before .before .before .before .before .before .pre .1 in
-    (omega (arith, c .before .before .before .before .before .before .before .before .pre .0), (pre .0, pre .1))
+    let s = c .before .before .before .before .before .before .before .before in
+    (omega (arith, s .pre .0), (s .pre .1 .0, s .pre .1 .1))
 
 write-part-same-length-3 : (t : ℕ) → write-part-lts.Need-same-length-3 (write-part-calls t) (write-part-at t) write-part.Post
 write-part-same-length-3 t c = search needs
@@ -884,138 +636,105 @@ write-part-same-length-3 t c = search needs
 write-part-returns-3 : (t : ℕ) → write-part-lts.Need-returns-3 (write-part-calls t) (write-part-at t) write-part.Post
 write-part-returns-3 t c = c .before .before .write-type .ensures
 
+write-synonym-room : (t : ℕ) (s : write-synonym-lts.Start (write-synonym-calls t) (write-synonym-at t) write-synonym.Post) → NodeRoom (s .args .words .now) (s .args .pairs .now) (s .args .text .now) Synonym (s .args .at) (s .args .out .now) (s .args .pos)
+write-synonym-room t s = record { there = s .pre .1 .1 }
+
 write-synonym-write-part-requires : (t : ℕ) → write-synonym-lts.Need-write-part-requires (write-synonym-calls t) (write-synonym-at t) write-synonym.Post
 write-synonym-write-part-requires t c κs =
-    let a = c .before .before .before .before .before .args in
-    let pre = c .before .before .before .before .before .pre .1 in
-    (omega (arith, c .before .before .before .before .before .pre .0), (pre .0, synonym-display (a .words .now) (a .pairs .now) (a .text .now) (a .at) (pre .1)))
+    let s = c .before .before .before .before .before in
+    (omega (arith, s .pre .0), (s .pre .1 .0, synonym-display (write-synonym-room t s)))
 
 write-synonym-skip-type-requires : (t : ℕ) → write-synonym-lts.Need-skip-type-requires (write-synonym-calls t) (write-synonym-at t) write-synonym.Post
-write-synonym-skip-type-requires t c κs =
-    let a = c .before .before .before .before .before .before .before .before .args in
-    let pre = c .before .before .before .before .before .before .before .before .pre .1 in
-    synonym-base (a .words .now) (a .pairs .now) (a .text .now) (a .at) (pre .1) (c .before .before .write-part .ensures)
+write-synonym-skip-type-requires t c κs = synonym-base (write-synonym-room t (c .before .before .before .before .before .before .before .before)) (c .before .before .write-part .ensures)
 
 write-synonym-same-length : (t : ℕ) → write-synonym-lts.Need-same-length (write-synonym-calls t) (write-synonym-at t) write-synonym.Post
 write-synonym-same-length t c = search needs
 
 write-synonym-returns : (t : ℕ) → write-synonym-lts.Need-returns (write-synonym-calls t) (write-synonym-at t) write-synonym.Post
-write-synonym-returns t c =
-    let a = c .before .before .before .before .before .before .before .before .before .args in
-    let pre = c .before .before .before .before .before .before .before .before .before .pre .1 in
-    synonym-done (a .words .now) (a .pairs .now) (a .text .now) (a .at) (pre .1) (c .before .before .before .write-part .ensures) (c .skip-type .ensures)
+write-synonym-returns t c = synonym-done (write-synonym-room t (c .before .before .before .before .before .before .before .before .before)) (c .before .before .before .write-part .ensures) (c .skip-type .ensures)
+
+write-tuple-room : (t : ℕ) (s : write-tuple-lts.Start (write-tuple-calls t) (write-tuple-at t) write-tuple.Post) → NodeRoom (s .args .words .now) (s .args .pairs .now) (s .args .text .now) (Tuple (s .args .n)) (s .args .at) (s .args .out .now) (s .args .pos)
+write-tuple-room t s = record { there = s .pre .1 .1 }
 
 write-tuple-slice-aggregate-put : (t : ℕ) → write-tuple-lts.Need-slice-aggregate-put (write-tuple-calls t) (write-tuple-at t) write-tuple.Post
 write-tuple-slice-aggregate-put t c = search needs
 
 write-tuple-put-requires : (t : ℕ) → write-tuple-lts.Need-put-requires (write-tuple-calls t) (write-tuple-at t) write-tuple.Post
 unfolding ascii
-write-tuple-put-requires t c κs =
-    let a = c .before .before .before .before .before .before .before .args in
-    let pre = c .before .before .before .before .before .before .before .pre .1 in
-    tuple-empty (a .words .now) (a .pairs .now) (a .text .now) (a .n) (a .at) (pre .1) (c .before .before .if1 .taken)
+write-tuple-put-requires t c κs = tuple-empty (write-tuple-room t (c .before .before .before .before .before .before .before)) (c .before .before .if1 .taken)
 
 write-tuple-same-length : (t : ℕ) → write-tuple-lts.Need-same-length (write-tuple-calls t) (write-tuple-at t) write-tuple.Post
 write-tuple-same-length t c = search needs
 
 write-tuple-returns : (t : ℕ) → write-tuple-lts.Need-returns (write-tuple-calls t) (write-tuple-at t) write-tuple.Post
 unfolding ascii
-write-tuple-returns t c =
-    let a = c .before .before .before .before .before .before .before .before .before .before .args in
-    let pre = c .before .before .before .before .before .before .before .before .before .before .pre .1 in
-    tuple-none (a .words .now) (a .pairs .now) (a .text .now) (a .n) (a .at) (pre .1) (c .before .before .before .before .before .if1 .taken) (c .before .before .put .ensures)
+write-tuple-returns t c = tuple-none (write-tuple-room t (c .before .before .before .before .before .before .before .before .before .before)) (c .before .before .before .before .before .if1 .taken) (c .before .before .put .ensures)
 
 write-tuple-slice-aggregate-put-2 : (t : ℕ) → write-tuple-lts.Need-slice-aggregate-put-2 (write-tuple-calls t) (write-tuple-at t) write-tuple.Post
 write-tuple-slice-aggregate-put-2 t c = search needs
 
 write-tuple-put-requires-2 : (t : ℕ) → write-tuple-lts.Need-put-requires-2 (write-tuple-calls t) (write-tuple-at t) write-tuple.Post
 unfolding ascii
-write-tuple-put-requires-2 t c κs =
-    let a = c .before .before .before .before .before .before .before .args in
-    let pre = c .before .before .before .before .before .before .before .pre .1 in
-    tuple-open (a .words .now) (a .pairs .now) (a .text .now) (a .n) (a .at) (pre .1)
+write-tuple-put-requires-2 t c κs = tuple-open (write-tuple-room t (c .before .before .before .before .before .before .before))
 
 write-tuple-write-list-requires : (t : ℕ) → write-tuple-lts.Need-write-list-requires (write-tuple-calls t) (write-tuple-at t) write-tuple.Post
 unfolding ascii
 write-tuple-write-list-requires t c κs =
-    let a = c .before .before .before .before .before .before .before .before .before .before .before .args in
-    let pre = c .before .before .before .before .before .before .before .before .before .before .before .pre .1 in
-    (omega (arith, c .before .before .before .before .before .before .before .before .before .before .before .pre .0), (omega (arith, c .before .before .before .before .before .before .if1 .left), pre .0, tuple-list (a .words .now) (a .pairs .now) (a .text .now) (a .n) (a .at) (pre .1) (c .before .before .before .put2 .ensures)))
+    let s = c .before .before .before .before .before .before .before .before .before .before .before in
+    (omega (arith, s .pre .0), (omega (arith, c .before .before .before .before .before .before .if1 .left), s .pre .1 .0, tuple-list (write-tuple-room t s) (c .before .before .before .put2 .ensures)))
 
 write-tuple-slice-aggregate-put-3 : (t : ℕ) → write-tuple-lts.Need-slice-aggregate-put-3 (write-tuple-calls t) (write-tuple-at t) write-tuple.Post
 write-tuple-slice-aggregate-put-3 t c = search needs
 
 write-tuple-put-requires-3 : (t : ℕ) → write-tuple-lts.Need-put-requires-3 (write-tuple-calls t) (write-tuple-at t) write-tuple.Post
 unfolding ascii
-write-tuple-put-requires-3 t c κs =
-    let a = c .before .before .before .before .before .before .before .before .before .before .before .before .before .before .before .before .args in
-    let pre = c .before .before .before .before .before .before .before .before .before .before .before .before .before .before .before .before .pre .1 in
-    tuple-close (a .words .now) (a .pairs .now) (a .text .now) (a .n) (a .at) (pre .1) (c .before .before .before .before .before .before .before .before .put2 .ensures) (c .before .before .before .before .write-list .ensures)
+write-tuple-put-requires-3 t c κs = tuple-close (write-tuple-room t (c .before .before .before .before .before .before .before .before .before .before .before .before .before .before .before .before)) (c .before .before .before .before .before .before .before .before .put2 .ensures) (c .before .before .before .before .write-list .ensures)
 
 write-tuple-same-length-2 : (t : ℕ) → write-tuple-lts.Need-same-length-2 (write-tuple-calls t) (write-tuple-at t) write-tuple.Post
 write-tuple-same-length-2 t c = search needs
 
 write-tuple-returns-2 : (t : ℕ) → write-tuple-lts.Need-returns-2 (write-tuple-calls t) (write-tuple-at t) write-tuple.Post
 unfolding ascii
-write-tuple-returns-2 t c =
-    let a = c .before .before .before .before .before .before .before .before .before .before .before .before .before .before .before .before .before .before .before .args in
-    let pre = c .before .before .before .before .before .before .before .before .before .before .before .before .before .before .before .before .before .before .before .pre .1 in
-    tuple-done (a .words .now) (a .pairs .now) (a .text .now) (a .n) (a .at) (pre .1) (c .before .before .before .before .before .before .before .before .before .before .before .put2 .ensures) (c .before .before .before .before .before .before .before .write-list .ensures) (c .before .before .put3 .ensures)
+write-tuple-returns-2 t c = tuple-done (write-tuple-room t (c .before .before .before .before .before .before .before .before .before .before .before .before .before .before .before .before .before .before .before)) (c .before .before .before .before .before .before .before .before .before .before .before .put2 .ensures) (c .before .before .before .before .before .before .before .write-list .ensures) (c .before .before .put3 .ensures)
 
 abbrev write-type-Inv-loop : write-type-lts.InvT-loop
-write-type-Inv-loop words pairs text at out₀ pos place₀ p₀ out place p = Front (typeAt words pairs text) at out₀ pos (typeAt words pairs text at) out (record { next = place; pos = p })
+write-type-Inv-loop words pairs text at out₀ pos place₀ p₀ out place p = Turning words pairs text at out₀ pos out place p
 
 abbrev write-type-μ-loop : write-type-lts.MeasureT-loop
 write-type-μ-loop words pairs text at out₀ pos place₀ p₀ out place p = length words - place
 
 write-type-loop-holds : (t : ℕ) → write-type-lts.Need-loop-holds (write-type-calls t) (write-type-at t) write-type.Post write-type-Inv-loop write-type-μ-loop
 write-type-loop-holds t c =
-    let a = c .before .before .before .before .args in
-    let pre = c .before .before .before .before .pre .1 in
-    turn-start (a .words .now) (a .pairs .now) (a .text .now) (a .at) (pre .1)
+    let s = c .before .before .before .before in
+    turn-start (s .args .words .now) (s .args .pairs .now) (s .args .text .now) (s .args .at) (s .pre .1 .1)
 
 write-type-write-head-requires : (t : ℕ) → write-type-lts.Need-write-head-requires (write-type-calls t) (write-type-at t) write-type.Post write-type-Inv-loop write-type-μ-loop
 write-type-write-head-requires t c κs =
-    let a = c .before .before .before .before .before .before .args in
-    let pre = c .before .before .before .before .before .before .pre .1 in
+    let pre = c .before .before .before .before .before .before .pre in
     let f = c .before .loop .inv in
-    (omega (arith, c .before .before .before .before .before .before .pre .0, f .ahead, turn-here (a .words .now) (a .pairs .now) (a .text .now) (a .at) (pre .1) f), (pre .0, turn-next (a .words .now) (a .pairs .now) (a .text .now) (a .at) (pre .1) f))
+    (omega (arith, pre .0, f .front .ahead, turn-here f), (pre .1 .0, turn-next f))
 
 write-type-enum-known-spot : (t : ℕ) → write-type-lts.Need-enum-known-spot (write-type-calls t) (write-type-at t) write-type.Post write-type-Inv-loop write-type-μ-loop
 write-type-enum-known-spot t c = search needs
 
 write-type-loop-less : (t : ℕ) → write-type-lts.Need-loop-less (write-type-calls t) (write-type-at t) write-type.Post write-type-Inv-loop write-type-μ-loop
 write-type-loop-less t c =
-    let a = c .before .before .before .before .before .before .before .before .before .before .before .before .args in
-    let pre = c .before .before .before .before .before .before .before .before .before .before .before .before .pre .1 in
-    let f = c .before .before .before .before .before .before .before .loop .inv in
     let g = part-rest (c .before .before .before .before .before .write-head .ensures) (c .before .spot .given .1) in
-    omega (arith, g .ahead, turn-here (a .words .now) (a .pairs .now) (a .text .now) (a .at) (pre .1) f)
+    omega (arith, g .ahead, turn-here (c .before .before .before .before .before .before .before .loop .inv))
 
 write-type-loop-again : (t : ℕ) → write-type-lts.Need-loop-again (write-type-calls t) (write-type-at t) write-type.Post write-type-Inv-loop write-type-μ-loop
-write-type-loop-again t c =
-    let a = c .before .before .before .before .before .before .before .before .before .before .before .before .args in
-    let pre = c .before .before .before .before .before .before .before .before .before .before .before .before .pre .1 in
-    let f = c .before .before .before .before .before .before .before .loop .inv in
-    turn-again (a .words .now) (a .pairs .now) (a .text .now) (a .at) (pre .1) f (part-rest (c .before .before .before .before .before .write-head .ensures) (c .before .spot .given .1))
+write-type-loop-again t c = turn-again (c .before .before .before .before .before .before .before .loop .inv) (part-rest (c .before .before .before .before .before .write-head .ensures) (c .before .spot .given .1))
 
 write-type-enum-known-spot-2 : (t : ℕ) → write-type-lts.Need-enum-known-spot-2 (write-type-calls t) (write-type-at t) write-type.Post write-type-Inv-loop write-type-μ-loop
 write-type-enum-known-spot-2 t c = search needs
 
 write-type-same-length : (t : ℕ) → write-type-lts.Need-same-length (write-type-calls t) (write-type-at t) write-type.Post write-type-Inv-loop write-type-μ-loop
 write-type-same-length t c =
-    let a = c .before .before .before .before .before .before .before .before .before .before .before .before .args in
-    let pre = c .before .before .before .before .before .before .before .before .before .before .before .before .pre .1 in
-    let f = c .before .before .before .before .before .before .before .loop .inv in
     let w = part-done (c .before .before .before .before .before .write-head .ensures) (c .before .spot2 .given .1) in
-    wrote-kept (turn-last (a .words .now) (a .pairs .now) (a .text .now) (a .at) (pre .1) f w .wrote)
+    wrote-kept (turn-last (c .before .before .before .before .before .before .before .loop .inv) w .wrote)
 
 write-type-returns : (t : ℕ) → write-type-lts.Need-returns (write-type-calls t) (write-type-at t) write-type.Post write-type-Inv-loop write-type-μ-loop
-write-type-returns t c =
-    let a = c .before .before .before .before .before .before .before .before .before .before .before .before .args in
-    let pre = c .before .before .before .before .before .before .before .before .before .before .before .before .pre .1 in
-    let f = c .before .before .before .before .before .before .before .loop .inv in
-    turn-last (a .words .now) (a .pairs .now) (a .text .now) (a .at) (pre .1) f (part-done (c .before .before .before .before .before .write-head .ensures) (c .before .spot2 .given .1))
+write-type-returns t c = turn-last (c .before .before .before .before .before .before .before .loop .inv) (part-done (c .before .before .before .before .before .write-head .ensures) (c .before .spot2 .given .1))
 
 pub +write-apply+write-array+write-head+write-inputs+write-left+write-list+write-part+write-synonym+write-tuple+write-type-spec :
     {M : Type 1} → statement M
