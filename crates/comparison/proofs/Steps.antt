@@ -67,7 +67,7 @@ no-name pairs text x h =
 
 -- ---- the front words of two runs
 
-take-word : (l : List ℕ) (i left : ℕ) → i < length l → 0 < left → take left (drop i l) ≡ getD l i 0 ∷ take (left - 1) (drop (i + 1) l)
+pub take-word : (l : List ℕ) (i left : ℕ) → i < length l → 0 < left → take left (drop i l) ≡ getD l i 0 ∷ take (left - 1) (drop (i + 1) l)
 take-word l i zero h k = absurd (let z : ⊥ = omega arith in z)
 take-word l i (suc n) h k = let z : suc n - 1 ≡ n = omega arith in rw (drop-cons l i 0 h, add-one i, z) refl
 

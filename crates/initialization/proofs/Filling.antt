@@ -8,7 +8,7 @@ use native.Mathlib.Omega.{arith}
 use borrow.Author.Tests.{eqb-true}
 use lib.Dec.{eqb}
 use lib.ListN.{length, take, drop, length-append}
-use lib.Seq.{sets}
+use lib.Seq.{sets, take-length}
 use Rattle.rast.specs.Bytes.{Bytes}
 use Rattle.rast.specs.Tree.{Global, PMemberSelect, Ty, nil, cons}
 use Rattle.rast.specs.DeclarationToString.{Expand}
@@ -39,11 +39,11 @@ use Rattle.shapes.specs.Initialization.{ObjectType, PtrType, orThis, newUnderly
 use Rattle.shapes.proofs.Answers.{Accepted}
 use Rattle.rebuild.specs.declared.RebuildAnswer.{RebuildAnswer}
 use Rattle.rebuild.specs.declared.RebuildAnswer.the-variants.{Length, Refused}
-use Rattle.rebuild.specs.Calls.{Laid, roomOf, zeros, laidDown, Fills}
-use Rattle.rebuild.proofs.Calls.{down-over, down-deep, down-front}
+use Rattle.rebuild.specs.Calls.{Laid, roomOf, zeros, laidDown, sameWords, Fills}
+use Rattle.rebuild.proofs.Calls.{down-over, down-deep, down-front, shallow}
 use Rattle.initialization.specs.declared.Initial.{Initial}
 use Rattle.initialization.specs.declared.Initial.the-variants.{OfArray, Unchanged}
-use Rattle.initialization.specs.Initialized.{laidInit, typeInitialized, pointerWords, uninitWords, initialWords, newArray, Named, Pieces, pieces, unchanged, Becomes, Kept, Whole}
+use Rattle.initialization.specs.Initialized.{laidInit, typeInitialized, pointerWords, uninitWords, initialWords, newArray, Named, Pieces, pieces, unchanged, Becomes, Whole}
 use Rattle.initialization.proofs.Changes.{one-words, one-depth}
 
 -- ---- the type at initialization, by the new array
@@ -86,10 +86,6 @@ module _ (bytes : ℕ → Bytes) (t : Ty ℕ) where
       go false = one-depth (PMemberSelect (PMemberSelect Global 10) 12) v h
 
 -- ---- lengths
-
-take-whole : (l : List ℕ) → take (length l) l ≡ l
-take-whole [] = refl
-take-whole (x ∷ l) = ap (λ m. x ∷ m) (take-whole l)
 
 pieces-length : (name : ℕ) (x y : List ℕ) {n : ℕ} → length x + length y ≡ n → length (pointerWords name ++ (x ++ (uninitWords ++ y))) ≡ 15 + n
 pieces-length name x y e = omega (arith, e, length-append x (uninitWords ++ y))
@@ -174,7 +170,7 @@ module _ (ws pairs : List ℕ) (text : Bytes) where
 
   -- ---- a type that stays
 
-  pub stays : {o o′ : List ℕ} {r : RebuildAnswer} {c : Initial} → Whole ws pairs → Becomes (newArray bytes) ws pairs 0 c → c ≡ Unchanged → Kept ws o o′ r → Fills laid o o′ r
+  pub stays : {o o′ : List ℕ} {r : RebuildAnswer} {c : Initial} → Whole ws pairs → Becomes (newArray bytes) ws pairs 0 c → c ≡ Unchanged → (r, o′) ≡ laidDown o (given (sameWords ws 0)) → Fills laid o o′ r
   stays {o} {o′} {r} {c} w b e k = go (subst (Pieces ws pairs (newArray bytes (b .tree))) e (b .by))
     where
       go : Pieces ws pairs (newArray bytes (b .tree)) Unchanged → Fills laid o o′ r
@@ -184,21 +180,9 @@ module _ (ws pairs : List ℕ) (text : Bytes) where
           let i : b .end ≡ length ws = cc (b .reads, w .reads) in
           let a = tree-run ws pairs 0 (omega arith) (b .reads) in
           let n : length ws ≡ length (encode t) = omega (arith, a .1, i, encode-words t) in
-          let same : ws ≡ encode t = sym (take-whole ws) ∙ ap (λ k. take k ws) n ∙ a .0 .words in
-          let l : record { words = ws; top = length ws; deep = depth t } ≡ laidInit bytes t = rw (q, sym same) refl in
-          filled (b .reads) (k .keeps (depth t) (tree-deep ws pairs 0 (b .reads)) ∙ ap (λ x. laidDown o (given x)) l)
-
--- ---- the words as they are
-
-module _ (ws o : List ℕ) where
-  abbrev unaltered : ℕ → Laid
-  unaltered d = record { words = ws; top = length ws; deep = d }
-
-  pub keep-over : {o′ : List ℕ} → length o < length ws → o′ ≡ zeros o → Kept ws o o′ (Refused BufferTooShort)
-  keep-over h z = record { keeps = λ d l. down-over o (unaltered d) (omega (arith, h)) z }
-
-  pub keep-front : {o′ : List ℕ} → length ws ≤ 8192 → length ws ≤ length o → o′ ≡ sets o 0 (take (length ws) ws) → Kept ws o o′ (Length (length ws))
-  keep-front k h z = record { keeps = λ d l. down-front o (unaltered d) (omega (arith, h, k)) l h (z ∙ ap (sets o 0) (take-whole ws)) refl }
+          let same : ws ≡ encode t = sym (take-length ws) ∙ ap (λ k. take k ws) n ∙ a .0 .words in
+          let l : sameWords ws (depth t) ≡ laidInit bytes t = rw (q, sym same) refl in
+          filled (b .reads) (k ∙ shallow o ws (depth t) (tree-deep ws pairs 0 (b .reads)) ∙ ap (λ x. laidDown o (given x)) l)
 
 -- ---- the pieces, one behind the other
 

@@ -18,8 +18,7 @@ use Rattle.classes.specs.Matches.{argument}
 use Rattle.classes.specs.Steps.{when, andThen}
 use Rattle.shapes.specs.Shapes.{IsObject, IsObjectOrPointer}
 use Rattle.shapes.specs.Initialization.{newUnderlying, TypeAtInitialization}
-use Rattle.rebuild.specs.declared.RebuildAnswer.{RebuildAnswer}
-use Rattle.rebuild.specs.Calls.{Laid, laidDown}
+use Rattle.rebuild.specs.Calls.{Laid}
 use Rattle.initialization.specs.declared.Initial.{Initial}
 use Rattle.initialization.specs.declared.Initial.the-variants.{OfArray, Unchanged}
 
@@ -69,10 +68,6 @@ pub record Becomes (f : Ty ℕ → Option (Ty ℕ)) (ws pairs : List ℕ) (at : 
   pub end : ℕ
   pub reads : treeAt ws pairs at ≡ got tree end
   pub by : Pieces ws pairs (f tree) r
-
--- words laid down as they are, of a tree that is not too deep
-pub record Kept (ws o o′ : List ℕ) (r : RebuildAnswer) : Type 0 where
-  pub keeps : (d : ℕ) → d ≤ 64 → (r, o′) ≡ laidDown o (given (record { words = ws; top = length ws; deep = d }))
 
 -- a type fills the words
 pub record Whole (ws pairs : List ℕ) : Type 0 where

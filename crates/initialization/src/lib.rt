@@ -10,7 +10,7 @@ ghost use Rattle.writing.specs.Written.{Readable};
 ghost use Rattle.shapes.specs.Initialization.{newUnderlying};
 ghost use Rattle.rebuild.specs.Calls.{laidDown, Fills};
 ghost use Rattle.initialization.specs.declared.Initial.the-variants.{OfArray};
-ghost use Rattle.initialization.specs.Initialized.{laidInit, typeInitialized, initialWords, newArray, Becomes, Named, Kept, Whole};
+ghost use Rattle.initialization.specs.Initialized.{laidInit, typeInitialized, initialWords, newArray, Becomes, Named, Whole};
 use classes::Class;
 use classes::Found;
 use encoding::Check;
@@ -122,20 +122,6 @@ fn change(
     RebuildAnswer::Length(count)
 }
 
-// A type that stays as it is. It was accepted, so it is not too deep.
-fn keep(words: &[u32], out: &mut [u32]) -> RebuildAnswer
-    requires { ⌜ length (now words) ≤ 8192 ⌝ }
-    ensures { λ r. ⌜ Kept (now (words .entry)) (now (out .entry)) (now (out .exit)) r ⌝ }
-{
-    let count = words.len();
-    if out.len() < count {
-        rebuild::clear(out);
-        return RebuildAnswer::Refused(Refusal::BufferTooShort);
-    }
-    rebuild::copy_words(words, 0, count, out, 0);
-    RebuildAnswer::Length(count)
-}
-
 // ---- the call
 
 // The accepted type that the words hold.
@@ -145,7 +131,7 @@ fn initialize(words: &[u32], pairs: &[u32], text: &[u8], out: &mut [u32]) -> Reb
 {
     match find_change(words, pairs, text) {
         Initial::OfArray { start, element } => change(words, pairs, text, start, element, out),
-        Initial::Unchanged => keep(words, out),
+        Initial::Unchanged => rebuild::copy_unaltered(words, out),
     }
 }
 

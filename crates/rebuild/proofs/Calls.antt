@@ -25,7 +25,7 @@ use Rattle.rebuild.specs.declared.RebuildAnswer.the-variants.{Length, Re
 use Rattle.rebuild.specs.declared.Attempt.{Attempt}
 use Rattle.rebuild.specs.declared.Attempt.the-variants.{Answered, NoRoom}
 use Rattle.rebuild.specs.Laid.{Rebuilds, rebuilt, full, ruleList, Ruled}
-use Rattle.rebuild.specs.Calls.{Laid, roomOf, zeros, laidDown, ruledBy, LaidRebuilds, Attempted, answered, noRoom, Fills}
+use Rattle.rebuild.specs.Calls.{sameWords, Laid, roomOf, zeros, laidDown, ruledBy, LaidRebuilds, Attempted, answered, noRoom, Fills}
 use Rattle.rebuild.proofs.Types.{came, filled}
 
 -- more words would lie there than there is room
@@ -34,6 +34,11 @@ unfolding laidDown
 down-over o b h e = rw (lt-ltb (roomOf o) (b .top) h, e) refl
 
 -- the tree is too deep
+-- how deep a tree is does not matter, if it is not too deep
+pub shallow : (o ws : List ℕ) (d : ℕ) → d ≤ 64 → laidDown o (given (sameWords ws 0)) ≡ laidDown o (given (sameWords ws d))
+unfolding laidDown
+shallow o ws d h = rw (le-ltb 64 d h) refl
+
 pub down-deep : (o : List ℕ) (b : Laid) {o′ : List ℕ} → b .top ≤ roomOf o → 64 < b .deep → o′ ≡ zeros o → _≡_ {A = RebuildAnswer × List ℕ} (Refused TooDeep, o′) (laidDown o (given b))
 unfolding laidDown
 down-deep o b h k e = rw (le-ltb (roomOf o) (b .top) h, lt-ltb 64 (b .deep) k, e) refl

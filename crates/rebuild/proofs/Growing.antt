@@ -116,12 +116,6 @@ pub zero-more : (i : ℕ) → _≡_ {A = List ℕ} (replicate i 0 ++ (0 ∷ []))
 zero-more zero = refl
 zero-more (suc i) = ap (λ l. 0 ∷ l) (zero-more i)
 
-pub take-all : (i : ℕ) (l : List ℕ) → length l ≤ i → take i l ≡ l
-take-all zero [] h = refl
-take-all zero (x ∷ l) h = absurd (let z : ⊥ = omega arith in z)
-take-all (suc i) [] h = refl
-take-all (suc i) (x ∷ l) h = ap (λ k. x ∷ k) (take-all i l (omega arith))
-
 pub take-set : (l : List ℕ) (i x : ℕ) → i < length l → take (suc i) (set l i x) ≡ take i l ++ (x ∷ [])
 take-set [] i x h = absurd (let z : ⊥ = omega arith in z)
 take-set (y ∷ l) zero x h = refl

@@ -161,6 +161,7 @@ module _ (ws pairs : List ℕ) (at : ℕ) (m : Ty ℕ → Ty ℕ) {t : Ty ℕ} {
     pub top : p + ((q - at) + peaks m (inner .types)) ≤ limit
     pub end : n′ ≡ n
     pub small : d + 1 ≤ limit
+    pub some : p < q′
 
   pub finished : {k limit p p₁ n′ q′ d : ℕ} {o o₁ o₂ : List ℕ} {r : Rebuilt} → k ≡ typesBelow ws at → Grown o p own o₁ p₁ → TypesRebuild m limit o₁ p₁ (readTypes (treeAt ws pairs) k q) o₂ r → r ≡ Done n′ q′ d
       → Finished limit p o o₂ n′ q′ d
@@ -178,6 +179,7 @@ module _ (ws pairs : List ℕ) (at : ℕ) (m : Ty ℕ → Ty ℕ) {t : Ty ℕ} {
         top = omega (arith, b .fits, ap (peaks m) i, g .next, own-length);
         end = j;
         small = omega (arith, z, depth-words built, encode-words built, v .next, b .within);
+        some = omega (arith, words-some built, encode-words built, v .next);
       }
 
   abbrev gives-built : Replace m t ≡ m built

@@ -47,6 +47,10 @@ laidDown o (refused r) = (Refused r, o)
 abbrev pub laidType : (Ty ℕ → Ty ℕ) → Ty ℕ → Laid
 laidType m t = record { words = encode (Replace m t); top = peak m t; deep = depth (Replace m t) }
 
+-- words that are laid down as they stand, of a tree so deep
+abbrev pub sameWords : List ℕ → ℕ → Laid
+sameWords ws d = record { words = ws; top = length ws; deep = d }
+
 -- a tree and rules, or the refusal that comes first
 unfoldable pub ruledBy : {A : Type 0} → (List Rule → A → Laid) → Answer A → Answer (List Rule) → Answer Laid
 ruledBy f (given a) (given rs) = given (f rs a)

@@ -10,7 +10,7 @@ ghost use Rattle.trees.specs.Numbered.{treeAt};
 ghost use Rattle.writing.specs.Written.{Readable};
 ghost use Rattle.rules.specs.Table.{Fits, foundFrom};
 ghost use Rattle.rebuild.specs.Laid.{Lays, GivesTo, Settles, Ruled, mapping, TypeRebuilds, TypesRebuild};
-ghost use Rattle.rebuild.specs.Calls.{zeros, laidDown};
+ghost use Rattle.rebuild.specs.Calls.{sameWords, zeros, laidDown};
 use encoding::Refusal;
 use rules::Found;
 
@@ -84,7 +84,7 @@ enum Settling {
 // What lies from `start` on gives way to the to of rule `i`.
 fn give_way(
     rules: &[u32],
-    table: &[usize; 128],
+    table: &[usize; 160],
     k: usize,
     i: usize,
     out: &mut [u32],
@@ -108,7 +108,7 @@ fn settle(
     pairs: &[u32],
     text: &[u8],
     rules: &[u32],
-    table: &[usize; 128],
+    table: &[usize; 160],
     k: usize,
     out: &mut [u32],
     start: usize,
@@ -116,7 +116,7 @@ fn settle(
     depth: usize,
     limit: usize,
 ) -> Settling
-    requires { ⌜ Good (now pairs) (now text) × Fits (now rules) (now table) k × (start ≤ end) × (end ≤ limit) × (limit ≤ length (now out)) ⌝ }
+    requires { ⌜ Good (now pairs) (now text) × Fits (now rules) (now table) k × (start < end) × (end ≤ limit) × (limit ≤ length (now out)) ⌝ }
     ensures { λ r. ⌜ Settles (now (rules .entry)) (now (table .entry))
         (foundFrom (nameBytes (now (pairs .entry)) (now (text .entry))) (now (rules .entry)) (now (table .entry)) 0 k (take (end - start) (drop start (now (out .entry)))))
         limit (now (out .entry)) start end depth (now (out .exit)) r ⌝ }
@@ -143,7 +143,7 @@ pub fn rebuild_type(
     pairs: &[u32],
     text: &[u8],
     rules: &[u32],
-    table: &[usize; 128],
+    table: &[usize; 160],
     k: usize,
     at: usize,
     out: &mut [u32],
@@ -195,7 +195,7 @@ fn rebuild_types(
     pairs: &[u32],
     text: &[u8],
     rules: &[u32],
-    table: &[usize; 128],
+    table: &[usize; 160],
     k: usize,
     at: usize,
     n: usize,
@@ -261,4 +261,16 @@ pub fn finish(from: &[u32], count: usize, depth: usize, out: &mut [u32]) -> Rebu
     }
     copy_words(from, 0, count, out, 0);
     RebuildAnswer::Length(count)
+}
+
+// Where nothing gives way the words come back as they are. The tree was accepted, so it is not too deep.
+pub fn copy_unaltered(words: &[u32], out: &mut [u32]) -> RebuildAnswer
+    requires { ⌜ length (now words) ≤ 8192 ⌝ }
+    ensures { λ r. ⌜ (r, now (out .exit)) ≡ laidDown (now (out .entry)) (given (sameWords (now (words .entry)) 0)) ⌝ }
+{
+    if out.len() < words.len() {
+        clear(out);
+        return RebuildAnswer::Refused(Refusal::BufferTooShort);
+    }
+    finish(words, words.len(), 0, out)
 }

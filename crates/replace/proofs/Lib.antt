@@ -1,5 +1,5 @@
 pub mod Nodes
 pub mod Depths
-pub mod NoRules
+pub mod Still
 pub mod Equality
 pub mod Examples

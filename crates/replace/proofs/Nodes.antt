@@ -1,15 +1,29 @@
 -- Replacement, peaks and depths of a head's type, from the types below it.
-use Prim.Native.Nat.{ℕ, suc, _+_, _≤_, max}
-use mathlib.Core.Path.{_≡_, refl, ap, _∙_}
+use Prim.Native.Nat.{ℕ, suc, _+_, _%_, _≤_, max}
+use mathlib.Core.Path.{_≡_, refl, ap, sym, _∙_}
 use mathlib.Core.List.{List}
 use native.Mathlib.Omega.{arith}
+use lib.Dec.{eqb, leb}
 use lib.ListN.{length-append}
 use Rattle.rast.specs.Tree.{Ty, Tys, Primitive, TIdentifier, TypeFromPath, TypeApp, Borrowed, BorrowedMut, ImplType, DynType, TupleType, FnType, IntersectionType, Array, TSynonym, TMetaData, nil, cons}
 use Rattle.encoding.specs.declared.Head.{Head}
+use Rattle.encoding.specs.Types.{sizeOf}
+use Rattle.encoding.proofs.Tables.{impossible}
 use Rattle.trees.specs.Encode.{count, tokens, tokensAll, words, wordsAll}
-use Rattle.trees.proofs.Nodes.{Node, plain, ident, path, apply, ref, refMut, impl, dyn, tuple, function, both, array, synonym, meta, snoc}
+use Rattle.trees.proofs.Nodes.{Node, plain, ident, path, apply, ref, refMut, impl, dyn, tuple, function, both, array, synonym, meta, snoc, count-snoc}
 use Rattle.replace.specs.Replace.{Replace, Replaces}
 use Rattle.replace.specs.Laying.{depth, deepest, peak, peaks}
+
+snoc-parts : {N : Type 0} (ts us : Tys N) {t u : Ty N} → snoc ts t ≡ snoc us u → (ts ≡ us) × (t ≡ u)
+unfolding snoc count
+snoc-parts nil nil e = (refl, cc)
+snoc-parts nil (cons v us) {u = u} e = let i : nil ≡ snoc us u = cc in impossible (omega (arith, ap count i, count-snoc us u))
+snoc-parts (cons v ts) nil {t = t} e = let i : snoc ts t ≡ nil = cc in impossible (omega (arith, ap count i, count-snoc ts t))
+snoc-parts (cons v ts) (cons w us) {t} {u} e =
+    let i : v ≡ w = cc in
+    let j : snoc ts t ≡ snoc us u = cc in
+    let k = snoc-parts ts us j in
+    (ap (λ x. cons x ts) i ∙ ap (cons w) (k .0), k .1)
 
 module _ {N : Type 0} (m : Ty N → Ty N) where
   replaces-snoc : (ts : Tys N) (t : Ty N) → Replaces m (snoc ts t) ≡ snoc (Replaces m ts) (Replace m t)
@@ -45,6 +59,24 @@ module _ {N : Type 0} (m : Ty N → Ty N) where
   replace-node (synonym d b) = record { built = _; node = synonym (Replace m d) (Replace m b); gives = refl }
   replace-node (meta x d) = record { built = _; node = meta x (Replace m d); gives = refl }
 
+  -- a type that is left alone comes back as it was, if those below it do
+  pub replace-same : {ws : List ℕ} {name : ℕ → N} {h : Head} {ts : Tys N} {t : Ty N} → Node ws name h ts t → Replaces m ts ≡ ts → m t ≡ t → Replace m t ≡ t
+  unfolding Replace Replaces
+  replace-same (plain w) e f = f
+  replace-same (ident x) e f = f
+  replace-same (path p) e f = f
+  replace-same (apply n b ts) e f = let i : Replace m b ≡ b = cc in let j : Replaces m ts ≡ ts = cc in ap (λ x. m (TypeApp x (Replaces m ts))) i ∙ ap (λ x. m (TypeApp b x)) j ∙ f
+  replace-same (ref t) e f = let i : Replace m t ≡ t = cc in ap (λ x. m (Borrowed x)) i ∙ f
+  replace-same (refMut t) e f = let i : Replace m t ≡ t = cc in ap (λ x. m (BorrowedMut x)) i ∙ f
+  replace-same (impl t) e f = let i : Replace m t ≡ t = cc in ap (λ x. m (ImplType x)) i ∙ f
+  replace-same (dyn t) e f = let i : Replace m t ≡ t = cc in ap (λ x. m (DynType x)) i ∙ f
+  replace-same (tuple n ts) e f = ap (λ x. m (TupleType x)) e ∙ f
+  replace-same (function n ts t) e f = let k = snoc-parts (Replaces m ts) ts (sym (replaces-snoc ts t) ∙ e) in ap (λ x. m (FnType x (Replace m t))) (k .0) ∙ ap (λ x. m (FnType ts x)) (k .1) ∙ f
+  replace-same (both l r) e f = let i : Replace m l ≡ l = cc in let j : Replace m r ≡ r = cc in ap (λ x. m (IntersectionType x (Replace m r))) i ∙ ap (λ x. m (IntersectionType l x)) j ∙ f
+  replace-same {name = name} (array s t) e f = let i : Replace m t ≡ t = cc in ap (λ x. m (Array x (sizeOf name s))) i ∙ f
+  replace-same (synonym d b) e f = let i : Replace m d ≡ d = cc in let j : Replace m b ≡ b = cc in ap (λ x. m (TSynonym x (Replace m b))) i ∙ ap (λ x. m (TSynonym d x)) j ∙ f
+  replace-same (meta x d) e f = let i : Replace m d ≡ d = cc in ap (λ y. m (TMetaData y (eqb (x % 2) 1) (leb 2 x))) i ∙ f
+
   -- ---- peaks
 
   pub peak-least : (t : Ty N) → words (Replace m t) ≤ peak m t
@@ -66,11 +98,11 @@ module _ {N : Type 0} (m : Ty N → Ty N) where
 
 -- ---- words
 
-words-nil : (N : Type 0) → wordsAll {N = N} nil ≡ 0
+pub words-nil : (N : Type 0) → wordsAll {N = N} nil ≡ 0
 unfolding wordsAll tokensAll
 words-nil N = refl
 
-words-cons : {N : Type 0} (t : Ty N) (ts : Tys N) → wordsAll (cons t ts) ≡ words t + wordsAll ts
+pub words-cons : {N : Type 0} (t : Ty N) (ts : Tys N) → wordsAll (cons t ts) ≡ words t + wordsAll ts
 unfolding words wordsAll tokensAll
 words-cons t ts = length-append (tokens t) (tokensAll ts)
 

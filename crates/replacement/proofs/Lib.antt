@@ -1,4 +1,4 @@
 pub mod Wholes
-pub mod Depths
-pub mod NoRules
+pub mod EachType
+pub mod Unaltered
 pub mod Examples

@@ -51,6 +51,11 @@ unfolding mapReading
 ends-stop f (got a m) e = impossible (cc)
 ends-stop f (stop j) {k} e = let i : j ≡ k = cc in ap stop i
 
+-- where a tree ends does not depend on the mapping
+pub ends-alike : (what : Whole) (ws pairs : List ℕ) (m m′ : Ty ℕ → Ty ℕ) → ended (laidBy what ws pairs m) ≡ ended (laidBy what ws pairs m′)
+ends-alike AType ws pairs m m′ = ended-mapped (laidType m) (treeAt ws pairs 0) ∙ sym (ended-mapped (laidType m′) (treeAt ws pairs 0))
+ends-alike ADeclaration ws pairs m m′ = ended-mapped (laidDeclaration m) (declarationIn ws pairs) ∙ sym (ended-mapped (laidDeclaration m′) (declarationIn ws pairs))
+
 -- ---- the answers of acceptance
 
 pub type-ends : (what : Whole) (ws pairs : List ℕ) (text : Bytes) (m : Ty ℕ → Ty ℕ) {r : Measure} {n b : ℕ} → what ≡ AType → r ≡ measureOf (typeAt ws pairs text 0) → r ≡ Measured n b → At n ≡ ended (laidBy what ws pairs m)

@@ -22,7 +22,3 @@ laidBy ADeclaration ws pairs m = mapReading (laidDeclaration m) (declarationIn w
 abbrev pub wholeRebuilt : Whole → List ℕ → List ℕ → Bytes → List ℕ → Answer Laid
 wholeRebuilt AType ws pairs text rules = ruledBy (λ rs. laidType (mappingOf pairs text rs)) (whole (length ws) (treeAt ws pairs 0)) (rulesOf rules pairs text)
 wholeRebuilt ADeclaration ws pairs text rules = ruledBy (λ rs. laidDeclaration (mappingOf pairs text rs)) (whole (length ws) (declarationIn ws pairs)) (rulesOf rules pairs text)
-
--- words that are laid down as they stand, of a tree so deep
-abbrev pub sameWords : List ℕ → ℕ → Laid
-sameWords ws d = record { words = ws; top = length ws; deep = d }

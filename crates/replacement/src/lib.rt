@@ -6,13 +6,14 @@ ghost use mathlib.Core.List.{[], _∷_};
 ghost use lib.ListN.{length};
 ghost use Rattle.encoding.specs.Refusals.{given, unless};
 ghost use Rattle.encoding.specs.Scans.{ended};
+ghost use Rattle.encoding.specs.declared.Scan.the-variants.{At};
 ghost use Rattle.encoding.specs.Tables.{Good};
 ghost use Rattle.writing.specs.Written.{Readable};
 ghost use Rattle.replace.specs.Rules.{checkAll};
 ghost use Rattle.rebuild.specs.Laid.{Ruled, mapping};
 ghost use Rattle.rebuild.specs.Calls.{laidDown, typeRebuilt, LaidRebuilds, Attempted, Fills};
 ghost use Rattle.rebuild_declaration.specs.Calls.{declarationRebuilt};
-ghost use Rattle.replacement.specs.Wholes.{laidBy, wholeRebuilt, sameWords};
+ghost use Rattle.replacement.specs.Wholes.{laidBy, wholeRebuilt};
 use encoding::Check;
 use encoding::Refusal;
 use encoding::Scan;
@@ -49,7 +50,7 @@ fn rebuild_whole(
     pairs: &[u32],
     text: &[u8],
     rules: &[u32],
-    table: &[usize; 128],
+    table: &[usize; 160],
     k: usize,
     out: &mut [u32],
     limit: usize,
@@ -83,7 +84,7 @@ fn attempt(
     pairs: &[u32],
     text: &[u8],
     rules: &[u32],
-    table: &[usize; 128],
+    table: &[usize; 160],
     k: usize,
     scratch: &mut [u32],
     out: &mut [u32],
@@ -103,20 +104,24 @@ fn attempt(
     }
 }
 
-// With as much scratch as any tree may take.
+// With as much scratch as any tree may take, unless no rule can match: a search for that costs less than rebuilding.
 fn fill_large(
     what: Whole,
     words: &[u32],
     pairs: &[u32],
     text: &[u8],
     rules: &[u32],
-    table: &[usize; 128],
+    table: &[usize; 160],
     k: usize,
     out: &mut [u32],
 ) -> RebuildAnswer
-    requires { ⌜ Good (now pairs) (now text) × Ruled (now rules) (now pairs) (now text) (now table) k × Readable (laidBy what (now words) (now pairs) (mapping (now rules) (now pairs) (now text))) ⌝ }
+    requires { ⌜ Good (now pairs) (now text) × Ruled (now rules) (now pairs) (now text) (now table) k × (length (now words) ≤ 8192)
+        × (ended (laidBy what (now words) (now pairs) (mapping (now rules) (now pairs) (now text))) ≡ At (length (now words))) ⌝ }
     ensures { λ r. ⌜ Fills (laidBy what (now (words .entry)) (now (pairs .entry)) (mapping (now (rules .entry)) (now (pairs .entry)) (now (text .entry)))) (now (out .entry)) (now (out .exit)) r ⌝ }
 {
+    if rules::none_stands(rules, pairs, text, table, k, words) {
+        return rebuild::copy_unaltered(words, out);
+    }
     let mut scratch = [0u32; 8192];
     match attempt(what, words, pairs, text, rules, table, k, &mut scratch, out) {
         Attempt::Answered(answer) => answer,
@@ -134,11 +139,12 @@ fn fill(
     pairs: &[u32],
     text: &[u8],
     rules: &[u32],
-    table: &[usize; 128],
+    table: &[usize; 160],
     k: usize,
     out: &mut [u32],
 ) -> RebuildAnswer
-    requires { ⌜ Good (now pairs) (now text) × Ruled (now rules) (now pairs) (now text) (now table) k × Readable (laidBy what (now words) (now pairs) (mapping (now rules) (now pairs) (now text))) ⌝ }
+    requires { ⌜ Good (now pairs) (now text) × Ruled (now rules) (now pairs) (now text) (now table) k × (length (now words) ≤ 8192)
+        × (ended (laidBy what (now words) (now pairs) (mapping (now rules) (now pairs) (now text))) ≡ At (length (now words))) ⌝ }
     ensures { λ r. ⌜ Fills (laidBy what (now (words .entry)) (now (pairs .entry)) (mapping (now (rules .entry)) (now (pairs .entry)) (now (text .entry)))) (now (out .entry)) (now (out .exit)) r ⌝ }
 {
     let mut scratch = [0u32; 128];
@@ -156,18 +162,6 @@ fn holds_no_rule(rules: &[u32]) -> bool
         return false;
     }
     rules[0] == 0
-}
-
-// Without rules the words come back as they are. The tree was accepted, so it is not too deep.
-fn copy_unaltered(words: &[u32], out: &mut [u32]) -> RebuildAnswer
-    requires { ⌜ length (now words) ≤ 8192 ⌝ }
-    ensures { λ r. ⌜ (r, now (out .exit)) ≡ laidDown (now (out .entry)) (given (sameWords (now (words .entry)) 0)) ⌝ }
-{
-    if out.len() < words.len() {
-        rebuild::clear(out);
-        return RebuildAnswer::Refused(Refusal::BufferTooShort);
-    }
-    rebuild::finish(words, words.len(), 0, out)
 }
 
 // The tables hold: the tree is read, then the rules, and then the tree is rebuilt. Without rules there is nothing to rebuild.
@@ -188,9 +182,9 @@ fn read_and_fill(
                 return RebuildAnswer::Refused(Refusal::LeftOver);
             }
             if holds_no_rule(rules) {
-                return copy_unaltered(words, out);
+                return rebuild::copy_unaltered(words, out);
             }
-            let mut table = [0usize; 128];
+            let mut table = [0usize; 160];
             match rules::read_rules(rules, pairs, text, &mut table) {
                 RulesAnswer::Rules(k) => fill(what, words, pairs, text, rules, &table, k, out),
                 RulesAnswer::NoRules(r) => RebuildAnswer::Refused(r),

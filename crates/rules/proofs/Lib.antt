@@ -2,3 +2,4 @@ pub mod Depths
 pub mod Steps
 pub mod Tables
 pub mod Lists
+pub mod Nowhere

@@ -6,7 +6,7 @@ use mathlib.Core.List.{List, [], _∷_, _++_, append-assoc, append-nil}
 use native.Mathlib.Omega.{arith}
 use native.Mathlib.Decide.{decLt}
 use borrow.Author.Tests.{eq-eqb, ne-eqb, lt-ltb, le-ltb}
-use lib.ListN.{length, length-append}
+use lib.ListN.{length, length-append, getD}
 use Rattle.rast.specs.Bytes.{Bytes, _or_}
 use Rattle.rast.specs.Tree.{Ty, nil, cons}
 use Rattle.encoding.specs.declared.Refusal.{Refusal}
@@ -27,7 +27,7 @@ use Rattle.measure.proofs.Measured.{measured-got, measured-stop}
 use Rattle.trees.specs.Renamed.{renamed}
 use Rattle.trees.specs.Numbered.{treeAt}
 use Rattle.trees.specs.Encode.{encode}
-use Rattle.trees.proofs.Renaming.{spelled, numbered, tree-run, encode-words}
+use Rattle.trees.proofs.Renaming.{spelled, numbered, tree-run, encode-words, words-some}
 use Rattle.writing.specs.Written.{Readable}
 use Rattle.replace.specs.Same.{sameBy}
 use Rattle.replace.specs.Laying.{depth, deepest}
@@ -36,9 +36,9 @@ use Rattle.rules.specs.declared.Deep.{Deep}
 use Rattle.rules.specs.declared.RuleScan.{RuleScan}
 use Rattle.rules.specs.declared.RuleScan.the-variants.{OneRule, NoRule}
 use Rattle.rules.specs.declared.RulesAnswer.the-variants.{Rules, NoRules}
-use Rattle.rules.specs.Table.{entered, repeatedFrom, RuleAt, Tabled}
+use Rattle.rules.specs.Table.{entered, kindEntered, repeatedFrom, RuleAt, Tabled}
 use Rattle.rules.specs.Scans.{Deepens, RuleRead, rule, none, Listed, listed, unlisted, RulesRead, read, unread}
-use Rattle.rules.proofs.Tables.{entered-length, tabled-kept, tabled-more, rule-entered, tabled-fits, repeated-trees}
+use Rattle.rules.proofs.Tables.{entered-length, kind-length, kind-entered, kinds-tabled, tabled-kept, tabled-more, rule-entered, tabled-fits, repeated-trees}
 
 -- ---- from the measure of a type to its tree
 
@@ -91,7 +91,7 @@ module _ (rules pairs : List ℕ) (n at : ℕ) where
     pub tabled : Tabled rules table 0 done
     pub many : length done ≡ i
     pub rest : readList item n at ≡ mapReading (λ rs. done ++ rs) (readList item (n - i) place)
-    pub size : length table ≡ 128
+    pub size : length table ≡ 160
     pub inside : place ≤ length rules
     pub within : i ≤ n
 
@@ -100,7 +100,7 @@ module _ (rules pairs : List ℕ) (n at : ℕ) where
   map-none (got rs m) = refl
   map-none (stop k) = refl
 
-  pub filling-starts : (table : List ℕ) → length table ≡ 128 → at ≤ length rules → Filling table at 0
+  pub filling-starts : (table : List ℕ) → length table ≡ 160 → at ≤ length rules → Filling table at 0
   filling-starts table l h = let z : n - 0 ≡ n = omega arith in record {
     done = [];
     tabled = tt;
@@ -126,21 +126,31 @@ module _ (rules pairs : List ℕ) (n at : ℕ) where
       go (got rs q) = ap (λ l. got l q) (sym (append-assoc done (r ∷ []) rs))
       go (stop k) = refl
 
-  pub filling-more : {table : List ℕ} {place i m q d : ℕ} → i < n → n ≤ 32 → Filling table place i → RuleRead rules pairs place (OneRule m q d) → Filling (entered table i place m q d) q (i + 1)
+  -- a rule's first word is there
+  pub rule-there : {place m q d : ℕ} → place ≤ length rules → RuleRead rules pairs place (OneRule m q d) → place < length rules
+  rule-there {place = place} h (rule {from = from} a b c l) = let w = tree-run rules pairs place h a in omega (arith, w .0 .ends, encode-words from, words-some from)
+
+  pub filling-more : {table : List ℕ} {place i m q d : ℕ} → i < n → n ≤ 32 → Filling table place i → RuleRead rules pairs place (OneRule m q d)
+      → Filling (entered (kindEntered table (getD rules place 0)) i place m q d) q (i + 1)
   filling-more {table} {place} {i} {m} {q} {d} h few f (rule {from = from} {to = to} a b c l) =
       let w = tree-run rules pairs place (f .inside) a in
       let hm : m ≤ length rules = omega (arith, w .1, w .0 .ends, encode-words from) in
       let v = tree-run rules pairs m hm b in
       let e₁ : m ≡ place + length (encode from) = omega (arith, w .1, encode-words from) in
       let e₂ : q ≡ m + length (encode to) = omega (arith, v .1, encode-words to) in
-      let at-i = rule-entered rules table i place m q d (from, to) (omega (arith, f .size)) (w .0) e₁ (v .0) e₂ c in
+      let first = getD rules place 0 in
+      let kinded = kindEntered table first in
+      let size = kind-length table first ∙ f .size in
+      let few : i < 32 = omega arith in
+      let at-i = rule-entered rules kinded i place m q d (from, to) size few (kind-entered table first (f .size)) (w .0) e₁ (v .0) e₂ c in
+      let before = kinds-tabled rules table first 0 (f .done) (f .size) (omega (arith, f .many)) (f .tabled) in
       let z : i ≡ 0 + length (f .done) = omega (arith, f .many) in
       record {
         done = f .done ++ ((from, to) ∷ []);
-        tabled = tabled-more rules (entered table i place m q d) 0 (f .done) (tabled-kept rules table i place m q d 0 (f .done) (omega (arith, f .many)) (f .tabled)) (subst (λ j. RuleAt rules (entered table i place m q d) j (from, to)) z at-i);
+        tabled = tabled-more rules (entered kinded i place m q d) 0 (f .done) (tabled-kept rules kinded i place m q d 0 (f .done) few (omega (arith, f .many)) before) (subst (λ j. RuleAt rules (entered kinded i place m q d) j (from, to)) z at-i);
         many = omega (arith, f .many, length-append (f .done) ((from, to) ∷ []));
         rest = f .rest ∙ rw (more i h) (step (f .done) place q (n - (i + 1)) (from, to) (rule-got (treeAt rules pairs) place a b));
-        size = entered-length table i place m q d ∙ f .size;
+        size = entered-length kinded i place m q d ∙ size;
         inside = omega (arith, e₂, v .0 .ends);
         within = omega arith;
       }
@@ -156,10 +166,10 @@ module _ (rules pairs : List ℕ) (n at : ℕ) where
 -- ---- the whole list
 
 pub listed-got : {rules pairs table : List ℕ} {n at m : ℕ} {r : Scan} → Listed rules pairs n at table r → r ≡ At m
-    → (rs : List Rule) × (readList (readRule (treeAt rules pairs)) n at ≡ got rs m) × Tabled rules table 0 rs × (length rs ≡ n) × (length table ≡ 128)
+    → (rs : List Rule) × (readList (readRule (treeAt rules pairs)) n at ≡ got rs m) × Tabled rules table 0 rs × (length rs ≡ n) × (length table ≡ 160)
 listed-got {rules} {pairs} {table} {n} {at} {m} l e = go (subst (Listed rules pairs n at table) e l)
   where
-    go : Listed rules pairs n at table (At m) → (rs : List Rule) × (readList (readRule (treeAt rules pairs)) n at ≡ got rs m) × Tabled rules table 0 rs × (length rs ≡ n) × (length table ≡ 128)
+    go : Listed rules pairs n at table (At m) → (rs : List Rule) × (readList (readRule (treeAt rules pairs)) n at ≡ got rs m) × Tabled rules table 0 rs × (length rs ≡ n) × (length table ≡ 160)
     go (listed {rs = rs} a b c d) = (rs, a, b, c, d)
 
 pub listed-stop : {rules pairs table : List ℕ} {n at : ℕ} {r : Scan} {k : Refusal} → Listed rules pairs n at table r → r ≡ Refused k → readList (readRule (treeAt rules pairs)) n at ≡ stop k
@@ -221,7 +231,7 @@ rule-stop {rules} {pairs} {at} {k = k} l e = go (subst (RuleRead rules pairs at)
 pub rules-none : {rules pairs table : List ℕ} {text : Bytes} {k : Refusal} → rulesOf rules pairs text ≡ refused k → RulesRead rules pairs text table (NoRules k)
 rules-none e = unread e
 
-pub rules-some : {rules pairs table : List ℕ} {text : Bytes} {rs : List Rule} {n : ℕ} → rulesOf rules pairs text ≡ given rs → Tabled rules table 0 rs → length rs ≡ n → n ≤ 32 → length table ≡ 128
+pub rules-some : {rules pairs table : List ℕ} {text : Bytes} {rs : List Rule} {n : ℕ} → rulesOf rules pairs text ≡ given rs → Tabled rules table 0 rs → length rs ≡ n → n ≤ 32 → length table ≡ 160
     → RulesRead rules pairs text table (Rules n)
 rules-some {rules} {pairs} {table} {text} {rs} {n} e t c h l =
     subst (λ k. RulesRead rules pairs text table (Rules k)) c (read e t (tabled-fits rules table rs (length rs) refl (omega (arith, c)) l t))

@@ -1,19 +1,22 @@
 -- Laws of the search through rules by their words, one rule after the other.
 use Prim.Native.Nat.{ℕ, zero, suc, _+_, _-_, _*_, _≤_, _<_}
-use mathlib.Core.Path.{_≡_, refl, sym, _∙_}
+use mathlib.Core.Path.{_≡_, refl, ap, sym, _∙_}
 use mathlib.Core.Bool.{Bool, true, false}
-use mathlib.Core.List.{List}
+use mathlib.Core.List.{List, [], _∷_}
 use native.Mathlib.Omega.{arith}
-use lib.ListN.{length, getD, take, drop}
-use Rattle.rast.specs.Bytes.{Bytes}
+use native.Mathlib.Numerals.{add-one}
+use borrow.Author.Tests.{ne-eqb}
+use lib.ListN.{length, getD, take, drop, length-take, length-drop}
+use lib.Seq.{drop-cons}
+use Rattle.rast.specs.Bytes.{Bytes, _and_}
 use Rattle.output.proofs.Laws.{part-length}
 use Rattle.encoding.specs.Refusals.{pick}
 use Rattle.encoding.proofs.Tables.{impossible}
 use Rattle.comparison.specs.declared.Due.the-variants.{Kind}
-use Rattle.comparison.specs.Runs.{sameRuns}
-use Rattle.comparison.proofs.Steps.{runs-uneven}
+use Rattle.comparison.specs.Runs.{sameRuns, agrees}
+use Rattle.comparison.proofs.Steps.{runs-uneven, take-word}
 use Rattle.rules.specs.declared.Found.the-variants.{At, Nothing}
-use Rattle.rules.specs.Table.{fromWords, foundFrom, amongFrom, repeatedFrom, Fits}
+use Rattle.rules.specs.Table.{beginsNone, fromWords, foundFrom, amongFrom, repeatedFrom, stands, someStands, noneStands, Fits}
 
 -- a from of another length
 pub from-uneven : (name : ℕ → Bytes) (rules table out : List ℕ) (k i start count : ℕ) → Fits rules table k → i < k → start + count ≤ length out
@@ -24,6 +27,64 @@ from-uneven name rules table out k i start count f h l d =
     let b = getD table (4 * i + 1) 0 in
     let fits : a + (b - a) ≤ length rules = omega (arith, f .from i h, f .to i h, f .inside i h) in
     runs-uneven name Kind (take count (drop start out)) (take (b - a) (drop a rules)) (λ e. d (sym (part-length rules a (b - a) fits) ∙ sym e ∙ part-length out start count l))
+
+-- ---- first words
+
+from-front : (rules table : List ℕ) (k i : ℕ) → Fits rules table k → i < k → (rest : List ℕ) × (fromWords rules table i ≡ getD rules (getD table (4 * i) 0) 0 ∷ rest)
+unfolding fromWords
+from-front rules table k i f h =
+    (_, take-word rules (getD table (4 * i) 0) (getD table (4 * i + 1) 0 - getD table (4 * i) 0) (omega (arith, f .from i h, f .to i h, f .inside i h)) (omega (arith, f .from i h)))
+
+from-length : (rules table : List ℕ) (k i : ℕ) → Fits rules table k → i < k → length (fromWords rules table i) ≡ getD table (4 * i + 1) 0 - getD table (4 * i) 0
+unfolding fromWords
+from-length rules table k i f h =
+    part-length rules (getD table (4 * i) 0) (getD table (4 * i + 1) 0 - getD table (4 * i) 0) (omega (arith, f .from i h, f .to i h, f .inside i h))
+
+module _ (name : ℕ → Bytes) (rules table : List ℕ) {k : ℕ} (f : Fits rules table k) where
+  -- a from that begins with another word
+  from-other : (i w : ℕ) (ws : List ℕ) → i < k → (getD rules (getD table (4 * i) 0) 0 ≡ w → ⊥) → sameRuns name Kind (w ∷ ws) (fromWords rules table i) ≡ false
+  unfolding sameRuns agrees _and_
+  from-other i w ws h d = rw (from-front rules table k i f h .1, ne-eqb w (getD rules (getD table (4 * i) 0) 0) (λ e. d (sym e))) refl
+
+  stands-apart : (i w : ℕ) (ws : List ℕ) → i < k → (getD rules (getD table (4 * i) 0) 0 ≡ w → ⊥) → stands name rules table i (w ∷ ws) ≡ false
+  unfolding stands
+  stands-apart i w ws h d = let e = from-front rules table k i f h in rw (ap length (e .1)) (from-other i w (take (length (e .0)) ws) h d)
+
+  -- no from begins with a word that the table does not have
+  missed : (i : ℕ) {w : ℕ} → i < k → beginsNone table w ≡ true → getD rules (getD table (4 * i) 0) 0 ≡ w → ⊥
+  missed i {w} h e d = let z : beginsNone table w ≡ false = rw d at (f .kind i h) in impossible (cc)
+
+  missed-found : (i n w : ℕ) (ws : List ℕ) → i + n ≤ k → beginsNone table w ≡ true → foundFrom name rules table i n (w ∷ ws) ≡ Nothing
+  unfolding foundFrom
+  missed-found i zero w ws h e = refl
+  missed-found i (suc n) w ws h e = rw (from-other i w ws (omega arith) (missed i (omega arith) e)) (missed-found (i + 1) n w ws (omega arith) e)
+
+  missed-stands : (i n w : ℕ) (ws : List ℕ) → i + n ≤ k → beginsNone table w ≡ true → someStands name rules table i n (w ∷ ws) ≡ false
+  unfolding someStands
+  missed-stands i zero w ws h e = refl
+  missed-stands i (suc n) w ws h e = rw (stands-apart i w ws (omega arith) (missed i (omega arith) e)) (missed-stands (i + 1) n w ws (omega arith) e)
+
+  pub none-begins : (out : List ℕ) (start count : ℕ) → start < length out → 0 < count → beginsNone table (getD out start 0) ≡ true → foundFrom name rules table 0 k (take count (drop start out)) ≡ Nothing
+  none-begins out start count l h e = rw (take-word out start count l h) (missed-found 0 k (getD out start 0) _ (omega arith) e)
+
+  module _ (ws : List ℕ) (at : ℕ) (l : at < length ws) where
+    pub none-begins-there : beginsNone table (getD ws at 0) ≡ true → someStands name rules table 0 k (drop at ws) ≡ false
+    none-begins-there e = rw (drop-cons ws at 0 l) (missed-stands 0 k (getD ws at 0) _ (omega arith) e)
+
+    pub stands-other : (i : ℕ) → i < k → (getD rules (getD table (4 * i) 0) 0 ≡ getD ws at 0 → ⊥) → stands name rules table i (drop at ws) ≡ false
+    stands-other i h d = rw (drop-cons ws at 0 l) (stands-apart i (getD ws at 0) _ h d)
+
+    pub stands-short : (i : ℕ) → i < k → length ws - at < getD table (4 * i + 1) 0 - getD table (4 * i) 0 → stands name rules table i (drop at ws) ≡ false
+    unfolding stands
+    stands-short i h s =
+        let n = from-length rules table k i f h in
+        let a = length-drop at ws in
+        runs-uneven name Kind (take (length (fromWords rules table i)) (drop at ws)) (fromWords rules table i) (λ e. omega (arith, e, n, s, a, length-take (length (fromWords rules table i)) (drop at ws)))
+
+    pub stands-run : (i : ℕ) → i < k → stands name rules table i (drop at ws)
+        ≡ sameRuns name Kind (take (getD table (4 * i + 1) 0 - getD table (4 * i) 0) (drop at ws)) (take (getD table (4 * i + 1) 0 - getD table (4 * i) 0) (drop (getD table (4 * i) 0) rules))
+    unfolding stands fromWords
+    stands-run i h = ap (λ n. sameRuns name Kind (take n (drop at ws)) (take (getD table (4 * i + 1) 0 - getD table (4 * i) 0) (drop (getD table (4 * i) 0) rules))) (from-length rules table k i f h)
 
 module _ (name : ℕ → Bytes) (rules table : List ℕ) where
   counted : (i k : ℕ) → i < k → k - i ≡ suc (k - (i + 1))
@@ -55,6 +116,37 @@ module _ (name : ℕ → Bytes) (rules table : List ℕ) where
   pub among-never : (i k : ℕ) (b : List ℕ) → k ≤ i → amongFrom name rules table i (k - i) b ≡ false
   unfolding amongFrom
   among-never i k b h = rw (past i k h) refl
+
+  pub some-here : (i k : ℕ) (ws : List ℕ) → i < k → stands name rules table i ws ≡ true → someStands name rules table i (k - i) ws ≡ true
+  unfolding someStands
+  some-here i k ws h e = rw (counted i k h, e) refl
+
+  pub some-later : (i k : ℕ) (ws : List ℕ) → i < k → stands name rules table i ws ≡ false → someStands name rules table i (k - i) ws ≡ someStands name rules table (i + 1) (k - (i + 1)) ws
+  unfolding someStands
+  some-later i k ws h e = rw (counted i k h, e) refl
+
+  pub some-never : (i k : ℕ) (ws : List ℕ) → k ≤ i → someStands name rules table i (k - i) ws ≡ false
+  unfolding someStands
+  some-never i k ws h = rw (past i k h) refl
+
+  module _ (k : ℕ) (ws : List ℕ) (at : ℕ) where
+    none-step : at < length ws → noneStands name rules table k (drop at ws) ≡ pick (someStands name rules table 0 k (drop at ws)) false (noneStands name rules table k (drop (at + 1) ws))
+    unfolding noneStands
+    none-step l = rw (add-one at, drop-cons ws at 0 l) refl
+
+    pub none-here : at < length ws → someStands name rules table 0 k (drop at ws) ≡ true → noneStands name rules table k (drop at ws) ≡ false
+    none-here l e = none-step l ∙ rw e refl
+
+    pub none-later : at < length ws → someStands name rules table 0 k (drop at ws) ≡ false → noneStands name rules table k (drop at ws) ≡ noneStands name rules table k (drop (at + 1) ws)
+    none-later l e = none-step l ∙ rw e refl
+
+    pub none-never : length ws ≤ at → noneStands name rules table k (drop at ws) ≡ true
+    unfolding noneStands
+    none-never l = go (drop at ws) (omega (arith, length-drop at ws))
+      where
+        go : (l : List ℕ) → length l ≡ 0 → noneStands name rules table k l ≡ true
+        go [] e = refl
+        go (x ∷ l) e = impossible (omega (arith, e))
 
   pub repeated-here : (i k : ℕ) → i < k → amongFrom name rules table (i + 1) (k - (i + 1)) (fromWords rules table i) ≡ true → repeatedFrom name rules table i (k - i) ≡ true
   unfolding repeatedFrom

@@ -35,7 +35,7 @@ pub data RuleRead (rules pairs : List ℕ) (at : ℕ) : RuleScan → Type 0 wher
 
 -- some rules, entered in a table
 pub data Listed (rules pairs : List ℕ) (n at : ℕ) (table : List ℕ) : Scan → Type 0 where
-  listed : {rs : List Rule} {m : ℕ} → readList (readRule (treeAt rules pairs)) n at ≡ got rs m → Tabled rules table 0 rs → length rs ≡ n → length table ≡ 128 → Listed rules pairs n at table (At m)
+  listed : {rs : List Rule} {m : ℕ} → readList (readRule (treeAt rules pairs)) n at ≡ got rs m → Tabled rules table 0 rs → length rs ≡ n → length table ≡ 160 → Listed rules pairs n at table (At m)
   unlisted : {k : Refusal} → readList (readRule (treeAt rules pairs)) n at ≡ stop k → Listed rules pairs n at table (Refused k)
 
 -- the rules of a list

@@ -9,7 +9,7 @@ ghost use Rattle.replace.specs.Rules.{checkAll};
 ghost use Rattle.comparison.specs.declared.Due.the-variants.{Kind};
 ghost use Rattle.comparison.specs.Runs.{sameRuns};
 ghost use Rattle.writing.specs.Written.{Readable};
-ghost use Rattle.rules.specs.Table.{entered, fromWords, foundFrom, amongFrom, repeatedFrom, Fits};
+ghost use Rattle.rules.specs.Table.{entered, kindEntered, beginsNone, stands, someStands, noneStands, fromWords, foundFrom, amongFrom, repeatedFrom, Fits};
 ghost use Rattle.rules.specs.Scans.{Deepens, RuleRead, Listed, RulesRead};
 use encoding::Check;
 use encoding::Refusal;
@@ -101,7 +101,7 @@ fn scan_rule(rules: &[u32], pairs: &[u32], text: &[u8], at: usize) -> RuleScan
 }
 
 // Rule `i` of the table: where its from begins, where its to begins and ends, and how deep its to is.
-fn enter_rule(table: &mut [usize; 128], i: usize, from: usize, to: usize, end: usize, depth: usize)
+fn enter_rule(table: &mut [usize; 160], i: usize, from: usize, to: usize, end: usize, depth: usize)
     requires { ⌜ i < 32 ⌝ }
     ensures { λ r. ⌜ now (table .exit) ≡ entered (now (table .entry)) i from to end depth ⌝ }
 {
@@ -111,6 +111,25 @@ fn enter_rule(table: &mut [usize; 128], i: usize, from: usize, to: usize, end: u
     table[4 * i + 3] = depth;
 }
 
+// Behind the rules the table has an entry for each kind: 1 if some from begins with it.
+fn enter_kind(table: &mut [usize; 160], word: u32)
+    ensures { λ r. ⌜ now (table .exit) ≡ kindEntered (now (table .entry)) word ⌝ }
+{
+    if word < 32 {
+        table[128 + word as usize] = 1;
+    }
+}
+
+// Whether no from begins with a word, by the table.
+fn begins_none(table: &[usize; 160], word: u32) -> bool
+    ensures { λ r. ⌜ r ≡ beginsNone (now (table .entry)) word ⌝ }
+{
+    if word < 32 {
+        return table[128 + word as usize] == 0;
+    }
+    false
+}
+
 // `n` rules from `at` on, entered in the table.
 fn scan_list(
     rules: &[u32],
@@ -118,9 +137,9 @@ fn scan_list(
     text: &[u8],
     n: usize,
     at: usize,
-    table: &mut [usize; 128],
+    table: &mut [usize; 160],
 ) -> Scan
-    requires { ⌜ Good (now pairs) (now text) × (length (now rules) ≤ 8192) × (n ≤ 32) × (at ≤ length (now rules)) × (length (now table) ≡ 128) ⌝ }
+    requires { ⌜ Good (now pairs) (now text) × (length (now rules) ≤ 8192) × (n ≤ 32) × (at ≤ length (now rules)) × (length (now table) ≡ 160) ⌝ }
     ensures { λ r. ⌜ Listed (now (rules .entry)) (now (pairs .entry)) n at (now (table .exit)) r ⌝ }
 {
     let mut place = at;
@@ -128,6 +147,7 @@ fn scan_list(
     while i < n {
         match scan_rule(rules, pairs, text, place) {
             RuleScan::OneRule { middle, end, depth } => {
+                enter_kind(table, rules[place]);
                 enter_rule(table, i, place, middle, end, depth);
                 place = end;
             }
@@ -145,7 +165,7 @@ fn is_from(
     rules: &[u32],
     pairs: &[u32],
     text: &[u8],
-    table: &[usize; 128],
+    table: &[usize; 160],
     k: usize,
     i: usize,
     out: &[u32],
@@ -174,16 +194,19 @@ pub fn find_rule(
     rules: &[u32],
     pairs: &[u32],
     text: &[u8],
-    table: &[usize; 128],
+    table: &[usize; 160],
     k: usize,
     out: &[u32],
     start: usize,
     count: usize,
 ) -> Found
-    requires { ⌜ Good (now pairs) (now text) × Fits (now rules) (now table) k × (start + count ≤ length (now out)) ⌝ }
+    requires { ⌜ Good (now pairs) (now text) × Fits (now rules) (now table) k × (0 < count) × (start + count ≤ length (now out)) ⌝ }
     ensures { λ r. ⌜ r ≡ foundFrom (nameBytes (now (pairs .entry)) (now (text .entry))) (now (rules .entry)) (now (table .entry)) 0 k
         (take count (drop start (now (out .entry)))) ⌝ }
 {
+    if begins_none(table, out[start]) {
+        return Found::Nothing;
+    }
     let mut i = 0;
     while i < k {
         if is_from(rules, pairs, text, table, k, i, out, start, count) {
@@ -194,12 +217,85 @@ pub fn find_rule(
     Found::Nothing
 }
 
+// Whether the from of rule `i` stands at `at` in `words`, whatever stands there. First words are compared before the others.
+fn stands_at(
+    rules: &[u32],
+    pairs: &[u32],
+    text: &[u8],
+    table: &[usize; 160],
+    k: usize,
+    i: usize,
+    words: &[u32],
+    at: usize,
+) -> bool
+    requires { ⌜ Good (now pairs) (now text) × Fits (now rules) (now table) k × (i < k) × (at < length (now words)) ⌝ }
+    ensures { λ r. ⌜ r ≡ stands (nameBytes (now (pairs .entry)) (now (text .entry))) (now (rules .entry)) (now (table .entry)) i (drop at (now (words .entry))) ⌝ }
+{
+    let from = table[4 * i];
+    if rules[from] != words[at] {
+        return false;
+    }
+    let count = table[4 * i + 1] - from;
+    if words.len() - at < count {
+        return false;
+    }
+    comparison::same_words(pairs, text, words, at, rules, from, count)
+}
+
+// Whether one of `k` froms stands there.
+fn some_stands(
+    rules: &[u32],
+    pairs: &[u32],
+    text: &[u8],
+    table: &[usize; 160],
+    k: usize,
+    words: &[u32],
+    at: usize,
+) -> bool
+    requires { ⌜ Good (now pairs) (now text) × Fits (now rules) (now table) k × (at < length (now words)) ⌝ }
+    ensures { λ r. ⌜ r ≡ someStands (nameBytes (now (pairs .entry)) (now (text .entry))) (now (rules .entry)) (now (table .entry)) 0 k (drop at (now (words .entry))) ⌝ }
+{
+    if begins_none(table, words[at]) {
+        return false;
+    }
+    let mut i = 0;
+    while i < k {
+        if stands_at(rules, pairs, text, table, k, i, words, at) {
+            return true;
+        }
+        i += 1;
+    }
+    false
+}
+
+// Whether none of `k` froms stands anywhere in `words`: then no type in them gives way.
+pub fn none_stands(
+    rules: &[u32],
+    pairs: &[u32],
+    text: &[u8],
+    table: &[usize; 160],
+    k: usize,
+    words: &[u32],
+) -> bool
+    requires { ⌜ Good (now pairs) (now text) × Fits (now rules) (now table) k ⌝ }
+    ensures { λ r. ⌜ r ≡ noneStands (nameBytes (now (pairs .entry)) (now (text .entry))) (now (rules .entry)) (now (table .entry)) k (now (words .entry)) ⌝ }
+{
+    let mut at = 0;
+    while at < words.len() {
+        if some_stands(rules, pairs, text, table, k, words, at) {
+            return false;
+        }
+        at += 1;
+    }
+    true
+}
+
 // Whether the from of rule `i` is that of a rule behind it.
 fn is_among(
     rules: &[u32],
     pairs: &[u32],
     text: &[u8],
-    table: &[usize; 128],
+    table: &[usize; 160],
     k: usize,
     i: usize,
 ) -> bool
@@ -220,7 +316,7 @@ fn is_among(
 }
 
 // Whether two of `k` rules have the same from.
-fn are_repeated(rules: &[u32], pairs: &[u32], text: &[u8], table: &[usize; 128], k: usize) -> bool
+fn are_repeated(rules: &[u32], pairs: &[u32], text: &[u8], table: &[usize; 160], k: usize) -> bool
     requires { ⌜ Good (now pairs) (now text) × Fits (now rules) (now table) k ⌝ }
     ensures { λ r. ⌜ r ≡ repeatedFrom (nameBytes (now (pairs .entry)) (now (text .entry))) (now (rules .entry)) (now (table .entry)) 0 k ⌝ }
 {
@@ -245,9 +341,9 @@ pub fn read_rules(
     rules: &[u32],
     pairs: &[u32],
     text: &[u8],
-    table: &mut [usize; 128],
+    table: &mut [usize; 160],
 ) -> RulesAnswer
-    requires { ⌜ Good (now pairs) (now text) × (length (now rules) ≤ 8192) × (length (now table) ≡ 128) ⌝ }
+    requires { ⌜ Good (now pairs) (now text) × (length (now rules) ≤ 8192) × (length (now table) ≡ 160) ⌝ }
     ensures { λ r. ⌜ RulesRead (now (rules .entry)) (now (pairs .entry)) (now (text .entry)) (now (table .exit)) r ⌝ }
 {
     match encoding::scan_below(rules, 33, 0) {

@@ -21,8 +21,8 @@ change-requires c κs =
 enum-told : tie.Need-enum-told
 enum-told c = search needs
 
-keep-requires : tie.Need-keep-requires
-keep-requires c κs = search needs
+copy-unaltered-requires : tie.Need-copy-unaltered-requires
+copy-unaltered-requires c κs = search needs
 
 same-length : tie.Need-same-length
 same-length c = search needs
@@ -36,7 +36,7 @@ same-length-2 c = search needs
 returns-2 : tie.Need-returns-2
 returns-2 c =
     let a = c .before .before .before .before .before .before .before .before .before .before .before .args in
-    stays (a .words .now) (a .pairs .now) (a .text .now) (c .before .before .before .before .before .before .before .before .before .before .before .pre .2) (c .before .before .before .before .before .before .find-change .ensures) (c .before .before .before .before .enum-told .given .1) (c .before .before .keep .ensures)
+    stays (a .words .now) (a .pairs .now) (a .text .now) (c .before .before .before .before .before .before .before .before .before .before .before .pre .2) (c .before .before .before .before .before .before .find-change .ensures) (c .before .before .before .before .enum-told .given .1) (c .before .before .copy-unaltered .ensures)
 
 pub initialize-spec : {M : Type 1} → statement M
 initialize-spec =
@@ -46,7 +46,7 @@ initialize-spec =
     enum-known-start
     change-requires
     enum-told
-    keep-requires
+    copy-unaltered-requires
     same-length
     returns
     same-length-2

@@ -1,5 +1,6 @@
+use lib.Seq.{take-all}
 use Prim.Native.Nat.{_-_, _<_, _≤_, ℕ}
-use Rattle.rebuild.proofs.Growing.{take-all, take-set, zero-more}
+use Rattle.rebuild.proofs.Growing.{take-set, zero-more}
 use lib.ListN.{length, length-set, replicate, take}
 use mathlib.Core.List.{List, [], _++_, _∷_}
 use mathlib.Core.Path.{_∙_, _≡_, ap, refl, sym}

@@ -14,7 +14,7 @@ sub-find-rule c = search needs
 
 find-rule-requires : tie.Need-find-rule-requires
 find-rule-requires c κs =
-    (c .before .before .before .before .before .pre .0, c .before .before .before .before .before .pre .1, omega (arith, c .before .before .before .before .before .pre .2, c .before .before .before .before .before .pre .3, c .before .before .before .before .before .pre .4))
+    let pre = c .before .before .before .before .before .pre in (pre .0, pre .1, omega (arith, pre .2), omega (arith, pre .2, pre .3, pre .4))
 
 enum-known-i : tie.Need-enum-known-i
 enum-known-i c = search needs

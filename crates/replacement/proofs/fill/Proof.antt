@@ -1,4 +1,7 @@
 use Rattle.rebuild.proofs.Calls.{attempt-again, attempt-answered}
+use Rattle.rebuild.specs.Laid.{mapping}
+use Rattle.replacement.proofs.Wholes.{whole-readable}
+use native.Mathlib.Omega.{arith}
 use borrow.Author.Needs.{needs}
 use Rattle.replacement.proofs.fill.Statement.{statement}
 use Rattle.replacement.proofs.fill.Tie as tie
@@ -7,7 +10,9 @@ slice-aggregate-attempt : tie.Need-slice-aggregate-attempt
 slice-aggregate-attempt c = search needs
 
 attempt-requires : tie.Need-attempt-requires
-attempt-requires c κs = search needs
+attempt-requires c κs =
+    let a = c .before .before .before .before .before .before .before .args in let pre = c .before .before .before .before .before .before .before .pre in
+    (pre .0, pre .1, whole-readable (a .words .now) (a .pairs .now) (a .text .now) (a .rules .now) (a .out .now) (a .what) (mapping (a .rules .now) (a .pairs .now) (a .text .now)) (mapping (a .rules .now) (a .pairs .now) (a .text .now)) (pre .3), omega arith)
 
 enum-known-answer : tie.Need-enum-known-answer
 enum-known-answer c = search needs

@@ -1,5 +1,5 @@
 use Rattle.encoding.proofs.Tables.{impossible}
-use Rattle.replacement.proofs.NoRules.{none-listed}
+use Rattle.replacement.proofs.Unaltered.{none-listed}
 use borrow.Author.Needs.{needs}
 use Rattle.replacement.proofs.holds_no_rule.Statement.{statement}
 use Rattle.replacement.proofs.holds_no_rule.Tie as tie

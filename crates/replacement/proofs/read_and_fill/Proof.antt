@@ -1,8 +1,9 @@
 use Rattle.rebuild.proofs.Calls.{ruled-of, rules-given, rules-refused}
 use Rattle.rebuild.specs.Laid.{mapping}
-use Rattle.replacement.proofs.NoRules.{copied}
-use Rattle.replacement.proofs.Wholes.{whole-answered, whole-over, whole-readable, whole-refused, whole-stops}
-use mathlib.Core.Path.{_∙_, sym}
+use Rattle.replacement.proofs.Unaltered.{copied}
+use Rattle.replacement.proofs.Wholes.{ends-alike, whole-answered, whole-over, whole-refused, whole-stops}
+use Rattle.encoding.specs.declared.Scan.the-variants.{At}
+use mathlib.Core.Path.{_∙_, ap, sym}
 use borrow.Author.Needs.{needs}
 use Rattle.replacement.proofs.read_and_fill.Statement.{statement}
 use Rattle.replacement.proofs.read_and_fill.Tie as tie
@@ -40,8 +41,8 @@ enum-known-k c = search needs
 
 fill-requires : tie.Need-fill-requires
 fill-requires c κs =
-    let a = c .before .before .before .before .before .before .before .before .before .before .before .before .before .before .before .before .before .before .before .args in
-    (c .before .before .before .before .before .before .before .before .before .before .before .before .before .before .before .before .before .before .before .pre .0, ruled-of (c .before .before .before .before .before .read-rules .ensures) (c .before .before .before .k .given .1), whole-readable (a .words .now) (a .pairs .now) (a .text .now) (a .rules .now) (a .out .now) (a .what) (λ t. t) (mapping (a .rules .now) (a .pairs .now) (a .text .now)) (sym (c .before .before .before .before .before .before .before .before .before .before .before .before .before .accept .ensures) ∙ c .before .before .before .before .before .before .before .before .before .before .before .end .given .1))
+    let a = c .before .before .before .before .before .before .before .before .before .before .before .before .before .before .before .before .before .before .before .args in let pre = c .before .before .before .before .before .before .before .before .before .before .before .before .before .before .before .before .before .before .before .pre in
+    (pre .0, ruled-of (c .before .before .before .before .before .read-rules .ensures) (c .before .before .before .k .given .1), pre .1, ends-alike (a .what) (a .words .now) (a .pairs .now) (mapping (a .rules .now) (a .pairs .now) (a .text .now)) (λ t. t) ∙ sym (c .before .before .before .before .before .before .before .before .before .before .before .before .before .accept .ensures) ∙ c .before .before .before .before .before .before .before .before .before .before .before .end .given .1 ∙ ap At (c .before .before .before .before .before .before .before .before .before .if1 .left))
 
 enum-known-r : tie.Need-enum-known-r
 enum-known-r c = search needs

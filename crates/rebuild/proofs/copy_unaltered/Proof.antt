@@ -1,14 +1,13 @@
 use Rattle.encoding.specs.Refusals.{given}
 use Rattle.rebuild.proofs.Calls.{down-over}
-use Rattle.rebuild.proofs.Growing.{take-all}
-use Rattle.rebuild.specs.Calls.{laidDown}
-use Rattle.replacement.specs.Wholes.{sameWords}
+use Rattle.rebuild.specs.Calls.{laidDown, sameWords}
 use lib.ListN.{length}
+use lib.Seq.{take-length}
 use mathlib.Core.Path.{_∙_, ap}
 use native.Mathlib.Omega.{arith}
 use borrow.Author.Needs.{needs}
-use Rattle.replacement.proofs.copy_unaltered.Statement.{statement}
-use Rattle.replacement.proofs.copy_unaltered.Tie as tie
+use Rattle.rebuild.proofs.copy_unaltered.Statement.{statement}
+use Rattle.rebuild.proofs.copy_unaltered.Tie as tie
 
 clear-requires : tie.Need-clear-requires
 clear-requires c κs = search needs
@@ -30,7 +29,7 @@ same-length-2 c = search needs
 returns-2 : tie.Need-returns-2
 returns-2 c =
     let a = c .before .before .before .before .before .before .before .args in
-    c .before .before .finish .ensures ∙ ap (λ l. laidDown (a .out .now) (given (record { words = l; top = length (a .words .now); deep = 0 }))) (take-all (length (a .words .now)) (a .words .now) (omega arith))
+    c .before .before .finish .ensures ∙ ap (λ l. laidDown (a .out .now) (given (record { words = l; top = length (a .words .now); deep = 0 }))) (take-length (a .words .now))
 
 pub copy-unaltered-spec : {M : Type 1} → statement M
 copy-unaltered-spec =

@@ -1,0 +1,170 @@
+-- Where a mapping leaves every type alone that stands in the words of an encoding, as one by no rules does, these come back unaltered.
+use Prim.Native.Nat.{ℕ, _+_, _≤_}
+use mathlib.Core.Path.{_≡_, refl, ap, sym, _∙_, subst}
+use mathlib.Core.List.{List, [], _∷_, map}
+use native.Mathlib.Omega.{arith}
+use borrow.Author.Tests.{eqb-true}
+use mathlib.Core.Bool.{Bool, true, false}
+use lib.Dec.{eqb}
+use lib.ListN.{length, getD}
+use lib.Seq.{take-all}
+use Rattle.rast.specs.Bytes.{Bytes}
+use Rattle.rast.specs.Tree.{Ty}
+use Rattle.rast.specs.Declaration.{Declaration}
+use Rattle.encoding.specs.declared.Check.{Check}
+use Rattle.encoding.specs.declared.Check.the-variants.{Passed, Failed}
+use Rattle.encoding.specs.declared.Refusal.the-variants.{LeftOver}
+use Rattle.encoding.specs.declared.Scan.the-variants.{At}
+use Rattle.encoding.specs.Refusals.{pick, given, refused, unless}
+use Rattle.encoding.specs.Reading.{Reading, got, stop, mapReading, readBelow, readWord, whole}
+use Rattle.encoding.specs.Scans.{ended}
+use Rattle.encoding.specs.Tables.{checkTables, nameBytes}
+use Rattle.encoding.specs.Declarations.{readList}
+use Rattle.encoding.proofs.Tables.{impossible}
+use Rattle.trees.specs.Encode.{encode, words}
+use Rattle.trees.specs.Runs.{Run}
+use Rattle.trees.specs.Numbered.{treeAt, treeOf}
+use Rattle.trees.proofs.Renaming.{tree-run, encode-words}
+use Rattle.replace.specs.Replace.{Replace, ruled}
+use Rattle.replace.specs.Laying.{depth}
+use Rattle.replace.specs.Rules.{readRules, repeated, distinct, rulesOf, mappingOf}
+use Rattle.replace.proofs.Depths.{tree-deep}
+use Rattle.replace.proofs.Still.{Kept, still}
+use Rattle.rules.specs.Table.{noneStands}
+use Rattle.rules.proofs.Lists.{check-tables}
+use Rattle.rules.proofs.Nowhere.{none-gives-way}
+use Rattle.rebuild.specs.declared.RebuildAnswer.{RebuildAnswer}
+use Rattle.rebuild.specs.Laid.{ruleList, mapping, Ruled}
+use Rattle.rebuild.specs.Calls.{Laid, laidDown, laidType, sameWords, typeRebuilt, Fills}
+use Rattle.rebuild.proofs.Calls.{both-given, shallow}
+use Rattle.pieces.specs.Pieces.{Piece, own, type, pieces, declarationTokens, encodeDeclaration}
+use Rattle.pieces.specs.WithTypes.{pieceWith}
+use Rattle.pieces.proofs.Encoded.{declaration-run}
+use Rattle.rebuild_declaration.specs.Replacer.{ReplaceModDecl}
+use Rattle.rebuild_declaration.specs.Laying.{encodePieces, deepestPiece, topPieces}
+use Rattle.rebuild_declaration.specs.Calls.{declarationIn, laidDeclaration, declarationRebuilt}
+use Rattle.rebuild_declaration.proofs.Pieces.{encode-none, encode-own, encode-type, declaration-words, declaration-depth}
+use Rattle.replacement.specs.declared.Whole.{Whole}
+use Rattle.replacement.specs.declared.Whole.the-variants.{AType, ADeclaration}
+use Rattle.replacement.specs.Wholes.{laidBy, wholeRebuilt}
+use Rattle.replacement.proofs.Wholes.{ends-got, ends-alike, whole-answered}
+use Rattle.replacement.proofs.EachType.{Every, each-type, declaration-deep}
+
+-- a list of no rules
+no-rules : (pairs : List ℕ) (text : Bytes) → rulesOf (0 ∷ []) pairs text ≡ given []
+unfolding rulesOf readRules readBelow readWord readList whole distinct repeated
+no-rules pairs text = refl
+
+-- the list that holds none
+pub none-listed : (rules : List ℕ) → length rules ≡ 1 → eqb (getD rules 0 0) 0 ≡ true → rules ≡ 0 ∷ []
+none-listed [] l e = impossible (omega (arith, l))
+none-listed (x ∷ []) l e = ap (λ y. y ∷ []) (eqb-true x 0 e)
+none-listed (x ∷ y ∷ ys) l e = impossible (omega (arith, l))
+
+-- words that fill others are these
+filled : (ws b : List ℕ) → Run ws 0 b → length ws ≡ 0 + length b → b ≡ ws
+filled ws b r e = let l : length ws ≤ length b = omega (arith, e) in sym (r .words) ∙ take-all (length b) ws l
+
+-- what the words of accepted tables hold was read to their end
+accepted : {A : Type 0} (c : Check) (size : ℕ) (x : Reading A) {a : A} → unless c (whole size x) ≡ given a → (c ≡ Passed) × (x ≡ got a size)
+unfolding unless whole
+accepted (Failed k) size x e = impossible (cc)
+accepted Passed size (stop k) e = impossible (cc)
+accepted Passed size (got u n) {a} e = (refl, fit (eqb n size) refl e)
+  where
+    fit : (t : Bool) → eqb n size ≡ t → pick t (given u) (refused LeftOver) ≡ given a → got u n ≡ got a size
+    fit true k e = let i : u ≡ a = cc in let j = eqb-true n size k in cc
+    fit false k e = impossible (cc)
+
+-- ---- types and declarations
+
+alike : {v w : List ℕ} {s t m n : ℕ} → v ≡ w → s ≡ t → m ≡ n → _≡_ {A = Laid} (record { words = v; top = s; deep = m }) (record { words = w; top = t; deep = n })
+alike e f g = rw (e, f, g) refl
+
+module _ (m : Ty ℕ → Ty ℕ) where
+  pieces-kept : (ps : List (Piece ℕ)) → Every (Kept m) ps → map (pieceWith (Replace m)) ps ≡ ps
+  unfolding pieceWith
+  pieces-kept [] h = refl
+  pieces-kept (own k ∷ ps) h = ap (_∷_ (own k)) (pieces-kept ps h)
+  pieces-kept (type t ∷ ps) h = ap (λ (u : Ty ℕ). type u ∷ map (pieceWith (Replace m)) ps) (h .0 .replaced) ∙ ap (_∷_ (type t)) (pieces-kept ps (h .1))
+
+  top-kept : (ps : List (Piece ℕ)) → Every (Kept m) ps → topPieces m ps ≡ length (encodePieces ps)
+  unfolding topPieces
+  top-kept [] h = sym encode-none
+  top-kept (own k ∷ ps) h = let i = top-kept ps h in omega (arith, i, encode-own k ps)
+  top-kept (type t ∷ ps) h = let i = top-kept ps (h .1) in omega (arith, i, ap words (h .0 .replaced), h .0 .peaked, encode-type t ps)
+
+  laid-kept : (d : Declaration ℕ) → Every (Kept m) (pieces d) → laidDeclaration m d ≡ sameWords (encodeDeclaration d) (deepestPiece (pieces d))
+  unfolding encodeDeclaration declarationTokens encodePieces
+  laid-kept d h =
+      alike (declaration-words m d ∙ ap encodePieces (pieces-kept (pieces d) h)) (top-kept (pieces d) h) (declaration-depth m d ∙ ap deepestPiece (pieces-kept (pieces d) h))
+
+module _ (ws pairs : List ℕ) (m : Ty ℕ → Ty ℕ) (stays : (q : ℕ) (t : Ty ℕ) → Run ws q (encode t) → m t ≡ t) where
+  type-kept : {t : Ty ℕ} → treeAt ws pairs 0 ≡ got t (length ws) → laidType m t ≡ sameWords ws (depth t)
+  type-kept {t} e =
+      let r = tree-run ws pairs 0 (omega arith) e in
+      let w = filled ws (encode t) (r .0) (r .1 ∙ ap (λ i. 0 + i) (sym (encode-words t))) in
+      let k = still ws pairs m stays 0 e in
+      alike (ap encode (k .replaced) ∙ w) (k .peaked ∙ (let z : words t ≡ length ws = omega (arith, r .1) in z)) (ap depth (k .replaced))
+
+  declaration-kept : {d : Declaration ℕ} → declarationIn ws pairs ≡ got d (length ws) → laidDeclaration m d ≡ sameWords ws (deepestPiece (pieces d))
+  declaration-kept {d} e =
+      let r = declaration-run ws pairs 0 e in
+      laid-kept m d (each-type ws pairs (Kept m) (λ p t n i. still ws pairs m stays p i) e) ∙ ap (λ l. sameWords l (deepestPiece (pieces d))) (filled ws (encodeDeclaration d) (r .0) (r .1))
+
+-- ---- the calls
+
+-- so the words are copied
+module _ (ws pairs : List ℕ) (m : Ty ℕ → Ty ℕ) (stays : (q : ℕ) (t : Ty ℕ) → Run ws q (encode t) → m t ≡ t) where
+  fills : {A : Type 0} (lay : A → Laid) (deep : A → ℕ) (x : Reading A) {a : A} → x ≡ got a (length ws) → deep a ≤ 64 → lay a ≡ sameWords ws (deep a)
+      → {o o′ : List ℕ} {r : RebuildAnswer} → (r, o′) ≡ laidDown o (given (sameWords ws 0)) → Fills (mapReading lay x) o o′ r
+  unfolding mapReading
+  fills lay deep x {a} e l k {o} h = record { fills = λ b n i. let j : got (lay a) (length ws) ≡ got b n = rw e at i in let y : lay a ≡ b = cc in h ∙ shallow o ws (deep a) l ∙ ap (λ z. laidDown o (given z)) (sym k ∙ y) }
+
+  pub unaltered-fills : (what : Whole) {o o′ : List ℕ} {r : RebuildAnswer} → ended (laidBy what ws pairs m) ≡ At (length ws) → (r, o′) ≡ laidDown o (given (sameWords ws 0)) → Fills (laidBy what ws pairs m) o o′ r
+  unaltered-fills AType e h = let t = ends-got (laidType m) (treeAt ws pairs 0) e in fills (laidType m) depth (treeAt ws pairs 0) (t .1) (tree-deep ws pairs 0 (t .1)) (type-kept ws pairs m stays (t .1)) h
+  unaltered-fills ADeclaration e h =
+      let d = ends-got (laidDeclaration m) (declarationIn ws pairs) e in
+      fills (laidDeclaration m) (λ x. deepestPiece (pieces x)) (declarationIn ws pairs) (d .1) (declaration-deep ws pairs (d .1)) (declaration-kept ws pairs m stays (d .1)) h
+
+-- ---- without rules
+
+module _ (ws pairs : List ℕ) (text : Bytes) where
+  none-given : (q : ℕ) (t : Ty ℕ) → Run ws q (encode t) → mappingOf pairs text [] t ≡ t
+  unfolding mappingOf ruled
+  none-given q t r = refl
+
+  type-given : {t : Ty ℕ} → treeAt ws pairs 0 ≡ got t (length ws) → wholeRebuilt AType ws pairs text (0 ∷ []) ≡ given (sameWords ws (depth t))
+  type-given e =
+      both-given (λ rs. laidType (mappingOf pairs text rs)) [] (length ws) (treeAt ws pairs 0) (rulesOf (0 ∷ []) pairs text) e refl (no-rules pairs text)
+      ∙ ap given (type-kept ws pairs (mappingOf pairs text []) none-given e)
+
+  declaration-given : {d : Declaration ℕ} → declarationIn ws pairs ≡ got d (length ws) → wholeRebuilt ADeclaration ws pairs text (0 ∷ []) ≡ given (sameWords ws (deepestPiece (pieces d)))
+  declaration-given e =
+      both-given (λ rs. laidDeclaration (mappingOf pairs text rs)) [] (length ws) (declarationIn ws pairs) (rulesOf (0 ∷ []) pairs text) e refl (no-rules pairs text)
+      ∙ ap given (declaration-kept ws pairs (mappingOf pairs text []) none-given e)
+
+  pub unaltered : {t : Ty ℕ} → treeOf ws pairs text ≡ given t → typeRebuilt ws pairs text (0 ∷ []) ≡ given (sameWords ws (depth t))
+  unfolding treeOf typeRebuilt unless
+  unaltered e = let p = accepted (checkTables ws pairs text) (length ws) (treeAt ws pairs 0) e in rw (check-tables ws (0 ∷ []) pairs text (omega arith), p .0) (type-given (p .1))
+
+  pub unaltered-declaration : {d : Declaration ℕ} → unless (checkTables ws pairs text) (whole (length ws) (declarationIn ws pairs)) ≡ given d
+      → declarationRebuilt ws pairs text (0 ∷ []) ≡ given (sameWords ws (deepestPiece (pieces d)))
+  unfolding declarationRebuilt unless
+  unaltered-declaration e = let p = accepted (checkTables ws pairs text) (length ws) (declarationIn ws pairs) e in rw (check-tables ws (0 ∷ []) pairs text (omega arith), p .0) (declaration-given (p .1))
+
+  pub copied : (what : Whole) (m : Ty ℕ → Ty ℕ) (o : List ℕ) {rules o′ : List ℕ} {r : RebuildAnswer} {n : ℕ} → ended (laidBy what ws pairs m) ≡ At n → n ≡ length ws → rules ≡ 0 ∷ [] → (r, o′) ≡ laidDown o (given (sameWords ws 0))
+      → (r, o′) ≡ laidDown o (wholeRebuilt what ws pairs text rules)
+  unfolding mapping ruleList
+  copied what m o {o′ = o′} {r = r} e i k h =
+      let g : rulesOf (0 ∷ []) pairs text ≡ given (ruleList (rulesOf (0 ∷ []) pairs text)) = rw (no-rules pairs text) refl in
+      let s : (q : ℕ) (t : Ty ℕ) → Run ws q (encode t) → mapping (0 ∷ []) pairs text t ≡ t = λ q t x. rw (no-rules pairs text) (none-given q t x) in
+      let f = unaltered-fills ws pairs (mapping (0 ∷ []) pairs text) s what (ends-alike what ws pairs (mapping (0 ∷ []) pairs text) m ∙ e ∙ ap At i) h in
+      subst (λ rs. (r, o′) ≡ laidDown o (wholeRebuilt what ws pairs text rs)) (sym k) (whole-answered ws pairs text (0 ∷ []) o what m e i g f)
+
+-- ---- with rules that match nowhere
+
+pub none-match : {rules pairs table ws : List ℕ} {text : Bytes} {k : ℕ} → Ruled rules pairs text table k → noneStands (nameBytes pairs text) rules table k ws ≡ true
+    → (q : ℕ) (t : Ty ℕ) → Run ws q (encode t) → mapping rules pairs text t ≡ t
+unfolding mapping mappingOf
+none-match {rules} {pairs} {table} {ws} {text} g e = none-gives-way (nameBytes pairs text) rules table ws (ruleList (rulesOf rules pairs text)) (g .tabled) (rw (g .many) e)
