@@ -1,23 +1,22 @@
 -- A path by the words that stand there: equal paths have the same root and as many names.
-use Prim.Native.Nat.{ℕ, zero, suc, _+_, _-_, _≤_, _<_}
+use Prim.Native.Nat.{ℕ, suc, _+_, _-_, _≤_, _<_}
 use mathlib.Core.Path.{_≡_, refl, ap, sym, _∙_}
 use mathlib.Core.Bool.{Bool, true, false, Bool·beq}
-use mathlib.Core.List.{List, [], _∷_, map}
+use mathlib.Core.List.{List, [], _∷_}
 use native.Mathlib.Omega.{arith}
 use borrow.Author.Tests.{le-leb, lt-leb}
-use lib.Dec.{eqb}
-use lib.ListN.{length, getD, take, drop, length-take, length-drop, length-map}
+use lib.ListN.{length, getD, take, drop, length-take, length-drop, length-append, length-map}
 use lib.Seq.{drop-cons}
 use Rattle.rast.specs.Bytes.{Bytes, ascii, same, begins, _and_, among}
 use Rattle.rast.specs.Tree.{Path, Global, Crate, Self, PMemberSelect, MSels}
 use Rattle.encoding.specs.declared.PathAt.{PathAt}
-use Rattle.encoding.specs.Refusals.{pick}
 use Rattle.encoding.specs.Tables.{fixedNames, nameBytes, nameCount}
 use Rattle.encoding.specs.Heads.{InsidePath}
 use Rattle.encoding.specs.Types.{rootOf, pathOf}
 use Rattle.encoding.proofs.Tables.{impossible, and-left, and-right, same-eq, everyBelow, every-at, name-fixed}
 use Rattle.encoding.proofs.Names.{and-no, and-yes, and-false, beq-eq}
-use Rattle.trees.specs.Encode.{rootWord}
+use Rattle.trees.specs.Encode.{rootWord, names}
+use Rattle.trees.proofs.Spans.{root-known, path-names, path-root}
 use Rattle.classes.specs.declared.Class.{Class}
 use Rattle.classes.specs.declared.Class.the-variants.{Counted, Placebo, ObjectClass, PtrClass, ArrayClass, Collection, MapClass}
 use Rattle.classes.specs.Asked.{InRuntime}
@@ -57,48 +56,15 @@ path-apart f p q h = go (samePath p q) (path-eq p q)
 
 -- ---- root and number of names
 
-abbrev names : Path Bytes → ℕ
-names Global = 0
-names Crate = 0
-names Self = 0
-names (PMemberSelect p x) = suc (names p)
-
-select-names : (p : Path Bytes) (xs : List Bytes) → names (MSels p xs) ≡ names p + length xs
-unfolding MSels
-select-names p [] = omega arith
-select-names p (x ∷ xs) = omega (arith, select-names (PMemberSelect p x) xs)
-
-select-root : (p : Path Bytes) (xs : List Bytes) → rootWord (MSels p xs) ≡ rootWord p
-unfolding MSels rootWord
-select-root p [] = refl
-select-root p (x ∷ xs) = select-root (PMemberSelect p x) xs
-
-root-names : (r : ℕ) → names (rootOf r) ≡ 0
-unfolding rootOf
-root-names r = go (eqb r 0) (eqb r 1)
-  where
-    go : (a b : Bool) → names (pick a Global (pick b Crate Self)) ≡ 0
-    go true b = refl
-    go false true = refl
-    go false false = refl
-
-root-word : (r : ℕ) → r < 3 → rootWord {N = Bytes} (rootOf r) ≡ r
-unfolding rootOf rootWord
-root-word zero h = refl
-root-word (suc zero) h = refl
-root-word (suc (suc zero)) h = refl
-root-word (suc (suc (suc r))) h = absurd (let z : ⊥ = omega arith in z)
+abbrev count : Path Bytes → ℕ
+count q = length (names q)
 
 module _ (bound : ℕ) (ws : List ℕ) (name : ℕ → Bytes) (p : PathAt) (i : InsidePath bound ws p) where
-  path-names : names (pathOf ws name p) ≡ p .count
-  unfolding pathOf
-  path-names =
-      let l : length (map name (take (p .count) (drop (p .start) ws))) ≡ p .count = simp (length-map, length-take, length-drop) (omega (arith, i .inside)) in
-      omega (arith, select-names (rootOf (p .root)) (map name (take (p .count) (drop (p .start) ws))), root-names (p .root), l)
+  path-count : count (pathOf ws name p) ≡ p .count
+  path-count = ap length (path-names ws name p) ∙ simp (length-map, length-take, length-drop) (omega (arith, i .inside))
 
-  path-root : rootWord (pathOf ws name p) ≡ p .root
-  unfolding pathOf
-  path-root = select-root (rootOf (p .root)) (map name (take (p .count) (drop (p .start) ws))) ∙ root-word (p .root) (i .root)
+  root-word : rootWord (pathOf ws name p) ≡ p .root
+  root-word = path-root ws name p ∙ root-known Bytes (p .root) (i .root)
 
   abbrev nameAt : ℕ → Bytes
   nameAt k = name (getD ws (p .start + k) 0)
@@ -128,11 +94,11 @@ module _ (bound : ℕ) (ws : List ℕ) (name : ℕ → Bytes) (p : PathAt) (i : 
   module _ (x y : Bytes) where
     pub std-root : (p .root ≡ 0 → ⊥) → samePath (pathOf ws name p) (inStd x y) ≡ false
     unfolding inStd std rootWord
-    std-root h = path-apart rootWord (pathOf ws name p) (inStd x y) (λ e. h (sym path-root ∙ e))
+    std-root h = path-apart rootWord (pathOf ws name p) (inStd x y) (λ e. h (sym root-word ∙ e))
 
     pub std-count : (p .count ≡ 3 → ⊥) → samePath (pathOf ws name p) (inStd x y) ≡ false
-    unfolding inStd std
-    std-count h = path-apart names (pathOf ws name p) (inStd x y) (λ e. h (sym path-names ∙ e))
+    unfolding inStd std names
+    std-count h = path-apart count (pathOf ws name p) (inStd x y) (λ e. h (sym path-count ∙ e))
 
     pub std-names : p .root ≡ 0 → p .count ≡ 3 → samePath (pathOf ws name p) (inStd x y) ≡ (same first (ascii "std") and same (nameAt 1) x and same (nameAt 2) y)
     unfolding inStd std samePath _and_
@@ -151,12 +117,12 @@ module _ (bound : ℕ) (ws : List ℕ) (name : ℕ → Bytes) (p : PathAt) (i : 
     member-root : (p .root ≡ 0 → ⊥) → runtimeMember f (pathOf ws name p) ≡ false
     unfolding dafny_runtime rootWord
     member-root h =
-        member-apart (pathOf ws name p) λ u x e. path-apart rootWord u dafny_runtime λ d. h (sym path-root ∙ ap rootWord e ∙ d)
+        member-apart (pathOf ws name p) λ u x e. path-apart rootWord u dafny_runtime λ d. h (sym root-word ∙ ap rootWord e ∙ d)
 
     member-count : (p .count ≡ 2 → ⊥) → runtimeMember f (pathOf ws name p) ≡ false
-    unfolding dafny_runtime
+    unfolding dafny_runtime names
     member-count h =
-        member-apart (pathOf ws name p) λ u x e. path-apart names u dafny_runtime λ d. h (sym path-names ∙ ap names e ∙ ap suc d)
+        member-apart (pathOf ws name p) λ u x e. path-apart count u dafny_runtime λ d. h (sym path-count ∙ ap count e ∙ length-append (names u) (x ∷ []) ∙ ap (λ n. n + 1) d)
 
     member-names : p .root ≡ 0 → p .count ≡ 2 → runtimeMember f (pathOf ws name p) ≡ (same first (ascii "dafny_runtime") and f (nameAt 1))
     unfolding runtimeMember dafny_runtime samePath _and_

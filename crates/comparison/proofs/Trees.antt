@@ -11,7 +11,8 @@ use lib.ListN.{length, length-map}
 use Rattle.rast.specs.Bytes.{Bytes, _and_}
 use Rattle.rast.specs.Tree.{Path, Global, Crate, Self, PMemberSelect, PrimitiveTy, U8, U16, U32, U64, U128, I8, I16, I32, I64, I128, USIZE, Bool·, Ty, Tys, Primitive, TIdentifier, TypeFromPath, TypeApp, Borrowed, BorrowedMut, ImplType, DynType, TupleType, FnType, IntersectionType, Array, TSynonym, TMetaData, nil, cons}
 use Rattle.trees.specs.Renamed.{renamedPath, renamedSize, renamed, renamedAll}
-use Rattle.trees.specs.Encode.{Token, word, name, size, tokenWord, primitiveWord, flagsWord, rootWord, names, pathTokens, count, tokens, tokensAll, encode}
+use Rattle.trees.specs.Encode.{Token, word, name, size, tokenWord, renamedToken, primitiveWord, flagsWord, rootWord, names, pathTokens, count, tokens, tokensAll, encode}
+use Rattle.trees.proofs.Renaming.{names-renamed}
 use Rattle.replace.specs.Same.{sameSize, sameToken, sameTokens, sameType, sameBy}
 use Rattle.comparison.specs.declared.Due.{Due}
 use Rattle.comparison.specs.declared.Due.the-variants.{Kind, Exact, Sized, Root, Count, Names}
@@ -34,11 +35,6 @@ tokenOf (Names n) x = name x
 unfoldable tokensFrom : Due → List ℕ → List (Token ℕ)
 tokensFrom due [] = []
 tokensFrom due (x ∷ xs) = tokenOf due x ∷ tokensFrom (after due x) xs
-
-unfoldable renamedToken : {M N : Type 0} → (M → N) → Token M → Token N
-renamedToken f (word k) = word k
-renamedToken f (name x) = name (f x)
-renamedToken f (size s) = size (renamedSize f s)
 
 module _ (bytes : ℕ → Bytes) where
   agrees-size : (x y : ℕ) → agrees bytes Sized x y ≡ sameToken (renamedToken bytes (sizeToken x)) (renamedToken bytes (sizeToken y))
@@ -167,11 +163,6 @@ tokens-read t = ap (tokensFrom Kind) (sym (append-nil (map tokenWord (tokens t))
 -- ---- other names
 
 module _ {M N : Type 0} (f : M → N) where
-  names-renamed : (xs : List M) → map name (map f xs) ≡ map (renamedToken f) (map name xs)
-  unfolding renamedToken
-  names-renamed [] = refl
-  names-renamed (x ∷ xs) = ap (λ (l : List (Token N)). name (f x) ∷ l) (names-renamed xs)
-
   count-renamed : (ts : Tys M) → count (renamedAll f ts) ≡ count ts
   unfolding count renamedAll
   count-renamed nil = refl
@@ -196,7 +187,7 @@ module _ {M N : Type 0} (f : M → N) where
   path-renamed p =
       let e = path-names p in
       let l : length (names (renamedPath f p)) ≡ length (names p) = ap length e ∙ length-map (names p) f in
-      rw (root-renamed p, l, e) (ap (λ l. word (rootWord p) ∷ word (length (names p)) ∷ l) (names-renamed (names p)))
+      rw (root-renamed p, l, e) (ap (λ l. word (rootWord p) ∷ word (length (names p)) ∷ l) (sym (names-renamed f (names p))))
 
   two-renamed : {xs ys : List (Token N)} (us vs : List (Token M)) → xs ≡ map (renamedToken f) us → ys ≡ map (renamedToken f) vs → xs ++ ys ≡ map (renamedToken f) (us ++ vs)
   two-renamed us vs e d = rw (e, d) (sym (map-append (renamedToken f) us vs))

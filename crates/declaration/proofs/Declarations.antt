@@ -1,8 +1,10 @@
 -- Declarations from the texts of their parts.
-use Prim.Native.Nat.{ℕ, _+_}
-use mathlib.Core.Path.{_≡_, refl, ap, sym, _∙_}
+use Prim.Native.Nat.{ℕ, _+_, _≤_, _<_}
+use mathlib.Core.Path.{_≡_, refl, ap, sym, _∙_, subst}
 use mathlib.Core.Bool.{Bool, true, false}
 use mathlib.Core.List.{List, [], _++_, append-assoc, append-nil}
+use native.Mathlib.Omega.{arith}
+use native.Mathlib.Decide.{ℕ-discrete}
 use borrow.Author.Tests.{eq-eqb, ne-eqb}
 use Rattle.rast.specs.Bytes.{Bytes, ascii}
 use Rattle.rast.specs.Tree.{Ty}
@@ -25,7 +27,7 @@ use Rattle.laying.proofs.Passes.{Runs}
 use Rattle.laying.proofs.Splits.{map-same, map-made, runs-as, split₃, split-front, text-before, text-behind, listed-read, counted-got, counted-none, counted-stop}
 use Rattle.fields.specs.Texts.{lineText, attributesAt, parametersAt, namedAt, namelessFieldsAt}
 use Rattle.fields.proofs.Fields.{indent-more}
-use Rattle.declaration.specs.Texts.{keywordText, caseLineText, tupleFieldsAt, fieldsAt, caseAt, caseLineAt, casesAt, variantsAt, titleAt, frontAt, enumBody, synonymBody, structAt, enumAt, synonymAt, useAt, afterAt, declarationTextAt}
+use Rattle.declaration.specs.Texts.{keywordText, caseLineText, tupleFieldsAt, fieldsAt, caseAt, caseLineAt, casesAt, variantsAt, titleAt, frontAt, enumBody, synonymBody, bodyAt, frontedAt, useAt, afterAt, declarationTextAt}
 
 -- ---- chains, a text of theirs said in another way
 
@@ -209,7 +211,16 @@ module _ (ws pairs : List ℕ) (text : Bytes) where
       (λ q. run (got (keywordText head) q then λ r. mapReading (λ y. y) (nameAt ws pairs text r) then λ s. last (parametersAt ws pairs text s))) (titleAt ws pairs text head)
       (λ q. second-alike (got (keywordText head) q) (λ r. mapReading (λ y. y) (nameAt ws pairs text r)) (nameAt ws pairs text) (λ s. last (parametersAt ws pairs text s)) (λ r. map-same (nameAt ws pairs text r)))
 
-  pub struct-runs : (level at : ℕ) → Runs (structAt ws pairs text level at) (frontAt ws pairs text 25 level at then λ p. last (fieldsAt ws pairs text false level p))
+  abbrev structAt : ℕ → ℕ → Reading Bytes
+  structAt level at = mapReading (Struct·ToString (indent level)) (readStruct bound ws name type at)
+
+  abbrev enumAt : ℕ → ℕ → Reading Bytes
+  enumAt level at = mapReading (Enum·ToString (indent level)) (readEnum bound ws name type at)
+
+  abbrev synonymAt : ℕ → ℕ → Reading Bytes
+  synonymAt level at = mapReading (TypeSynonym·ToString (indent level)) (readTypeSynonym bound ws name type at)
+
+  struct-runs : (level at : ℕ) → Runs (structAt level at) (frontAt ws pairs text 25 level at then λ p. last (fieldsAt ws pairs text false level p))
   unfolding readStruct Struct·ToString keywordText
   struct-runs level at =
       runs-as (front-alike 25 level at)
@@ -221,7 +232,7 @@ module _ (ws pairs : List ℕ) (text : Bytes) where
   enumText : ℕ → List (EnumCase Bytes) → Bytes
   enumText level cs = ascii " {" ++ (SeqToString (caseLineText (indent level)) (ascii ",") cs ++ (lineText level ++ ascii "}"))
 
-  pub enum-runs : (level at : ℕ) → Runs (enumAt ws pairs text level at) (frontAt ws pairs text 26 level at then λ p. last (enumBody ws pairs text level p))
+  enum-runs : (level at : ℕ) → Runs (enumAt level at) (frontAt ws pairs text 26 level at then λ p. last (enumBody ws pairs text level p))
   unfolding readEnum Enum·ToString keywordText enumText
   enum-runs level at = record {
     same = runs-as (front-alike 26 level at)
@@ -242,7 +253,7 @@ module _ (ws pairs : List ℕ) (text : Bytes) where
   synonymText : Ty Bytes → Bytes
   synonymText t = ascii " = " ++ (Type·ToString t ++ ascii ";")
 
-  pub synonym-runs : (level at : ℕ) → Runs (synonymAt ws pairs text level at) (frontAt ws pairs text 27 level at then λ p. last (synonymBody ws pairs text p))
+  synonym-runs : (level at : ℕ) → Runs (synonymAt level at) (frontAt ws pairs text 27 level at then λ p. last (synonymBody ws pairs text p))
   unfolding readTypeSynonym TypeSynonym·ToString keywordText synonymText
   synonym-runs level at = record {
     same = runs-as (front-alike 27 level at)
@@ -267,26 +278,56 @@ module _ (ws pairs : List ℕ) (text : Bytes) where
 
   -- ---- by the head
 
+  pub body-struct : (level at : ℕ) {head : ℕ} → head ≡ 25 → bodyAt ws pairs text head level at ≡ fieldsAt ws pairs text false level at
+  body-struct level at e = ap (λ (w : ℕ). bodyAt ws pairs text w level at) e
+
+  pub body-enum : (level at : ℕ) {head : ℕ} → head ≡ 26 → bodyAt ws pairs text head level at ≡ enumBody ws pairs text level at
+  body-enum level at e = ap (λ (w : ℕ). bodyAt ws pairs text w level at) e
+
+  pub body-synonym : (level at : ℕ) {head : ℕ} → (head ≡ 25 → ⊥) → (head ≡ 26 → ⊥) → bodyAt ws pairs text head level at ≡ synonymBody ws pairs text at
+  body-synonym level at {head} a b = rw (ne-eqb head 25 a, ne-eqb head 26 b)
+
+  pub fronted-runs : (head level at : ℕ) → Runs (frontedAt ws pairs text head level at) (frontAt ws pairs text head level at then λ p. last (bodyAt ws pairs text head level p))
+  fronted-runs head level at = record { same = refl }
+
+  module _ (level at : ℕ) where
+    after-struct : afterAt ws pairs text 25 level at ≡ structAt level at
+    unfolding declarationAfter Declaration·ToString
+    after-struct = map-made (Declaration·ToString level) StructDecl (readStruct bound ws name type at)
+
+    after-enum : afterAt ws pairs text 26 level at ≡ enumAt level at
+    unfolding declarationAfter Declaration·ToString
+    after-enum = map-made (Declaration·ToString level) EnumDecl (readEnum bound ws name type at)
+
+    after-synonym : afterAt ws pairs text 27 level at ≡ synonymAt level at
+    unfolding declarationAfter Declaration·ToString
+    after-synonym = map-made (Declaration·ToString level) TypeDecl (readTypeSynonym bound ws name type at)
+
   module _ (level at : ℕ) {head : ℕ} where
-    pub after-struct : head ≡ 25 → afterAt ws pairs text head level at ≡ structAt ws pairs text level at
-    unfolding declarationAfter Declaration·ToString
-    after-struct e = ap (λ (w : ℕ). afterAt ws pairs text w level at) e ∙ map-made (Declaration·ToString level) StructDecl (readStruct bound ws name type at)
+    pub after-fronted : 25 ≤ head → head < 28 → afterAt ws pairs text head level at ≡ frontedAt ws pairs text head level at
+    after-fronted h k = go (ℕ-discrete head 25) (ℕ-discrete head 26)
+      where
+        by : (n : ℕ) → head ≡ n → afterAt ws pairs text n level at ≡ frontedAt ws pairs text n level at → afterAt ws pairs text head level at ≡ frontedAt ws pairs text head level at
+        by n e f = subst (λ (w : ℕ). afterAt ws pairs text w level at ≡ frontedAt ws pairs text w level at) (sym e) f
 
-    pub after-enum : head ≡ 26 → afterAt ws pairs text head level at ≡ enumAt ws pairs text level at
-    unfolding declarationAfter Declaration·ToString
-    after-enum e = ap (λ (w : ℕ). afterAt ws pairs text w level at) e ∙ map-made (Declaration·ToString level) EnumDecl (readEnum bound ws name type at)
-
-    pub after-synonym : head ≡ 27 → afterAt ws pairs text head level at ≡ synonymAt ws pairs text level at
-    unfolding declarationAfter Declaration·ToString
-    after-synonym e = ap (λ (w : ℕ). afterAt ws pairs text w level at) e ∙ map-made (Declaration·ToString level) TypeDecl (readTypeSynonym bound ws name type at)
+        go : Dec (head ≡ 25) → Dec (head ≡ 26) → afterAt ws pairs text head level at ≡ frontedAt ws pairs text head level at
+        go (yes e) d = by 25 e (after-struct level at ∙ struct-runs level at .same)
+        go (no a) (yes e) = by 26 e (after-enum level at ∙ enum-runs level at .same)
+        go (no a) (no b) = by 27 (let e : head ≡ 27 = omega arith in e) (after-synonym level at ∙ synonym-runs level at .same)
 
     pub after-use : head ≡ 28 → afterAt ws pairs text head level at ≡ useAt ws pairs text at
     unfolding declarationAfter Declaration·ToString
     after-use e = ap (λ (w : ℕ). afterAt ws pairs text w level at) e ∙ map-made (Declaration·ToString level) UseDecl (readUse bound ws name type at)
 
-    pub after-none : (head ≡ 25 → ⊥) → (head ≡ 26 → ⊥) → (head ≡ 27 → ⊥) → (head ≡ 28 → ⊥) → afterAt ws pairs text head level at ≡ stop UnknownWord
+    after-none : (head ≡ 25 → ⊥) → (head ≡ 26 → ⊥) → (head ≡ 27 → ⊥) → (head ≡ 28 → ⊥) → afterAt ws pairs text head level at ≡ stop UnknownWord
     unfolding declarationAfter mapReading
     after-none a b c d = rw (ne-eqb head 25 a, ne-eqb head 26 b, ne-eqb head 27 c, ne-eqb head 28 d)
+
+    pub after-below : head < 25 → afterAt ws pairs text head level at ≡ stop UnknownWord
+    after-below h = after-none (λ e. omega arith) (λ e. omega arith) (λ e. omega arith) (λ e. omega arith)
+
+    pub after-above : 28 < head → afterAt ws pairs text head level at ≡ stop UnknownWord
+    after-above h = after-none (λ e. omega arith) (λ e. omega arith) (λ e. omega arith) (λ e. omega arith)
 
   pub declaration-got : (level at : ℕ) {w p : ℕ} → readWord ws at ≡ got w p → declarationTextAt ws pairs text level at ≡ afterAt ws pairs text w level p
   unfolding readDeclaration

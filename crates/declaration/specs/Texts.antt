@@ -7,12 +7,12 @@ use Rattle.rast.specs.Bytes.{Bytes, ascii}
 use Rattle.rast.specs.Tree.{Ty}
 use Rattle.rast.specs.Indent.{IND, indent, SeqToString}
 use Rattle.rast.specs.Declaration.{Fields, EnumCase}
-use Rattle.rast.specs.DeclarationToString.{Fields·ToString, structFieldsText, EnumCase·ToString, Struct·ToString, Enum·ToString, TypeSynonym·ToString, Use·ToString, Declaration·ToString}
+use Rattle.rast.specs.DeclarationToString.{Fields·ToString, structFieldsText, EnumCase·ToString, Use·ToString, Declaration·ToString}
 use Rattle.encoding.specs.Refusals.{pick}
 use Rattle.encoding.specs.Reading.{Reading, got, mapReading}
 use Rattle.encoding.specs.Tables.{nameBytes, nameCount}
 use Rattle.encoding.specs.Types.{typeAt}
-use Rattle.encoding.specs.Declarations.{structHead, enumHead, readCounted, readFields, readCase, readStruct, readEnum, readTypeSynonym, readUse, declarationAfter, declarationAt}
+use Rattle.encoding.specs.Declarations.{structHead, enumHead, readCounted, readFields, readCase, readUse, declarationAfter, declarationAt}
 use Rattle.laying.specs.Passes.{last, _then_, run, listed}
 use Rattle.laying.specs.Texts.{nameAt, typeTextAt, docAt}
 use Rattle.fields.specs.Texts.{lineText, attributesAt, parametersAt, namelessFieldsAt}
@@ -77,14 +77,12 @@ module _ (ws pairs : List ℕ) (text : Bytes) where
 
   -- ---- declarations
 
-  abbrev pub structAt : ℕ → ℕ → Reading Bytes
-  structAt level at = mapReading (Struct·ToString (indent level)) (readStruct bound ws name type at)
+  -- what follows the front, by the head, and both
+  abbrev pub bodyAt : ℕ → ℕ → ℕ → Reading Bytes
+  bodyAt head level at = pick (eqb head structHead) (fieldsAt false level at) (pick (eqb head enumHead) (enumBody level at) (synonymBody at))
 
-  abbrev pub enumAt : ℕ → ℕ → Reading Bytes
-  enumAt level at = mapReading (Enum·ToString (indent level)) (readEnum bound ws name type at)
-
-  abbrev pub synonymAt : ℕ → ℕ → Reading Bytes
-  synonymAt level at = mapReading (TypeSynonym·ToString (indent level)) (readTypeSynonym bound ws name type at)
+  abbrev pub frontedAt : ℕ → ℕ → ℕ → Reading Bytes
+  frontedAt head level at = run (frontAt head level at then λ p. last (bodyAt head level p))
 
   abbrev pub useAt : ℕ → Reading Bytes
   useAt at = mapReading Use·ToString (readUse bound ws name type at)

@@ -2,7 +2,7 @@
 ghost use Prim.Native.Nat.{_+_, _^_, _<_};
 ghost use Rattle.output.specs.Laid.{Laid, Fits};
 ghost use Rattle.laying.specs.Passes.{Checked, Ready, Went};
-ghost use Rattle.declaration.specs.Texts.{keywordText, tupleFieldsAt, fieldsAt, titleAt, frontAt, structAt, caseAt, caseLineAt, casesAt, variantsAt, enumBody, enumAt, synonymBody, synonymAt, useAt, afterAt, declarationTextAt};
+ghost use Rattle.declaration.specs.Texts.{keywordText, tupleFieldsAt, fieldsAt, titleAt, frontAt, caseAt, caseLineAt, casesAt, variantsAt, enumBody, synonymBody, bodyAt, frontedAt, useAt, afterAt, declarationTextAt};
 use encoding::Refusal;
 use encoding::WordScan;
 use laying::Place;
@@ -139,27 +139,6 @@ fn lay_front(
     lay_title(write, words, pairs, text, head, next, out, p)
 }
 
-// A struct behind its head.
-fn lay_struct(
-    write: bool,
-    words: &[u32],
-    pairs: &[u32],
-    text: &[u8],
-    level: u32,
-    at: usize,
-    out: &mut [u8],
-    pos: usize,
-) -> Place
-    requires { ⌜ Checked (now words) (now pairs) (now text) × (level < 2 ^ 31) × Ready write (now out) pos (structAt (now words) (now pairs) (now text) level at) ⌝ }
-    ensures { λ r. ⌜ Went write (now (out .entry)) pos (structAt (now (words .entry)) (now (pairs .entry)) (now (text .entry)) level at) (now (out .exit)) r ⌝ }
-{
-    let front = lay_front(write, words, pairs, text, STRUCT, level, at, out, pos);
-    let Place::At { next, pos: p } = front else {
-        return front;
-    };
-    lay_fields(write, words, pairs, text, false, level, next, out, p)
-}
-
 // A case: doc, name, fields.
 fn lay_case(
     write: bool,
@@ -286,27 +265,6 @@ fn lay_enum_body(
     }
 }
 
-// An enum behind its head.
-fn lay_enum(
-    write: bool,
-    words: &[u32],
-    pairs: &[u32],
-    text: &[u8],
-    level: u32,
-    at: usize,
-    out: &mut [u8],
-    pos: usize,
-) -> Place
-    requires { ⌜ Checked (now words) (now pairs) (now text) × (level < 2 ^ 30) × Ready write (now out) pos (enumAt (now words) (now pairs) (now text) level at) ⌝ }
-    ensures { λ r. ⌜ Went write (now (out .entry)) pos (enumAt (now (words .entry)) (now (pairs .entry)) (now (text .entry)) level at) (now (out .exit)) r ⌝ }
-{
-    let front = lay_front(write, words, pairs, text, ENUM, level, at, out, pos);
-    let Place::At { next, pos: p } = front else {
-        return front;
-    };
-    lay_enum_body(write, words, pairs, text, level, next, out, p)
-}
-
 // A type synonym behind its front.
 fn lay_synonym_body(
     write: bool,
@@ -331,25 +289,48 @@ fn lay_synonym_body(
     }
 }
 
-// A type synonym behind its head.
-fn lay_synonym(
+// A struct, an enum or a type synonym behind its front.
+fn lay_body(
     write: bool,
     words: &[u32],
     pairs: &[u32],
     text: &[u8],
+    head: u32,
     level: u32,
     at: usize,
     out: &mut [u8],
     pos: usize,
 ) -> Place
-    requires { ⌜ Checked (now words) (now pairs) (now text) × (level < 2 ^ 31) × Ready write (now out) pos (synonymAt (now words) (now pairs) (now text) level at) ⌝ }
-    ensures { λ r. ⌜ Went write (now (out .entry)) pos (synonymAt (now (words .entry)) (now (pairs .entry)) (now (text .entry)) level at) (now (out .exit)) r ⌝ }
+    requires { ⌜ Checked (now words) (now pairs) (now text) × (level < 2 ^ 30) × Ready write (now out) pos (bodyAt (now words) (now pairs) (now text) head level at) ⌝ }
+    ensures { λ r. ⌜ Went write (now (out .entry)) pos (bodyAt (now (words .entry)) (now (pairs .entry)) (now (text .entry)) head level at) (now (out .exit)) r ⌝ }
 {
-    let front = lay_front(write, words, pairs, text, SYNONYM, level, at, out, pos);
+    match head {
+        STRUCT => lay_fields(write, words, pairs, text, false, level, at, out, pos),
+        ENUM => lay_enum_body(write, words, pairs, text, level, at, out, pos),
+        _ => lay_synonym_body(write, words, pairs, text, at, out, pos),
+    }
+}
+
+// A struct, an enum or a type synonym behind its head.
+fn lay_fronted(
+    write: bool,
+    words: &[u32],
+    pairs: &[u32],
+    text: &[u8],
+    head: u32,
+    level: u32,
+    at: usize,
+    out: &mut [u8],
+    pos: usize,
+) -> Place
+    requires { ⌜ Checked (now words) (now pairs) (now text) × (level < 2 ^ 30) × Ready write (now out) pos (frontedAt (now words) (now pairs) (now text) head level at) ⌝ }
+    ensures { λ r. ⌜ Went write (now (out .entry)) pos (frontedAt (now (words .entry)) (now (pairs .entry)) (now (text .entry)) head level at) (now (out .exit)) r ⌝ }
+{
+    let front = lay_front(write, words, pairs, text, head, level, at, out, pos);
     let Place::At { next, pos: p } = front else {
         return front;
     };
-    lay_synonym_body(write, words, pairs, text, next, out, p)
+    lay_body(write, words, pairs, text, head, level, next, out, p)
 }
 
 // A use line behind its head.
@@ -396,9 +377,7 @@ fn lay_after(
     ensures { λ r. ⌜ Went write (now (out .entry)) pos (afterAt (now (words .entry)) (now (pairs .entry)) (now (text .entry)) head level at) (now (out .exit)) r ⌝ }
 {
     match head {
-        STRUCT => lay_struct(write, words, pairs, text, level, at, out, pos),
-        ENUM => lay_enum(write, words, pairs, text, level, at, out, pos),
-        SYNONYM => lay_synonym(write, words, pairs, text, level, at, out, pos),
+        STRUCT..=SYNONYM => lay_fronted(write, words, pairs, text, head, level, at, out, pos),
         USE => lay_use(write, words, pairs, text, at, out, pos),
         _ => Place::Stopped(Refusal::UnknownWord),
     }

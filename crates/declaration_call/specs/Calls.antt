@@ -13,10 +13,7 @@ use Rattle.encoding.specs.Declarations.{declarationAt, declarationOf}
 unfoldable pub declarationText : List ℕ → List ℕ → Bytes → ℕ → Answer Bytes
 declarationText words pairs text level = unless (checkLevel level) (mapAnswer (Declaration·ToString level) (declarationOf words pairs text))
 
--- ---- the same, where the level, and then the tables, are tested already
-
-abbrev pub tableDeclarationText : List ℕ → List ℕ → Bytes → ℕ → Answer Bytes
-tableDeclarationText words pairs text level = mapAnswer (Declaration·ToString level) (declarationOf words pairs text)
+-- the same, where the level and the tables are tested already
 
 abbrev pub wholeDeclarationText : List ℕ → List ℕ → Bytes → ℕ → Answer Bytes
 wholeDeclarationText words pairs text level = mapAnswer (Declaration·ToString level) (whole (length words) (declarationAt words pairs text 0))

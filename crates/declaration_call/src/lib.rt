@@ -5,7 +5,7 @@ ghost use mathlib.Core.Path.{_≡_};
 ghost use Prim.Native.Nat.{_^_, _<_};
 ghost use Rattle.text.specs.Calls.{filled};
 ghost use Rattle.laying.specs.Passes.{Checked};
-ghost use Rattle.declaration_call.specs.Calls.{declarationText, tableDeclarationText, wholeDeclarationText};
+ghost use Rattle.declaration_call.specs.Calls.{declarationText, wholeDeclarationText};
 use encoding::Check;
 use encoding::Refusal;
 use laying::Place;
@@ -31,22 +31,6 @@ fn fill(words: &[u32], pairs: &[u32], text: &[u8], level: u32, out: &mut [u8]) -
     }
 }
 
-fn check_and_fill(
-    words: &[u32],
-    pairs: &[u32],
-    text: &[u8],
-    level: u32,
-    out: &mut [u8],
-) -> TextAnswer
-    requires { ⌜ level < 2 ^ 30 ⌝ }
-    ensures { λ r. ⌜ (r, now (out .exit)) ≡ filled (now (out .entry)) (tableDeclarationText (now (words .entry)) (now (pairs .entry)) (now (text .entry)) level) ⌝ }
-{
-    match encoding::check_tables(words, pairs, text) {
-        Check::Passed => fill(words, pairs, text, level, out),
-        Check::Failed(r) => TextAnswer::Refused(r),
-    }
-}
-
 // The text of the declaration that an encoding holds, in the front of `out`.
 pub fn declaration_text(
     words: &[u32],
@@ -57,8 +41,8 @@ pub fn declaration_text(
 ) -> TextAnswer
     ensures { λ r. ⌜ (r, now (out .exit)) ≡ filled (now (out .entry)) (declarationText (now (words .entry)) (now (pairs .entry)) (now (text .entry)) level) ⌝ }
 {
-    match encoding::check_level(level) {
-        Check::Passed => check_and_fill(words, pairs, text, level, out),
+    match encoding::check_call(words, pairs, text, level) {
+        Check::Passed => fill(words, pairs, text, level, out),
         Check::Failed(r) => TextAnswer::Refused(r),
     }
 }

@@ -56,6 +56,13 @@ below-holds b ws at =
     holds-on (There ws at) (Next b ws at) (readWord ws at) _ (word-holds ws at)
     (λ w n h. holds-pick (Next b ws at) (ltb w b) _ _ (λ t. record { here = h .here; next = h .next; same = h .same; below = ltb-true w b t }) tt)
 
+-- the same of a word that was read
+pub word-there : (ws : List ℕ) (at : ℕ) {w n : ℕ} → readWord ws at ≡ got w n → There ws at w n
+word-there ws at e = subst (Holds (There ws at)) e (word-holds ws at)
+
+pub below-there : (b : ℕ) (ws : List ℕ) (at : ℕ) {w n : ℕ} → readBelow b ws at ≡ got w n → Next b ws at w n
+below-there b ws at e = subst (Holds (Next b ws at)) e (below-holds b ws at)
+
 -- n names stand from `at` on
 pub record Names (b : ℕ) (ws : List ℕ) (n at : ℕ) (u : Unit {0}) (r : ℕ) : Type 0 where
   pub end : r ≡ at + n

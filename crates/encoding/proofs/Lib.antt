@@ -2,6 +2,7 @@
 pub mod Tables
 pub mod Names
 pub mod Primitives
+pub mod Answers
 pub mod Reading
 pub mod Heads
 pub mod Inside

@@ -1,4 +1,5 @@
 pub mod Refusals
+pub mod Filled
 pub mod Reading
 pub mod Tables
 pub mod Heads

@@ -15,6 +15,11 @@ use Rattle.encoding.specs.Refusals.{pick}
 unfoldable pub checkLevel : ℕ → Check
 checkLevel level = pick (ltb 16 level) (Failed BadLevel) Passed
 
+-- the second of two tests, if the first passed
+abbrev pub behind : Check → Check → Check
+behind Passed c = c
+behind (Failed r) c = Failed r
+
 -- a limit on words, whole pairs or text bytes is passed
 unfoldable pub overlong : List ℕ → List ℕ → Bytes → Bool
 overlong words pairs text = ltb 8192 (length words) or ltb 1024 (length pairs / 2) or ltb 16384 (length text)
@@ -30,6 +35,10 @@ unfoldable pub checkTables : List ℕ → List ℕ → Bytes → Check
 checkTables words pairs text =
     pick (overlong words pairs text) (Failed Overlong)
     (pick (goodPairs pairs 0 (length text)) Passed (Failed BadPair))
+
+-- what is tested before anything is printed: the level, then the tables
+unfoldable pub checkCall : List ℕ → List ℕ → Bytes → ℕ → Check
+checkCall words pairs text level = behind (checkLevel level) (checkTables words pairs text)
 
 -- name numbers 0 to 15
 unfoldable pub fixedNames : List Bytes

@@ -9,7 +9,7 @@ ghost use Rattle.rast.specs.Tree.{U8};
 ghost use Rattle.rast.specs.ToString.{Primitive·ToString};
 ghost use Rattle.output.specs.Wrote.{Wrote};
 ghost use Rattle.encoding.specs.Refusals.{number};
-ghost use Rattle.encoding.specs.Tables.{checkLevel, checkTables, goodPairs, fixedNames, nameBytes, nameLength, nameCount, Good};
+ghost use Rattle.encoding.specs.Tables.{checkLevel, checkTables, checkCall, goodPairs, fixedNames, nameBytes, nameLength, nameCount, Good};
 ghost use Rattle.encoding.specs.Reading.{readWord, readBelow, readNames};
 ghost use Rattle.encoding.specs.Types.{primitives};
 ghost use Rattle.encoding.specs.Heads.{readPath, pathHead, headAfter, readHead, kids, HeadHere, typesBelow, ownEnd};
@@ -104,6 +104,16 @@ pub fn check_tables(words: &[u32], pairs: &[u32], text: &[u8]) -> Check
         return Check::Passed;
     }
     Check::Failed(Refusal::BadPair)
+}
+
+// What is tested before anything is printed: the level, then the tables.
+pub fn check_call(words: &[u32], pairs: &[u32], text: &[u8], level: u32) -> Check
+    ensures { λ r. ⌜ r ≡ checkCall (now (words .entry)) (now (pairs .entry)) (now (text .entry)) level ⌝ }
+{
+    match check_level(level) {
+        Check::Passed => check_tables(words, pairs, text),
+        Check::Failed(r) => Check::Failed(r),
+    }
 }
 
 // The sixteen fixed names stand one behind the other in `put_fixed`: where each starts, and how long it is.

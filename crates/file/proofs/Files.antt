@@ -16,6 +16,7 @@ use Rattle.numbers.specs.Numbers.{numberAt, numbersAt}
 use Rattle.numbers.proofs.Fronts.{front-back}
 use Rattle.text.specs.declared.TextAnswer.the-variants.{Refused}
 use Rattle.text.specs.Calls.{filled}
+use Rattle.encoding.specs.Filled.{filledBy}
 use Rattle.declaration_call.specs.Calls.{declarationText}
 use Rattle.file.specs.File.{encodedText, describedText, fileText, printed, printedFile}
 
@@ -44,7 +45,7 @@ call-of p q r = cc
 
 module _ (file o : List ℕ) where
   pub header-short : length file < 12 → (Refused BadFileLength, o) ≡ filled o (fileText file)
-  unfolding filled fileText
+  unfolding filledBy fileText
   header-short h = rw (lt-ltb (length file) 12 h)
 
 module _ (file o : List ℕ) {pairs words size : ℕ} (h : 12 ≤ length file) (p : pairs ≡ numberAt file 0) (w : words ≡ numberAt file 4) (t : size ≡ numberAt file 8) where
@@ -53,20 +54,20 @@ module _ (file o : List ℕ) {pairs words size : ℕ} (h : 12 ≤ length file) (
   described = rw (le-ltb (length file) 12 h, p, w, t)
 
   pub pairs-over : 1024 < pairs → (Refused Overlong, o) ≡ filled o (fileText file)
-  unfolding filled describedText
+  unfolding filledBy describedText
   pairs-over a = rw (described, lt-ltb 1024 pairs a)
 
   pub words-over : pairs ≤ 1024 → 8192 < words → (Refused Overlong, o) ≡ filled o (fileText file)
-  unfolding filled describedText
+  unfolding filledBy describedText
   words-over a b = rw (described, le-ltb 1024 pairs a, lt-ltb 8192 words b)
 
   pub text-over : pairs ≤ 1024 → words ≤ 8192 → 16384 < size → (Refused Overlong, o) ≡ filled o (fileText file)
-  unfolding filled describedText
+  unfolding filledBy describedText
   text-over a b c = rw (described, le-ltb 1024 pairs a, le-ltb 8192 words b, lt-ltb 16384 size c)
 
   module _ (a : pairs ≤ 1024) (b : words ≤ 8192) (c : size ≤ 16384) where
     pub length-wrong : (length file ≡ 12 + 8 * pairs + 4 * words + size → ⊥) → (Refused BadFileLength, o) ≡ filled o (fileText file)
-    unfolding filled describedText
+    unfolding filledBy describedText
     length-wrong d = rw (described, le-ltb 1024 pairs a, le-ltb 8192 words b, le-ltb 16384 size c, ne-eqb (length file) (12 + 8 * pairs + 4 * words + size) d)
 
     pub length-right : length file ≡ 12 + 8 * pairs + 4 * words + size → encodedText pairs words file ≡ fileText file

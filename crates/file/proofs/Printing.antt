@@ -19,6 +19,7 @@ use Rattle.encoding.proofs.Tables.{impossible}
 use Rattle.text.specs.declared.TextAnswer.{TextAnswer}
 use Rattle.text.specs.declared.TextAnswer.the-variants.{Length, Refused}
 use Rattle.text.specs.Calls.{filled}
+use Rattle.encoding.specs.Filled.{filledBy}
 use Rattle.file.specs.File.{decimal, refusalLine, printed, atFront}
 
 -- ---- numbers and refusals
@@ -113,7 +114,7 @@ module _ (o after : List ℕ) (r : TextAnswer) (full : 65537 ≡ length o) where
 
   pub text-printed : (a : Answer Bytes) → _≡_ {A = TextAnswer × List ℕ} (r, after) (filled (take 65536 o) a)
       → {n m : ℕ} {o′ : List ℕ} → r ≡ Length n → Wrote (after ++ drop 65536 o) n (ascii "\n") o′ m → (m, o′) ≡ atFront (printed a) o
-  unfolding filled answer-of
+  unfolding filledBy answer-of
   text-printed (given b) e q w = answered (leb (length b) (length (take 65536 o))) b refl e q w
   text-printed (refused k) e q w =
       let p : r ≡ Refused k = ap answer-of e in
@@ -141,7 +142,7 @@ module _ (o after : List ℕ) (r : TextAnswer) (full : 65537 ≡ length o) where
 
   pub refusal-printed : (a : Answer Bytes) → _≡_ {A = TextAnswer × List ℕ} (r, after) (filled (take 65536 o) a)
       → {k : Refusal} {m : ℕ} {o′ : List ℕ} → r ≡ Refused k → Wrote (after ++ drop 65536 o) 0 (refusalLine k) o′ m → (m, o′) ≡ atFront (printed a) o
-  unfolding filled answer-of buffer-of printed
+  unfolding filledBy answer-of buffer-of printed
   refusal-printed (given b) e q w = overfull (leb (length b) (length (take 65536 o))) b refl e q w
   refusal-printed (refused x) e {k} q w =
       let p : r ≡ Refused x = ap answer-of e in

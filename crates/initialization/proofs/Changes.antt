@@ -2,7 +2,7 @@
 use Prim.Native.Nat.{ℕ, suc, _+_, _-_, _≤_, _<_}
 use mathlib.Core.Path.{_≡_, refl, ap, sym, _∙_, subst}
 use mathlib.Core.Bool.{Bool, true, false}
-use mathlib.Core.List.{List, [], _∷_, _++_, map, append-nil}
+use mathlib.Core.List.{List, [], _∷_, _++_, map-append, append-nil}
 use mathlib.Core.Option.{Option, some, none}
 use native.Mathlib.Omega.{arith}
 use borrow.Author.Tests.{eq-eqb, ne-eqb, eqb-true}
@@ -49,11 +49,7 @@ use Rattle.initialization.proofs.Parts.{tree-words, array-below, apply-
 -- an application of a path to one type: its words, and those before the type
 pub one-words : (p : Path ℕ) (a : Ty ℕ) → encode (TypeApp (TypeFromPath p) (cons a nil)) ≡ (14 ∷ 1 ∷ encode (TypeFromPath p)) ++ encode a
 unfolding encode tokens tokensAll tokenWord count
-one-words p a = rw (append-nil (tokens a)) (ap (λ l. 14 ∷ 1 ∷ l) (encode-append (tokens (TypeFromPath p)) (tokens a)))
-  where
-    encode-append : (xs ys : List _) → map tokenWord (xs ++ ys) ≡ map tokenWord xs ++ map tokenWord ys
-    encode-append [] ys = refl
-    encode-append (x ∷ xs) ys = ap (λ l. tokenWord x ∷ l) (encode-append xs ys)
+one-words p a = rw (append-nil (tokens a)) (ap (λ l. 14 ∷ 1 ∷ l) (map-append tokenWord (tokens (TypeFromPath p)) (tokens a)))
 
 pub one-depth : (p : Path ℕ) (a : Ty ℕ) → 0 < depth a → depth (TypeApp (TypeFromPath p) (cons a nil)) ≡ 1 + depth a
 unfolding depth deepest

@@ -17,14 +17,14 @@ use Rattle.encoding.specs.Heads.{readPath}
 use Rattle.encoding.specs.Types.{pathOf}
 use Rattle.encoding.specs.Declarations.{structHead, enumHead, synonymHead, useHead, visibilityOf, readCounted, readVisibility, readName, readAttribute, readParameter, readFormal, readField, readNamelessField, readFields, readCase, readStruct, readEnum, readTypeSynonym, readUse, declarationAfter, readDeclaration}
 use Rattle.encoding.proofs.Tables.{impossible}
+use Rattle.encoding.proofs.Inside.{word-there, below-there}
 use Rattle.encoding.proofs.Types.{bind-got, made-got, made₂-got}
 use Rattle.trees.specs.Encode.{Token, word, name, tokenWord, pathTokens, tokens, encode}
 use Rattle.trees.specs.Numbered.{treeAt}
 use Rattle.trees.specs.Runs.{Run}
 use Rattle.trees.proofs.Spans.{type-stands}
-use Rattle.writing.proofs.Accepted.{below-there}
 use Rattle.pieces.specs.Pieces.{Piece, own, visibilityWord, runs, attributesTokens, titleTokens, useTokens, owned, counted, typePiece, parameterPieces, fieldPieces, namelessPieces, fieldsPieces, casePieces, heading, front, rest, pieces, pieceTokens, declarationTokens, encodeDeclaration}
-use Rattle.pieces.proofs.Steps.{any-word, below-word, visibility-word}
+use Rattle.pieces.proofs.Steps.{below-word, visibility-word}
 use Rattle.pieces.proofs.Openings.{titleThen, title-assoc}
 use Rattle.pieces.proofs.OpeningRuns.{Spelt, Spells, spelt-inside, spelt-then, spelt-word, spelt-as, counted-spells, name-spells, attributes-spell, path-spells}
 use Rattle.pieces.proofs.RenamedReading.{numberedAt}
@@ -104,7 +104,7 @@ module _ (ws : List ℕ) where
   unfolding readVisibility
   visibility-spells p v n l e =
       let m = made-got (readBelow 2 ws p) visibilityOf e in
-      let w = visibility-word (m .value) (below-there 2 ws p (m .reads) .1) in
+      let w = visibility-word (m .value) (below-there 2 ws p (m .reads) .below) in
       spelt-as ws (ap (λ i. i ∷ []) (sym w) ∙ ap (λ i. visibilityWord i ∷ []) (sym (m .made))) (spelt-word ws (below-word 2 ws p (m .reads)))
 
   module _ (bound : ℕ) (ty : ℕ → Reading (Ty ℕ)) (h : Spells (λ t. spell (typePiece t)) ws ty) where
@@ -141,7 +141,7 @@ module _ (ws : List ℕ) where
     unfolding readFields fieldsPieces tokenWord
     fields-spell p x n l e =
         let r = bind-got (readBelow 2 ws p) _ e in
-        go (r .value) (r .end) (below-there 2 ws p (r .first) .1) (spelt-word ws (below-word 2 ws p (r .first))) (r .rest)
+        go (r .value) (r .end) (below-there 2 ws p (r .first) .below) (spelt-word ws (below-word 2 ws p (r .first))) (r .rest)
       where
         go : (k q : ℕ) → k < 2 → Spelt ws p (k ∷ []) q
             → pick (eqb k 0) (readCounted ws (readField bound ws nm ty) q >>= λ xs r. got (NamedFields xs) r) (readCounted ws (readNamelessField bound ws nm ty) q >>= λ xs r. got (NamelessFields xs) r) ≡ got x n
@@ -246,7 +246,7 @@ module _ (ws : List ℕ) where
       unfolding readDeclaration declarationAfter
       declaration-spells e =
           let r = bind-got (readWord ws at) _ e in
-          go (r .value) (r .end) (spelt-word ws (any-word ws at (r .first))) (eqb (r .value) structHead) (eqb-true (r .value) structHead) (eqb (r .value) enumHead) (eqb-true (r .value) enumHead)
+          go (r .value) (r .end) (spelt-word ws (word-there ws at (r .first))) (eqb (r .value) structHead) (eqb-true (r .value) structHead) (eqb (r .value) enumHead) (eqb-true (r .value) enumHead)
           (eqb (r .value) synonymHead) (eqb-true (r .value) synonymHead) (eqb (r .value) useHead) (eqb-true (r .value) useHead) (r .rest)
         where
           go : (w p : ℕ) → Spelt ws at (w ∷ []) p → (a : Bool) → (a ≡ true → w ≡ structHead) → (b : Bool) → (b ≡ true → w ≡ enumHead) → (c : Bool) → (c ≡ true → w ≡ synonymHead)

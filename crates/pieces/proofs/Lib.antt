@@ -5,6 +5,7 @@ pub mod Steps
 pub mod Openings
 pub mod OpeningRuns
 pub mod Passes
+pub mod Ends
 pub mod Fronts
 pub mod RenamedReading
 pub mod WithTypes

@@ -16,20 +16,19 @@ use Rattle.encoding.specs.Heads.{readPath}
 use Rattle.encoding.specs.Types.{pathOf}
 use Rattle.encoding.specs.Declarations.{structHead, enumHead, synonymHead, useHead, readList, readCounted, readName, readAttribute}
 use Rattle.encoding.proofs.Tables.{impossible}
-use Rattle.encoding.proofs.Inside.{There}
+use Rattle.encoding.proofs.Inside.{There, word-there, below-there}
 use Rattle.encoding.proofs.Types.{bind-got, made-got, made₂-got}
 use Rattle.trees.specs.Encode.{Token, word, name, tokenWord, pathTokens}
 use Rattle.trees.specs.Runs.{Run}
 use Rattle.trees.proofs.Runs.{run-none, run-join}
 use Rattle.trees.proofs.Spans.{path-stands}
-use Rattle.writing.proofs.Accepted.{below-there}
 use Rattle.pieces.specs.declared.After.{After}
 use Rattle.pieces.specs.declared.After.the-variants.{FieldList, CaseList, OneType}
 use Rattle.pieces.specs.Pieces.{runs, attributeTokens, attributesTokens, titleTokens, useTokens}
 use Rattle.pieces.specs.Walks.{readEntry, Opening, readAttributes, readTitle, readUsing, openingAfter, readOpening}
 use Rattle.pieces.proofs.Scans.{entry}
 use Rattle.pieces.proofs.Ahead.{list-length}
-use Rattle.pieces.proofs.Steps.{any-word, below-word, one-run, two-run, visibility-word}
+use Rattle.pieces.proofs.Steps.{below-word, one-run, two-run, visibility-word}
 
 -- what f reads at a position stands there by its words, and ends behind them
 pub record Spelt (ws : List ℕ) (p : ℕ) (code : List ℕ) (n : ℕ) : Type 0 where
@@ -78,7 +77,7 @@ module _ (ws : List ℕ) where
   unfolding readCounted
   counted-spells code item h p xs n l e =
       let t = bind-got (readWord ws p) _ e in
-      let s = spelt-word (any-word ws p (t .first)) in
+      let s = spelt-word (word-there ws p (t .first)) in
       let u = list-spells code item h (t .value) (t .end) xs n (spelt-inside s) (t .rest) in
       spelt-as (ap (λ k. k ∷ runs code xs) (sym (list-length item (t .value) (t .end) (t .rest)))) (spelt-then (t .value ∷ []) (runs code xs) s u)
 
@@ -121,7 +120,7 @@ module _ (ws : List ℕ) where
         let a = bind-got (readAttributes bound ws (r .end)) _ (r .rest) in
         let t = bind-got (readEntry bound ws (a .end)) _ (a .rest) in
         let pair = entry bound ws (a .end) (t .first) in
-        let two = two-run ws (a .end) (below-word bound ws (a .end) (pair .first)) (any-word ws (pair .middle) (pair .second)) in
+        let two = two-run ws (a .end) (below-word bound ws (a .end) (pair .first)) (word-there ws (pair .middle) (pair .second)) in
         let s₁ = spelt-word (below-word bound ws q (r .first)) in
         let s₂ = attributes-spell (λ i. stop UnknownWord) (r .end) (a .value) (a .end) (spelt-inside s₁) (a .first) in
         let s₃ : Spelt ws (a .end) (t .value .0 ∷ t .value .1 ∷ []) (t .end) = record { run = two .0; end = two .1 } in
@@ -143,14 +142,14 @@ module _ (ws : List ℕ) where
         let v = got-value (x .rest) in
         let m : x .end ≡ n = got-end (x .rest) in
         subst (Spelt ws p (map tokenWord (o .tokens))) m
-        (spelt-as (ap (λ i. useHead ∷ i ∷ map tokenWord (pathTokens (pathOf ws (λ j. j) (x .value)))) (sym (visibility-word (r .value) (w .1))) ∙ ap (λ (y : Opening). map tokenWord (y .tokens)) v) all)
+        (spelt-as (ap (λ i. useHead ∷ i ∷ map tokenWord (pathTokens (pathOf ws (λ j. j) (x .value)))) (sym (visibility-word (r .value) (w .below))) ∙ ap (λ (y : Opening). map tokenWord (y .tokens)) v) all)
 
     -- the own words of an opening, and where it ends
     pub opening-run : (at : ℕ) (o : Opening) (n : ℕ) → readOpening bound ws at ≡ got o n → Run ws at (map tokenWord (o .tokens)) × (n ≡ at + length (o .tokens))
     unfolding readOpening openingAfter
     opening-run at o n e =
         let r = bind-got (readWord ws at) _ e in
-        let s = spelt-word (any-word ws at (r .first)) in
+        let s = spelt-word (word-there ws at (r .first)) in
         let t = go (r .value) (r .end) s (eqb (r .value) structHead) (eqb-true (r .value) structHead) (eqb (r .value) enumHead) (eqb-true (r .value) enumHead)
         (eqb (r .value) synonymHead) (eqb-true (r .value) synonymHead) (eqb (r .value) useHead) (eqb-true (r .value) useHead) (r .rest) in
         (t .run, t .end ∙ ap (λ i. at + i) (length-map (o .tokens) tokenWord))

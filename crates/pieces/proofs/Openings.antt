@@ -6,7 +6,7 @@ use mathlib.Core.Option.{some, none}
 use mathlib.Core.List.{List, [], _∷_, _++_, map, map-append, map-id}
 use lib.Dec.{eqb}
 use lib.ListN.{length, take, drop, length-map}
-use Rattle.rast.specs.Tree.{Global, Crate, Self, MSels, Ty}
+use Rattle.rast.specs.Tree.{Global, Crate, Self, Ty}
 use Rattle.rast.specs.Declaration.{Attribute, TypeParamDecl, Fields, EnumCase, StructDecl, EnumDecl, TypeDecl, UseDecl}
 use Rattle.encoding.specs.declared.Refusal.the-variants.{UnknownWord}
 use Rattle.encoding.specs.declared.PathAt.{PathAt}
@@ -16,15 +16,15 @@ use Rattle.encoding.specs.Heads.{readPath}
 use Rattle.encoding.specs.Types.{rootOf, pathOf}
 use Rattle.encoding.specs.Declarations.{structHead, enumHead, synonymHead, useHead, readList, readCounted, visibilityOf, readVisibility, readName, readAttribute, readParameter, readFields, readCase, readStruct, readEnum, readTypeSynonym, readUse, declarationAfter, readDeclaration}
 use Rattle.trees.specs.Renamed.{renamedSize}
-use Rattle.trees.specs.Encode.{Token, word, name, size, rootWord, names, pathTokens}
-use Rattle.trees.proofs.Spans.{root-nameless, select-root, select-names}
-use Rattle.trees.proofs.Renaming.{map-on}
+use Rattle.trees.specs.Encode.{Token, word, name, size, renamedToken, rootWord, names, pathTokens}
+use Rattle.trees.proofs.Spans.{path-names, path-root}
+use Rattle.trees.proofs.Renaming.{map-on, names-renamed}
 use Rattle.pieces.specs.declared.After.{After}
 use Rattle.pieces.specs.declared.After.the-variants.{FieldList, CaseList, OneType, NoMore}
 use Rattle.pieces.specs.declared.Walk.{Walk}
 use Rattle.pieces.specs.Pieces.{Piece, runs, owned, attributeTokens, attributesTokens, titleTokens, useTokens, parameterPieces, fieldsPieces, casePieces, counted, typePiece, heading, front, rest, pieces}
 use Rattle.pieces.specs.Renamed.{renamedAttribute}
-use Rattle.pieces.specs.Walks.{ahead, _&_, many, bodyOf, leftOf, readEntry, Opening, readOneAttribute, readAttributes, readTitle, readUsing, openingAfter, readOpening, opened, renamedToken}
+use Rattle.pieces.specs.Walks.{ahead, _&_, many, bodyOf, leftOf, readEntry, Opening, readOneAttribute, readAttributes, readTitle, readUsing, openingAfter, readOpening, opened}
 use Rattle.pieces.proofs.Ahead.{ahead-twice, and-last, and-same, many-none, list-length}
 use Rattle.pieces.proofs.Steps.{left-parameters, rest-after, members-cases}
 
@@ -40,14 +40,9 @@ root-same N r = go (eqb r 0) (eqb r 1)
     go false false = refl
 
 module _ {N : Type 0} (nm : ℕ → N) where
-  names-renamed : (xs : List ℕ) → map (renamedToken nm) (map name xs) ≡ map name (map nm xs)
-  unfolding renamedToken
-  names-renamed [] = refl
-  names-renamed (x ∷ xs) = ap (_∷_ (name (nm x))) (names-renamed xs)
-
   attribute-renamed : (a : Attribute ℕ) → map (renamedToken nm) (attributeTokens a) ≡ attributeTokens (renamedAttribute nm a)
   unfolding attributeTokens renamedToken
-  attribute-renamed a = rw (names-renamed (a .derived), length-map (a .derived) nm)
+  attribute-renamed a = rw (names-renamed nm (a .derived), length-map (a .derived) nm)
 
   each-renamed : (l : List (Attribute ℕ)) → map (renamedToken nm) (runs attributeTokens l) ≡ runs attributeTokens (map (renamedAttribute nm) l)
   unfolding runs
@@ -63,12 +58,11 @@ module _ {N : Type 0} (nm : ℕ → N) where
   title-renamed k d l x n = rw (map-append (renamedToken nm) (attributesTokens l) (name x ∷ word n ∷ []), attributes-renamed l)
 
   path-renamed : (ws : List ℕ) (p : PathAt) → map (renamedToken nm) (pathTokens (pathOf ws (λ i. i) p)) ≡ pathTokens (pathOf ws nm p)
-  unfolding pathTokens pathOf renamedToken
+  unfolding pathTokens renamedToken
   path-renamed ws p =
       let xs = take (p .count) (drop (p .start) ws) in
-      let e : names (MSels (rootOf (p .root)) (map (λ i. i) xs)) ≡ xs = select-names (rootOf (p .root)) (map (λ i. i) xs) ∙ rw (root-nameless {N = ℕ} (p .root), map-id xs) in
-      let d : names (MSels (rootOf (p .root)) (map nm xs)) ≡ map nm xs = select-names (rootOf (p .root)) (map nm xs) ∙ rw (root-nameless {N = N} (p .root)) in
-      rw (e, d, names-renamed xs, length-map xs nm, select-root (rootOf (p .root)) (map (λ i. i) xs), select-root (rootOf (p .root)) (map nm xs), root-same N (p .root))
+      let e : names (pathOf ws (λ i. i) p) ≡ xs = path-names ws (λ i. i) p ∙ map-id xs in
+      rw (e, path-names ws nm p, names-renamed nm xs, length-map xs nm, path-root ws (λ i. i) p, path-root ws nm p, root-same N (p .root))
 
 -- names by their numbers are as they stand
 pub tokens-same : (ks : List (Token ℕ)) → map (renamedToken (λ x. x)) ks ≡ ks
@@ -114,7 +108,7 @@ module _ {N : Type 0} (bound : ℕ) (ws : List ℕ) (nm : ℕ → N) (ty : ℕ �
       map-on nm (renamedAttribute nm) (readName bound ws (λ x. x) noType p) _ _ (name-read p) λ x q.
       map-on (map nm) (renamedAttribute nm) (readCounted ws (readName bound ws (λ x. x) noType) q) _ _ (counted-renamed ws nm _ _ name-read q) λ xs r. refl
 
-  attributes-read : (p : ℕ) → readCounted ws (readAttribute bound ws nm ty) p ≡ mapReading (map (renamedAttribute nm)) (readAttributes bound ws p)
+  pub attributes-read : (p : ℕ) → readCounted ws (readAttribute bound ws nm ty) p ≡ mapReading (map (renamedAttribute nm)) (readAttributes bound ws p)
   unfolding readAttributes
   attributes-read p = counted-renamed ws (renamedAttribute nm) (readOneAttribute bound ws) (readAttribute bound ws nm ty) attribute-read p
 

@@ -10,7 +10,7 @@ use Rattle.encoding.specs.declared.Refusal.{Refusal}
 use Rattle.encoding.specs.declared.Refusal.the-variants.{UnknownWord}
 use Rattle.encoding.specs.declared.Scan.{Scan}
 use Rattle.encoding.specs.declared.Scan.the-variants.{At, Refused}
-use Rattle.encoding.specs.Reading.{Reading, got, stop, _>>=_, readWord, readBelow, readNames}
+use Rattle.encoding.specs.Reading.{Reading, got, stop, _>>=_, mapReading, readWord, readBelow, readNames}
 use Rattle.encoding.specs.Scans.{ended}
 use Rattle.encoding.specs.Declarations.{readList, readCounted, readAttribute, readName, structHead, enumHead, synonymHead, useHead}
 use Rattle.encoding.proofs.Tables.{impossible}
@@ -34,6 +34,17 @@ two-stop (stop k) h d = cc
 pub end-got : {A : Type 0} (x : Reading A) {r : Scan} {n : ℕ} → r ≡ ended x → r ≡ At n → EndsAt x n
 end-got (got a m) {r} {n} e d = let q : m ≡ n = cc in record { value = a; reads = ap (got a) q }
 end-got (stop k) e d = impossible (cc)
+
+-- ---- ends: what is made of what was read does not matter
+
+pub ended-map : {A B : Type 0} (f : A → B) (x : Reading A) → ended (mapReading f x) ≡ ended x
+unfolding mapReading
+ended-map f (got a n) = refl
+ended-map f (stop r) = refl
+
+pub ended-made : {A B : Type 0} (x : Reading A) (f : A → B) → ended (x >>= λ a n. got (f a) n) ≡ ended x
+ended-made (got a n) f = refl
+ended-made (stop r) f = refl
 
 -- ---- two readings, one behind the other
 
@@ -91,22 +102,14 @@ names-ended b ws name (suc n) p = go (readBelow b ws p) (names-ended b ws name n
   where
     go : (x : Reading ℕ) → ((q : ℕ) → ended (readNames b ws n q) ≡ ended (readList (readName b ws name (λ i. stop UnknownWord)) n q)) → ended (x >>= λ w q. readNames b ws n q)
         ≡ ended ((x >>= λ w q. got (name w) q) >>= λ w q. readList (readName b ws name (λ i. stop UnknownWord)) n q >>= λ ws′ r. got (w ∷ ws′) r)
-    go (got w q) ih = ih q ∙ past (readList (readName b ws name (λ i. stop UnknownWord)) n q) (name w)
-      where
-        past : (y : Reading (List ℕ)) (a : ℕ) → ended y ≡ ended (y >>= λ l r. got (a ∷ l) r)
-        past (got l r) a = refl
-        past (stop k) a = refl
+    go (got w q) ih = ih q ∙ sym (ended-made (readList (readName b ws name (λ i. stop UnknownWord)) n q) (_∷_ (name w)))
     go (stop k) ih = refl
 
 pub attribute-ended : (b : ℕ) (ws : List ℕ) (p : ℕ) {x m q : ℕ} → readEntry b ws p ≡ got (x, m) q → ended (readNames b ws m q) ≡ ended (readOneAttribute b ws p)
 unfolding readAttribute readCounted readName
 attribute-ended b ws p {x} {m} {q} e =
     let t = entry b ws p e in
-    names-ended b ws (λ i. i) m q ∙ rw (t .first, t .second) (past (readList (readName b ws (λ i. i) (λ i. stop UnknownWord)) m q))
-  where
-    past : (y : Reading (List ℕ)) → ended y ≡ ended {A = Attribute ℕ} (y >>= λ l r. got (record { name = x; derived = l }) r)
-    past (got l r) = refl
-    past (stop k) = refl
+    names-ended b ws (λ i. i) m q ∙ rw (t .first, t .second) (sym (ended-made (readList (readName b ws (λ i. i) (λ i. stop UnknownWord)) m q) _))
 
 pub attribute-halts : (b : ℕ) (ws : List ℕ) (p : ℕ) {r : Refusal} → readEntry b ws p ≡ stop r → readOneAttribute b ws p ≡ stop r
 unfolding readAttribute readCounted readName
@@ -120,11 +123,7 @@ attribute-halts b ws p {r} e = go (no-entry b ws p e)
 pub list-more : {A : Type 0} (item : ℕ → Reading A) (left p : ℕ) {q : ℕ} → 0 < left → EndsAt (item p) q → ended (readList item left p) ≡ ended (readList item (left - 1) q)
 unfolding readList
 list-more item zero p h e = absurd (let z : ⊥ = omega arith in z)
-list-more {A} item (suc n) p {q} h e = rw (e .reads, sub-one (suc n)) (past (readList item n q))
-  where
-    past : (y : Reading (List A)) → ended (y >>= λ l r. got (e .value ∷ l) r) ≡ ended y
-    past (got l r) = refl
-    past (stop k) = refl
+list-more item (suc n) p {q} h e = rw (e .reads, sub-one (suc n)) (ended-made (readList item n q) (_∷_ (e .value)))
 
 pub list-stops : {A : Type 0} (item : ℕ → Reading A) (left p : ℕ) {r : Refusal} → 0 < left → item p ≡ stop r → ended (readList item left p) ≡ Refused r
 unfolding readList

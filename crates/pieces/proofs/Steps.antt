@@ -1,6 +1,6 @@
 -- Each step of a walk, by what is left to read before and behind it, under any names and any reader of types.
 use Prim.Native.Nat.{ℕ, zero, suc, _+_, _-_, _<_}
-use mathlib.Core.Path.{_≡_, refl, ap, sym, _∙_, subst}
+use mathlib.Core.Path.{_≡_, refl, ap, sym, _∙_}
 use mathlib.Core.Bool.{Bool, true, false}
 use mathlib.Core.List.{List, [], _∷_, map}
 use native.Mathlib.Omega.{arith}
@@ -13,18 +13,17 @@ use Rattle.encoding.specs.declared.Refusal.{Refusal}
 use Rattle.encoding.specs.Refusals.{pick}
 use Rattle.encoding.specs.Reading.{Reading, got, stop, _>>=_, mapReading, readWord, readBelow}
 use Rattle.encoding.specs.Declarations.{readList, readCounted, visibilityOf, readVisibility, readName, readParameter, readFormal, readField, readNamelessField, readFields, readCase}
-use Rattle.encoding.proofs.Inside.{Holds, There, Next, word-holds, below-holds}
-use Rattle.trees.specs.Encode.{Token, word, name, tokenWord}
+use Rattle.encoding.proofs.Inside.{There, word-there, below-there}
+use Rattle.trees.specs.Encode.{Token, word, name, tokenWord, renamedToken}
 use Rattle.trees.specs.Runs.{Run}
 use Rattle.trees.proofs.Runs.{run-one, run-two}
 use Rattle.trees.proofs.Spans.{next-there}
-use Rattle.writing.proofs.Accepted.{below-there}
 use Rattle.pieces.specs.declared.After.{After}
 use Rattle.pieces.specs.declared.After.the-variants.{FieldList, CaseList, OneType, NoMore}
 use Rattle.pieces.specs.declared.Walk.{Walk}
 use Rattle.pieces.specs.declared.Next.the-variants.{OwnWords, TypeDue, Ended, Halted}
 use Rattle.pieces.specs.Pieces.{Piece, own, type, visibilityWord, runs, owned, typePiece, counted, parameterPieces, fieldPieces, namelessPieces, fieldsPieces, casePieces}
-use Rattle.pieces.specs.Walks.{ahead, _&_, many, someFields, bodyOf, leftOf, readEntry, readTwo, moved, pastType, pastAlias, inParameter, inFields, inCases, inField, inCase, renamedToken, Stepped, type-due, parameter, no-parameter, fields, no-fields, cases, no-cases, alias, field, no-field, nameless, no-nameless, case, no-case, end}
+use Rattle.pieces.specs.Walks.{ahead, _&_, many, someFields, bodyOf, leftOf, readEntry, readTwo, moved, pastType, pastAlias, inParameter, inFields, inCases, inField, inCase, Stepped, type-due, parameter, no-parameter, fields, no-fields, cases, no-cases, alias, field, no-field, nameless, no-nameless, case, no-case, end}
 use Rattle.pieces.proofs.Scans.{Pair, NoPair, at-first, at-second, entry, no-entry, two, no-two}
 use Rattle.pieces.proofs.Ahead.{ahead-and, and-none, and-last, and-same, and-stop, many-none, item-more, many-stop, type-and, many-one, list-length}
 
@@ -35,11 +34,8 @@ visibility-word (suc zero) h = refl
 visibility-word (suc (suc v)) h = absurd (let z : ⊥ = omega arith in z)
 
 -- a word that was read stands there
-pub any-word : (ws : List ℕ) (p : ℕ) {x q : ℕ} → readWord ws p ≡ got x q → There ws p x q
-any-word ws p e = subst (Holds (There ws p)) e (word-holds ws p)
-
 pub below-word : (b : ℕ) (ws : List ℕ) (p : ℕ) {x q : ℕ} → readBelow b ws p ≡ got x q → There ws p x q
-below-word b ws p e = next-there (subst (Holds (Next b ws p)) e (below-holds b ws p))
+below-word b ws p e = next-there (below-there b ws p e)
 
 pub one-run : (ws : List ℕ) (p : ℕ) {x q : ℕ} → There ws p x q → Run ws p (x ∷ []) × (q ≡ p + 1)
 one-run ws p s = (rw (s .same) (run-one ws p (s .here)), s .next)
@@ -62,7 +58,7 @@ module _ {N : Type 0} (bound : ℕ) (ws : List ℕ) (nm : ℕ → N) (ty : ℕ �
       go (got ts r) h = ap (λ k. got (own (name (nm x)) ∷ own (word k) ∷ runs typePiece ts) r) (h ts r refl)
       go (stop r) h = refl
 
-  parameter-halts : (p : ℕ) {r : Refusal} → NoPair (readBelow bound ws p) (readWord ws) r → readParameter bound ws nm ty p ≡ stop r
+  pub parameter-halts : (p : ℕ) {r : Refusal} → NoPair (readBelow bound ws p) (readWord ws) r → readParameter bound ws nm ty p ≡ stop r
   unfolding readParameter readName readCounted
   parameter-halts p (at-first d) = rw d
   parameter-halts p (at-second d k) = rw (d, k)
@@ -97,7 +93,7 @@ module _ {N : Type 0} (bound : ℕ) (ws : List ℕ) (nm : ℕ → N) (ty : ℕ �
   fields-read : (p : ℕ) {k n q : ℕ} → Pair (readBelow 2 ws p) (readWord ws) k n q
       → mapReading fieldsPieces (readFields bound ws nm ty p) ≡ ahead (own (word k) ∷ own (word n) ∷ []) (someFields bound ws nm ty k n q)
   unfolding readFields someFields fieldsPieces
-  fields-read p {k} {n} {q} t = rw (t .first) (go k (t .second) (below-there 2 ws p (t .first) .1))
+  fields-read p {k} {n} {q} t = rw (t .first) (go k (t .second) (below-there 2 ws p (t .first) .below))
     where
       go : (k : ℕ) → readWord ws (t .middle) ≡ got n q → k < 2
           → mapReading fieldsPieces (pick (eqb k 0) (readCounted ws (readField bound ws nm ty) (t .middle) >>= λ xs r. got (NamedFields xs) r) (readCounted ws (readNamelessField bound ws nm ty) (t .middle) >>= λ xs r. got (NamelessFields xs) r))
@@ -106,7 +102,7 @@ module _ {N : Type 0} (bound : ℕ) (ws : List ℕ) (nm : ℕ → N) (ty : ℕ �
       go (suc zero) e h = kind-read (readNamelessField bound ws nm ty) namelessPieces NamelessFields 1 (t .middle) (λ xs. refl) e
       go (suc (suc k)) e h = absurd (let z : ⊥ = omega arith in z)
 
-  fields-halt : (p : ℕ) {r : Refusal} → NoPair (readBelow 2 ws p) (readWord ws) r → readFields bound ws nm ty p ≡ stop r
+  pub fields-halt : (p : ℕ) {r : Refusal} → NoPair (readBelow 2 ws p) (readWord ws) r → readFields bound ws nm ty p ≡ stop r
   unfolding readFields readCounted
   fields-halt p (at-first d) = rw d
   fields-halt p {r} (at-second {a = k} d e) = rw (d, e) (go (eqb k 0))
@@ -118,7 +114,7 @@ module _ {N : Type 0} (bound : ℕ) (ws : List ℕ) (nm : ℕ → N) (ty : ℕ �
   field-read : (p : ℕ) {v x q : ℕ} → Pair (readBelow 2 ws p) (readBelow bound ws) v x q
       → mapReading fieldPieces (readField bound ws nm ty p) ≡ ahead (own (word v) ∷ own (name (nm x)) ∷ []) (mapReading typePiece (ty q))
   unfolding readField readVisibility readFormal readName fieldPieces ahead mapReading
-  field-read p {v} {x} {q} t = rw (t .first, t .second) (go (ty q) (visibility-word v (below-there 2 ws p (t .first) .1)))
+  field-read p {v} {x} {q} t = rw (t .first, t .second) (go (ty q) (visibility-word v (below-there 2 ws p (t .first) .below)))
     where
       go : (y : Reading (Ty N)) → visibilityWord (visibilityOf v) ≡ v
           → mapReading fieldPieces ((y >>= λ t r. got (record { name = nm x; tpe = t }) r) >>= λ f r. got (record { visibility = visibilityOf v; formal = f }) r)
@@ -126,7 +122,7 @@ module _ {N : Type 0} (bound : ℕ) (ws : List ℕ) (nm : ℕ → N) (ty : ℕ �
       go (got u r) e = ap (λ k. got (own (word k) ∷ own (name (nm x)) ∷ type u ∷ []) r) e
       go (stop r) e = refl
 
-  field-halts : (p : ℕ) {r : Refusal} → NoPair (readBelow 2 ws p) (readBelow bound ws) r → readField bound ws nm ty p ≡ stop r
+  pub field-halts : (p : ℕ) {r : Refusal} → NoPair (readBelow 2 ws p) (readBelow bound ws) r → readField bound ws nm ty p ≡ stop r
   unfolding readField readVisibility readFormal readName
   field-halts p (at-first d) = rw d
   field-halts p (at-second d e) = rw (d, e)
@@ -134,14 +130,14 @@ module _ {N : Type 0} (bound : ℕ) (ws : List ℕ) (nm : ℕ → N) (ty : ℕ �
   nameless-read : (p : ℕ) {v q : ℕ} → readBelow 2 ws p ≡ got v q
       → mapReading namelessPieces (readNamelessField bound ws nm ty p) ≡ ahead (own (word v) ∷ []) (mapReading typePiece (ty q))
   unfolding readNamelessField readVisibility namelessPieces ahead mapReading
-  nameless-read p {v} {q} e = rw e (go (ty q) (visibility-word v (below-there 2 ws p e .1)))
+  nameless-read p {v} {q} e = rw e (go (ty q) (visibility-word v (below-there 2 ws p e .below)))
     where
       go : (y : Reading (Ty N)) → visibilityWord (visibilityOf v) ≡ v
           → mapReading namelessPieces (y >>= λ t r. got (record { visibility = visibilityOf v; tpe = t }) r) ≡ mapReading (λ qs. own (word v) ∷ qs) (mapReading typePiece y)
       go (got u r) d = ap (λ k. got (own (word k) ∷ type u ∷ []) r) d
       go (stop r) d = refl
 
-  nameless-halts : (p : ℕ) {r : Refusal} → readBelow 2 ws p ≡ stop r → readNamelessField bound ws nm ty p ≡ stop r
+  pub nameless-halts : (p : ℕ) {r : Refusal} → readBelow 2 ws p ≡ stop r → readNamelessField bound ws nm ty p ≡ stop r
   unfolding readNamelessField readVisibility
   nameless-halts p e = rw e
 
@@ -155,7 +151,7 @@ module _ {N : Type 0} (bound : ℕ) (ws : List ℕ) (nm : ℕ → N) (ty : ℕ �
       go (got fs r) = refl
       go (stop r) = refl
 
-  case-halts : (p : ℕ) {r : Refusal} → NoPair (readBelow bound ws p) (readBelow bound ws) r → readCase bound ws nm ty p ≡ stop r
+  pub case-halts : (p : ℕ) {r : Refusal} → NoPair (readBelow bound ws p) (readBelow bound ws) r → readCase bound ws nm ty p ≡ stop r
   unfolding readCase readName
   case-halts p (at-first d) = rw d
   case-halts p (at-second d e) = rw (d, e)
@@ -367,14 +363,14 @@ module _ {N : Type 0} (bound : ℕ) (ws : List ℕ) (nm : ℕ → N) (ty : ℕ �
   unfolding renamedToken tokenWord
   own-step w (parameter {x = x} {m = m} e h d) =
       let t = entry bound ws (w .place) d in
-      let r = two-run ws (w .place) (below-word bound ws (w .place) (t .first)) (any-word ws (t .middle) (t .second)) in
+      let r = two-run ws (w .place) (below-word bound ws (w .place) (t .first)) (word-there ws (t .middle) (t .second)) in
       record { tokens = name x ∷ word m ∷ []; reads = parameter-step w e h d; run = r .0; end = r .1; further = omega (arith, r .1) }
   own-step w (fields {k = k} {n = n} e d a h) =
       let t = entry 2 ws (w .place) h in
-      let r = two-run ws (w .place) (below-word 2 ws (w .place) (t .first)) (any-word ws (t .middle) (t .second)) in
+      let r = two-run ws (w .place) (below-word 2 ws (w .place) (t .first)) (word-there ws (t .middle) (t .second)) in
       record { tokens = word k ∷ word n ∷ []; reads = fields-step w e d a h; run = r .0; end = r .1; further = omega (arith, r .1) }
   own-step w (cases {n = n} e d a h) =
-      let r = one-run ws (w .place) (any-word ws (w .place) h) in
+      let r = one-run ws (w .place) (word-there ws (w .place) h) in
       record { tokens = word n ∷ []; reads = cases-step w e d a h; run = r .0; end = r .1; further = omega (arith, r .1) }
   own-step w (field {v = v} {x = x} e d a h k g) =
       let t = two 2 ws (w .place) bound g in

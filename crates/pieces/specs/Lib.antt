@@ -1,4 +1,5 @@
 pub mod Pieces
 pub mod Walks
+pub mod Ends
 pub mod Renamed
 pub mod WithTypes

@@ -1,24 +1,20 @@
 -- A walk over a declaration: what is left to read of it, as pieces, and how each step goes on.
-use Prim.Native.Nat.{ℕ, _-_, _≤_, _<_}
+use Prim.Native.Nat.{ℕ, _-_, _<_}
 use mathlib.Core.Path.{_≡_}
 use mathlib.Core.List.{List, _++_}
 use lib.Dec.{eqb}
-use lib.ListN.{length}
 use Rattle.rast.specs.Bytes.{Bytes}
 use Rattle.rast.specs.Tree.{Ty}
 use Rattle.rast.specs.Declaration.{Attribute}
 use Rattle.encoding.specs.declared.Refusal.{Refusal}
 use Rattle.encoding.specs.declared.Refusal.the-variants.{UnknownWord}
-use Rattle.encoding.specs.declared.Scan.the-variants.{At, Refused}
 use Rattle.encoding.specs.Refusals.{pick}
 use Rattle.encoding.specs.Reading.{Reading, got, stop, _>>=_, mapReading, readWord, readBelow}
-use Rattle.encoding.specs.Scans.{ended}
 use Rattle.encoding.specs.Tables.{nameBytes, nameCount}
 use Rattle.encoding.specs.Heads.{readPath}
 use Rattle.encoding.specs.Types.{pathOf, typeAt}
 use Rattle.encoding.specs.Declarations.{readList, readCounted, readAttribute, readParameter, readField, readNamelessField, readFields, readCase, visibilityOf, structHead, enumHead, synonymHead, useHead}
-use Rattle.trees.specs.Encode.{Token, word, name, size}
-use Rattle.trees.specs.Renamed.{renamedSize}
+use Rattle.trees.specs.Encode.{Token}
 use Rattle.pieces.specs.declared.After.{After}
 use Rattle.pieces.specs.declared.After.the-variants.{FieldList, CaseList, OneType, NoMore}
 use Rattle.pieces.specs.declared.Walk.{Walk}
@@ -26,8 +22,6 @@ use Rattle.pieces.specs.declared.Next.{Next}
 use Rattle.pieces.specs.declared.Next.the-variants.{OwnWords, TypeDue, Ended, Halted}
 use Rattle.pieces.specs.declared.Start.{Start}
 use Rattle.pieces.specs.declared.Start.the-variants.{Begun, NotBegun}
-use Rattle.pieces.specs.declared.Passing.{Passing}
-use Rattle.pieces.specs.declared.Passing.the-variants.{Behind, Through, NotThrough}
 use Rattle.pieces.specs.declared.Two.{Two}
 use Rattle.pieces.specs.declared.Two.the-variants.{Both, Neither}
 use Rattle.pieces.specs.Pieces.{Piece, runs, typePiece, parameterPieces, fieldPieces, namelessPieces, fieldsPieces, casePieces, counted, titleTokens, useTokens}
@@ -196,19 +190,7 @@ abbrev pub started : Reading Opening → Start
 started (got o n) = Begun (opened o n)
 started (stop r) = NotBegun r
 
--- an own word by other names
-unfoldable pub renamedToken : {N : Type 0} → (ℕ → N) → Token ℕ → Token N
-renamedToken nm (word k) = word k
-renamedToken nm (name x) = name (nm x)
-renamedToken nm (size s) = size (renamedSize nm s)
-
 -- ---- of an encoding
 
 abbrev pub leftAt : List ℕ → List ℕ → Bytes → Walk → Reading (List (Piece Bytes))
 leftAt ws pairs text w = leftOf (nameCount pairs) ws (nameBytes pairs text) (typeAt ws pairs text) w
-
--- a piece is passed: what is left ends where it ended before
-pub data Passed (ws pairs : List ℕ) (text : Bytes) (w : Walk) : Passing → Type 0 where
-  behind : {w′ : Walk} → ended (leftAt ws pairs text w) ≡ ended (leftAt ws pairs text w′) → w .place < w′ .place → w′ .place ≤ length ws → Passed ws pairs text w (Behind w′)
-  through : {n : ℕ} → ended (leftAt ws pairs text w) ≡ At n → Passed ws pairs text w (Through n)
-  not-through : {r : Refusal} → ended (leftAt ws pairs text w) ≡ Refused r → Passed ws pairs text w (NotThrough r)

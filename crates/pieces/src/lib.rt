@@ -1,12 +1,14 @@
-// A declaration as a run of own words and types: a walk that finds the types one behind the other, and acceptance by it.
+// A declaration as a run of own words and types: a walk that finds the types one behind the other; and acceptance, part by part.
 ghost use mathlib.Core.Path.{_≡_};
 ghost use Prim.Native.Nat.{_≤_, _<_};
 ghost use lib.ListN.{length};
-ghost use Rattle.encoding.specs.Tables.{Good, nameCount};
-ghost use Rattle.encoding.specs.Declarations.{readList, declarationAt};
+ghost use Rattle.encoding.specs.Tables.{Good};
+ghost use Rattle.encoding.specs.Types.{typeAt};
+ghost use Rattle.encoding.specs.Declarations.{readList, readCounted, declarationAt};
 ghost use Rattle.encoding.specs.Scans.{ended};
 ghost use Rattle.pieces.specs.declared.After.the-variants.{FieldList, CaseList, NoMore};
-ghost use Rattle.pieces.specs.Walks.{readEntry, readTwo, twoScan, moved, inField, Stepped, readOneAttribute, readAttributes, readUsing, readOpening, startedAt, titled, started, leftAt, Passed};
+ghost use Rattle.pieces.specs.Walks.{readEntry, readTwo, twoScan, moved, inField, Stepped, readOneAttribute, readAttributes, readUsing, readOpening, startedAt, titled, started};
+ghost use Rattle.pieces.specs.Ends.{parameterAt, formalAt, fieldEnd, eachFieldEnd, fieldsAt, caseAt, signatureEnd, headingEnd, structAt, enumAt, synonymAt, useEnd, heldAt};
 use encoding::PathScan;
 use encoding::Refusal;
 use encoding::Scan;
@@ -321,19 +323,15 @@ fn scan_attribute(words: &[u32], bound: usize, at: usize) -> Scan
 }
 
 // `count` attributes.
-fn scan_each(words: &[u32], bound: usize, at: usize, count: u32) -> Scan
+fn scan_each_attribute(words: &[u32], bound: usize, at: usize, count: u32) -> Scan
     ensures { λ r. ⌜ r ≡ ended (readList (readOneAttribute bound (now (words .entry))) count at) ⌝ }
 {
     let mut pos = at;
     let mut left = count;
     while 0 < left {
         match scan_attribute(words, bound, pos) {
-            Scan::At(next) => {
-                pos = next;
-            }
-            Scan::Refused(r) => {
-                return Scan::Refused(r);
-            }
+            Scan::At(next) => pos = next,
+            Scan::Refused(r) => return Scan::Refused(r),
         }
         left -= 1;
     }
@@ -345,7 +343,7 @@ fn scan_attributes(words: &[u32], bound: usize, at: usize) -> Scan
     ensures { λ r. ⌜ r ≡ ended (readAttributes bound (now (words .entry)) at) ⌝ }
 {
     match encoding::scan_word(words, at) {
-        WordScan::Word { value, next } => scan_each(words, bound, next, value),
+        WordScan::Word { value, next } => scan_each_attribute(words, bound, next, value),
         WordScan::NoWord(r) => Scan::Refused(r),
     }
 }
@@ -422,49 +420,257 @@ pub fn start_walk(words: &[u32], bound: usize, at: usize) -> Start
     }
 }
 
-// ---- acceptance
+// ---- acceptance: one function for each part of a declaration, which says where the part ends
 
-// How acceptance goes on: behind a piece, at the end, or not at all.
-pub enum Passing {
-    Behind(Walk),
-    Through(usize),
-    NotThrough(Refusal),
-}
-
-// One piece: own words, or a type, which is measured.
-fn pass_piece(words: &[u32], pairs: &[u32], text: &[u8], bound: usize, walk: Walk) -> Passing
-    requires { ⌜ (bound ≡ nameCount (now pairs)) × Good (now pairs) (now text) × (length (now words) ≤ 8192) × (walk .place ≤ length (now words)) ⌝ }
-    ensures { λ r. ⌜ Passed (now (words .entry)) (now (pairs .entry)) (now (text .entry)) walk r ⌝ }
+// Where the type at `at` ends. A plain type is one word.
+fn scan_type(words: &[u32], pairs: &[u32], text: &[u8], at: usize) -> Scan
+    requires { ⌜ Good (now pairs) (now text) × (length (now words) ≤ 8192) ⌝ }
+    ensures { λ r. ⌜ r ≡ ended (typeAt (now (words .entry)) (now (pairs .entry)) (now (text .entry)) at) ⌝ }
 {
-    match next_piece(words, bound, walk) {
-        Next::OwnWords(w) => Passing::Behind(w),
-        Next::TypeDue(w) => match measure::measure_type(words, pairs, text, walk.place) {
-            Measure::Measured { next, bytes: _ } => Passing::Behind(move_to(w, next)),
-            Measure::Stopped(r) => Passing::NotThrough(r),
-        },
-        Next::Ended => Passing::Through(walk.place),
-        Next::Halted(r) => Passing::NotThrough(r),
+    if words.len() <= at {
+        return Scan::Refused(Refusal::EndsEarly);
+    }
+    if words[at] < 12 {
+        return Scan::At(at + 1);
+    }
+    match measure::measure_type(words, pairs, text, at) {
+        Measure::Measured { next, bytes: _ } => Scan::At(next),
+        Measure::Stopped(r) => Scan::Refused(r),
     }
 }
 
-// What is left to a walk.
-fn accept_rest(words: &[u32], pairs: &[u32], text: &[u8], bound: usize, walk: Walk) -> Scan
-    requires { ⌜ (bound ≡ nameCount (now pairs)) × Good (now pairs) (now text) × (length (now words) ≤ 8192) × (walk .place ≤ length (now words)) ⌝ }
-    ensures { λ r. ⌜ r ≡ ended (leftAt (now (words .entry)) (now (pairs .entry)) (now (text .entry)) walk) ⌝ }
+// `count` types.
+fn scan_types(words: &[u32], pairs: &[u32], text: &[u8], at: usize, count: u32) -> Scan
+    requires { ⌜ Good (now pairs) (now text) × (length (now words) ≤ 8192) ⌝ }
+    ensures { λ r. ⌜ r ≡ ended (readList (typeAt (now (words .entry)) (now (pairs .entry)) (now (text .entry))) count at) ⌝ }
 {
-    let mut w = walk;
-    loop {
-        match pass_piece(words, pairs, text, bound, w) {
-            Passing::Behind(next) => {
-                w = next;
-            }
-            Passing::Through(end) => {
-                return Scan::At(end);
-            }
-            Passing::NotThrough(r) => {
-                return Scan::Refused(r);
-            }
+    let mut pos = at;
+    let mut left = count;
+    while 0 < left {
+        match scan_type(words, pairs, text, pos) {
+            Scan::At(next) => pos = next,
+            Scan::Refused(r) => return Scan::Refused(r),
         }
+        left -= 1;
+    }
+    Scan::At(pos)
+}
+
+// A parameter: a name, how many constraints, and these.
+fn scan_parameter(words: &[u32], pairs: &[u32], text: &[u8], at: usize) -> Scan
+    requires { ⌜ Good (now pairs) (now text) × (length (now words) ≤ 8192) ⌝ }
+    ensures { λ r. ⌜ r ≡ ended (parameterAt (now (words .entry)) (now (pairs .entry)) (now (text .entry)) at) ⌝ }
+{
+    match scan_entry(words, encoding::name_count(pairs), at) {
+        Two::Both {
+            first: _,
+            second,
+            next,
+        } => scan_types(words, pairs, text, next, second),
+        Two::Neither(r) => Scan::Refused(r),
+    }
+}
+
+// `count` parameters.
+fn scan_each_parameter(words: &[u32], pairs: &[u32], text: &[u8], at: usize, count: u32) -> Scan
+    requires { ⌜ Good (now pairs) (now text) × (length (now words) ≤ 8192) ⌝ }
+    ensures { λ r. ⌜ r ≡ ended (readList (parameterAt (now (words .entry)) (now (pairs .entry)) (now (text .entry))) count at) ⌝ }
+{
+    let mut pos = at;
+    let mut left = count;
+    while 0 < left {
+        match scan_parameter(words, pairs, text, pos) {
+            Scan::At(next) => pos = next,
+            Scan::Refused(r) => return Scan::Refused(r),
+        }
+        left -= 1;
+    }
+    Scan::At(pos)
+}
+
+// A name and a type.
+fn scan_formal(words: &[u32], pairs: &[u32], text: &[u8], at: usize) -> Scan
+    requires { ⌜ Good (now pairs) (now text) × (length (now words) ≤ 8192) ⌝ }
+    ensures { λ r. ⌜ r ≡ ended (formalAt (now (words .entry)) (now (pairs .entry)) (now (text .entry)) at) ⌝ }
+{
+    match encoding::scan_below(words, encoding::name_count(pairs), at) {
+        WordScan::Word { value: _, next } => scan_type(words, pairs, text, next),
+        WordScan::NoWord(r) => Scan::Refused(r),
+    }
+}
+
+// A field, named if `kind` is 0.
+fn scan_field(words: &[u32], pairs: &[u32], text: &[u8], kind: u32, at: usize) -> Scan
+    requires { ⌜ Good (now pairs) (now text) × (length (now words) ≤ 8192) ⌝ }
+    ensures { λ r. ⌜ r ≡ fieldEnd (now (words .entry)) (now (pairs .entry)) (now (text .entry)) kind at ⌝ }
+{
+    match encoding::scan_below(words, 2, at) {
+        WordScan::Word { value: _, next } => {
+            if kind == 0 {
+                return scan_formal(words, pairs, text, next);
+            }
+            scan_type(words, pairs, text, next)
+        }
+        WordScan::NoWord(r) => Scan::Refused(r),
+    }
+}
+
+// `count` fields.
+fn scan_each_field(
+    words: &[u32],
+    pairs: &[u32],
+    text: &[u8],
+    kind: u32,
+    at: usize,
+    count: u32,
+) -> Scan
+    requires { ⌜ Good (now pairs) (now text) × (length (now words) ≤ 8192) ⌝ }
+    ensures { λ r. ⌜ r ≡ eachFieldEnd (now (words .entry)) (now (pairs .entry)) (now (text .entry)) kind count at ⌝ }
+{
+    let mut pos = at;
+    let mut left = count;
+    while 0 < left {
+        match scan_field(words, pairs, text, kind, pos) {
+            Scan::At(next) => pos = next,
+            Scan::Refused(r) => return Scan::Refused(r),
+        }
+        left -= 1;
+    }
+    Scan::At(pos)
+}
+
+// Fields: their kind, how many, and these.
+fn scan_fields(words: &[u32], pairs: &[u32], text: &[u8], at: usize) -> Scan
+    requires { ⌜ Good (now pairs) (now text) × (length (now words) ≤ 8192) ⌝ }
+    ensures { λ r. ⌜ r ≡ ended (fieldsAt (now (words .entry)) (now (pairs .entry)) (now (text .entry)) at) ⌝ }
+{
+    match scan_entry(words, 2, at) {
+        Two::Both {
+            first,
+            second,
+            next,
+        } => scan_each_field(words, pairs, text, first, next, second),
+        Two::Neither(r) => Scan::Refused(r),
+    }
+}
+
+// A case: doc, name, fields.
+fn scan_case(words: &[u32], pairs: &[u32], text: &[u8], at: usize) -> Scan
+    requires { ⌜ Good (now pairs) (now text) × (length (now words) ≤ 8192) ⌝ }
+    ensures { λ r. ⌜ r ≡ ended (caseAt (now (words .entry)) (now (pairs .entry)) (now (text .entry)) at) ⌝ }
+{
+    let bound = encoding::name_count(pairs);
+    match scan_two(words, bound, bound, at) {
+        Two::Both {
+            first: _,
+            second: _,
+            next,
+        } => scan_fields(words, pairs, text, next),
+        Two::Neither(r) => Scan::Refused(r),
+    }
+}
+
+// `count` cases.
+fn scan_each_case(words: &[u32], pairs: &[u32], text: &[u8], at: usize, count: u32) -> Scan
+    requires { ⌜ Good (now pairs) (now text) × (length (now words) ≤ 8192) ⌝ }
+    ensures { λ r. ⌜ r ≡ ended (readList (caseAt (now (words .entry)) (now (pairs .entry)) (now (text .entry))) count at) ⌝ }
+{
+    let mut pos = at;
+    let mut left = count;
+    while 0 < left {
+        match scan_case(words, pairs, text, pos) {
+            Scan::At(next) => pos = next,
+            Scan::Refused(r) => return Scan::Refused(r),
+        }
+        left -= 1;
+    }
+    Scan::At(pos)
+}
+
+// Cases: how many, and these.
+fn scan_cases(words: &[u32], pairs: &[u32], text: &[u8], at: usize) -> Scan
+    requires { ⌜ Good (now pairs) (now text) × (length (now words) ≤ 8192) ⌝ }
+    ensures { λ r. ⌜ r ≡ ended (readCounted (now (words .entry)) (caseAt (now (words .entry)) (now (pairs .entry)) (now (text .entry))) at) ⌝ }
+{
+    match encoding::scan_word(words, at) {
+        WordScan::Word { value, next } => scan_each_case(words, pairs, text, next, value),
+        WordScan::NoWord(r) => Scan::Refused(r),
+    }
+}
+
+// A name, how many parameters, and these.
+fn scan_signature(words: &[u32], pairs: &[u32], text: &[u8], at: usize) -> Scan
+    requires { ⌜ Good (now pairs) (now text) × (length (now words) ≤ 8192) ⌝ }
+    ensures { λ r. ⌜ r ≡ signatureEnd (now (words .entry)) (now (pairs .entry)) (now (text .entry)) at ⌝ }
+{
+    match scan_entry(words, encoding::name_count(pairs), at) {
+        Two::Both {
+            first: _,
+            second,
+            next,
+        } => scan_each_parameter(words, pairs, text, next, second),
+        Two::Neither(r) => Scan::Refused(r),
+    }
+}
+
+// What a struct, an enum and a type synonym begin with behind the head: doc, attributes, name, parameters.
+fn scan_heading(words: &[u32], pairs: &[u32], text: &[u8], at: usize) -> Scan
+    requires { ⌜ Good (now pairs) (now text) × (length (now words) ≤ 8192) ⌝ }
+    ensures { λ r. ⌜ r ≡ headingEnd (now (words .entry)) (now (pairs .entry)) (now (text .entry)) at ⌝ }
+{
+    let bound = encoding::name_count(pairs);
+    match encoding::scan_below(words, bound, at) {
+        WordScan::Word { value: _, next } => match scan_attributes(words, bound, next) {
+            Scan::At(end) => scan_signature(words, pairs, text, end),
+            Scan::Refused(r) => Scan::Refused(r),
+        },
+        WordScan::NoWord(r) => Scan::Refused(r),
+    }
+}
+
+// A struct behind its head: what it begins with, and fields.
+fn scan_struct(words: &[u32], pairs: &[u32], text: &[u8], at: usize) -> Scan
+    requires { ⌜ Good (now pairs) (now text) × (length (now words) ≤ 8192) ⌝ }
+    ensures { λ r. ⌜ r ≡ ended (structAt (now (words .entry)) (now (pairs .entry)) (now (text .entry)) at) ⌝ }
+{
+    match scan_heading(words, pairs, text, at) {
+        Scan::At(next) => scan_fields(words, pairs, text, next),
+        Scan::Refused(r) => Scan::Refused(r),
+    }
+}
+
+// An enum: the same, and cases.
+fn scan_enum(words: &[u32], pairs: &[u32], text: &[u8], at: usize) -> Scan
+    requires { ⌜ Good (now pairs) (now text) × (length (now words) ≤ 8192) ⌝ }
+    ensures { λ r. ⌜ r ≡ ended (enumAt (now (words .entry)) (now (pairs .entry)) (now (text .entry)) at) ⌝ }
+{
+    match scan_heading(words, pairs, text, at) {
+        Scan::At(next) => scan_cases(words, pairs, text, next),
+        Scan::Refused(r) => Scan::Refused(r),
+    }
+}
+
+// A type synonym: the same, and a type.
+fn scan_synonym(words: &[u32], pairs: &[u32], text: &[u8], at: usize) -> Scan
+    requires { ⌜ Good (now pairs) (now text) × (length (now words) ≤ 8192) ⌝ }
+    ensures { λ r. ⌜ r ≡ ended (synonymAt (now (words .entry)) (now (pairs .entry)) (now (text .entry)) at) ⌝ }
+{
+    match scan_heading(words, pairs, text, at) {
+        Scan::At(next) => scan_type(words, pairs, text, next),
+        Scan::Refused(r) => Scan::Refused(r),
+    }
+}
+
+// A use behind its head: visibility and path.
+fn scan_use(words: &[u32], bound: usize, at: usize) -> Scan
+    ensures { λ r. ⌜ r ≡ useEnd bound (now (words .entry)) at ⌝ }
+{
+    match encoding::scan_below(words, 2, at) {
+        WordScan::Word { value: _, next } => match encoding::scan_path(words, bound, next) {
+            PathScan::OwnPath { path: _, next: end } => Scan::At(end),
+            PathScan::NoPath(r) => Scan::Refused(r),
+        },
+        WordScan::NoWord(r) => Scan::Refused(r),
     }
 }
 
@@ -473,9 +679,31 @@ pub fn accept_declaration(words: &[u32], pairs: &[u32], text: &[u8]) -> Scan
     requires { ⌜ Good (now pairs) (now text) × (length (now words) ≤ 8192) ⌝ }
     ensures { λ r. ⌜ r ≡ ended (declarationAt (now (words .entry)) (now (pairs .entry)) (now (text .entry)) 0) ⌝ }
 {
-    let bound = encoding::name_count(pairs);
-    match start_walk(words, bound, 0) {
-        Start::Begun(walk) => accept_rest(words, pairs, text, bound, walk),
-        Start::NotBegun(r) => Scan::Refused(r),
+    match encoding::scan_word(words, 0) {
+        WordScan::Word { value, next } => match value {
+            STRUCT => scan_struct(words, pairs, text, next),
+            ENUM => scan_enum(words, pairs, text, next),
+            SYNONYM => scan_synonym(words, pairs, text, next),
+            USE => scan_use(words, encoding::name_count(pairs), next),
+            _ => Scan::Refused(Refusal::UnknownWord),
+        },
+        WordScan::NoWord(r) => Scan::Refused(r),
+    }
+}
+
+// What an encoding holds.
+pub enum Whole {
+    AType,
+    ADeclaration,
+}
+
+// Where the type or the declaration at 0 ends, or the refusal that is met first.
+pub fn accept(what: Whole, words: &[u32], pairs: &[u32], text: &[u8]) -> Scan
+    requires { ⌜ Good (now pairs) (now text) × (length (now words) ≤ 8192) ⌝ }
+    ensures { λ r. ⌜ r ≡ ended (heldAt what (now (words .entry)) (now (pairs .entry)) (now (text .entry))) ⌝ }
+{
+    match what {
+        Whole::AType => scan_type(words, pairs, text, 0),
+        Whole::ADeclaration => accept_declaration(words, pairs, text),
     }
 }

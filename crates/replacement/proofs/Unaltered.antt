@@ -44,8 +44,8 @@ use Rattle.rebuild_declaration.specs.Replacer.{ReplaceModDecl}
 use Rattle.rebuild_declaration.specs.Laying.{encodePieces, deepestPiece, topPieces}
 use Rattle.rebuild_declaration.specs.Calls.{declarationIn, laidDeclaration, declarationRebuilt}
 use Rattle.rebuild_declaration.proofs.Pieces.{encode-none, encode-own, encode-type, declaration-words, declaration-depth}
-use Rattle.replacement.specs.declared.Whole.{Whole}
-use Rattle.replacement.specs.declared.Whole.the-variants.{AType, ADeclaration}
+use Rattle.pieces.specs.declared.Whole.{Whole}
+use Rattle.pieces.specs.declared.Whole.the-variants.{AType, ADeclaration}
 use Rattle.replacement.specs.Wholes.{laidBy, wholeRebuilt}
 use Rattle.replacement.proofs.Wholes.{ends-got, ends-alike, whole-answered}
 use Rattle.replacement.proofs.EachType.{Every, each-type, declaration-deep}

@@ -15,14 +15,13 @@ use Rattle.encoding.specs.Scans.{ended}
 use Rattle.encoding.specs.Types.{typeAt}
 use Rattle.encoding.specs.Declarations.{declarationAt}
 use Rattle.encoding.proofs.Tables.{impossible}
-use Rattle.measure.specs.declared.Measure.{Measure}
-use Rattle.measure.specs.declared.Measure.the-variants.{Measured, Stopped}
-use Rattle.measure.specs.Lengths.{measureOf}
 use Rattle.trees.specs.Numbered.{treeAt}
 use Rattle.writing.specs.Written.{Readable}
 use Rattle.replace.specs.Rules.{rulesOf, mappingOf}
+use Rattle.trees.proofs.Renaming.{spelled}
+use Rattle.pieces.specs.Ends.{heldAt}
 use Rattle.pieces.proofs.RenamedReading.{declaration-spelled}
-use Rattle.rules.proofs.Lists.{measured-tree, measured-no-tree}
+use Rattle.pieces.proofs.Scans.{ended-map}
 use Rattle.rebuild.specs.declared.Attempt.{Attempt}
 use Rattle.rebuild.specs.declared.RebuildAnswer.{RebuildAnswer}
 use Rattle.rebuild.specs.declared.RebuildAnswer.the-variants.{Refused}
@@ -30,16 +29,11 @@ use Rattle.rebuild.specs.Laid.{ruleList, mapping}
 use Rattle.rebuild.specs.Calls.{Laid, laidDown, laidType, Attempted, Fills}
 use Rattle.rebuild.proofs.Calls.{tree-stops, tree-over, rules-stop-it, whole-filled}
 use Rattle.rebuild_declaration.specs.Calls.{declarationIn, laidDeclaration}
-use Rattle.replacement.specs.declared.Whole.{Whole}
-use Rattle.replacement.specs.declared.Whole.the-variants.{AType, ADeclaration}
+use Rattle.pieces.specs.declared.Whole.{Whole}
+use Rattle.pieces.specs.declared.Whole.the-variants.{AType, ADeclaration}
 use Rattle.replacement.specs.Wholes.{laidBy, wholeRebuilt}
 
 -- ---- where a reading ends
-
-ended-mapped : {A B : Type 0} (f : A → B) (x : Reading A) → ended (mapReading f x) ≡ ended x
-unfolding mapReading
-ended-mapped f (got a n) = refl
-ended-mapped f (stop k) = refl
 
 pub ends-got : {A : Type 0} (f : A → Laid) (x : Reading A) {n : ℕ} → ended (mapReading f x) ≡ At n → (a : A) × (x ≡ got a n)
 unfolding mapReading
@@ -53,23 +47,14 @@ ends-stop f (stop j) {k} e = let i : j ≡ k = cc in ap stop i
 
 -- where a tree ends does not depend on the mapping
 pub ends-alike : (what : Whole) (ws pairs : List ℕ) (m m′ : Ty ℕ → Ty ℕ) → ended (laidBy what ws pairs m) ≡ ended (laidBy what ws pairs m′)
-ends-alike AType ws pairs m m′ = ended-mapped (laidType m) (treeAt ws pairs 0) ∙ sym (ended-mapped (laidType m′) (treeAt ws pairs 0))
-ends-alike ADeclaration ws pairs m m′ = ended-mapped (laidDeclaration m) (declarationIn ws pairs) ∙ sym (ended-mapped (laidDeclaration m′) (declarationIn ws pairs))
+ends-alike AType ws pairs m m′ = ended-map (laidType m) (treeAt ws pairs 0) ∙ sym (ended-map (laidType m′) (treeAt ws pairs 0))
+ends-alike ADeclaration ws pairs m m′ = ended-map (laidDeclaration m) (declarationIn ws pairs) ∙ sym (ended-map (laidDeclaration m′) (declarationIn ws pairs))
 
 -- ---- the answers of acceptance
 
-pub type-ends : (what : Whole) (ws pairs : List ℕ) (text : Bytes) (m : Ty ℕ → Ty ℕ) {r : Measure} {n b : ℕ} → what ≡ AType → r ≡ measureOf (typeAt ws pairs text 0) → r ≡ Measured n b → At n ≡ ended (laidBy what ws pairs m)
-unfolding mapReading
-type-ends what ws pairs text m w e d = let t = measured-tree ws pairs text 0 e d in rw (w, t .1) refl
-
-pub type-stops : (what : Whole) (ws pairs : List ℕ) (text : Bytes) (m : Ty ℕ → Ty ℕ) {r : Measure} {k : Refusal} → what ≡ AType → r ≡ measureOf (typeAt ws pairs text 0) → r ≡ Stopped k → Halted k ≡ ended (laidBy what ws pairs m)
-unfolding mapReading
-type-stops what ws pairs text m w e d = rw (w, measured-no-tree ws pairs text 0 e d) refl
-
-pub declaration-ends : (what : Whole) (ws pairs : List ℕ) (text : Bytes) (m : Ty ℕ → Ty ℕ) {r : Scan} → what ≡ ADeclaration → r ≡ ended (declarationAt ws pairs text 0) → r ≡ ended (laidBy what ws pairs m)
-declaration-ends what ws pairs text m w e =
-    e ∙ ap ended (declaration-spelled ws pairs text 0) ∙ ended-mapped _ (declarationIn ws pairs) ∙ sym (ended-mapped (laidDeclaration m) (declarationIn ws pairs))
-    ∙ ap (λ x. ended (laidBy x ws pairs m)) (sym w)
+pub held-ends : (what : Whole) (ws pairs : List ℕ) (text : Bytes) (m : Ty ℕ → Ty ℕ) → ended (laidBy what ws pairs m) ≡ ended (heldAt what ws pairs text)
+held-ends AType ws pairs text m = ended-map (laidType m) (treeAt ws pairs 0) ∙ sym (ap ended (spelled ws pairs text 0) ∙ ended-map _ (treeAt ws pairs 0))
+held-ends ADeclaration ws pairs text m = ended-map (laidDeclaration m) (declarationIn ws pairs) ∙ sym (ap ended (declaration-spelled ws pairs text 0) ∙ ended-map _ (declarationIn ws pairs))
 
 -- ---- the answer of an attempt
 

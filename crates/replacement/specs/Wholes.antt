@@ -10,8 +10,8 @@ use Rattle.trees.specs.Numbered.{treeAt}
 use Rattle.replace.specs.Rules.{rulesOf, mappingOf}
 use Rattle.rebuild.specs.Calls.{Laid, laidType, ruledBy}
 use Rattle.rebuild_declaration.specs.Calls.{declarationIn, laidDeclaration}
-use Rattle.replacement.specs.declared.Whole.{Whole}
-use Rattle.replacement.specs.declared.Whole.the-variants.{AType, ADeclaration}
+use Rattle.pieces.specs.declared.Whole.{Whole}
+use Rattle.pieces.specs.declared.Whole.the-variants.{AType, ADeclaration}
 
 -- what is laid down for the tree that begins the words
 abbrev pub laidBy : Whole → List ℕ → List ℕ → (Ty ℕ → Ty ℕ) → Reading Laid

@@ -17,31 +17,11 @@ ghost use Rattle.replacement.specs.Wholes.{laidBy, wholeRebuilt};
 use encoding::Check;
 use encoding::Refusal;
 use encoding::Scan;
-use measure::Measure;
+use pieces::Whole;
 use rebuild::Attempt;
 use rebuild::RebuildAnswer;
 use rebuild::Rebuilt;
 use rules::RulesAnswer;
-
-// What an encoding holds.
-pub enum Whole {
-    AType,
-    ADeclaration,
-}
-
-// Where the type or the declaration at the front of the words ends, or the refusal that is met first.
-fn accept(what: Whole, words: &[u32], pairs: &[u32], text: &[u8]) -> Scan
-    requires { ⌜ Good (now pairs) (now text) × (length (now words) ≤ 8192) ⌝ }
-    ensures { λ r. ⌜ r ≡ ended (laidBy what (now (words .entry)) (now (pairs .entry)) (λ t. t)) ⌝ }
-{
-    match what {
-        Whole::AType => match measure::measure_type(words, pairs, text, 0) {
-            Measure::Measured { next, bytes: _ } => Scan::At(next),
-            Measure::Stopped(r) => Scan::Refused(r),
-        },
-        Whole::ADeclaration => pieces::accept_declaration(words, pairs, text),
-    }
-}
 
 // The accepted type or declaration, rebuilt to the front of `out`.
 fn rebuild_whole(
@@ -176,7 +156,7 @@ fn read_and_fill(
     requires { ⌜ Good (now pairs) (now text) × (length (now words) ≤ 8192) × (length (now rules) ≤ 8192) ⌝ }
     ensures { λ r. ⌜ (r, now (out .exit)) ≡ laidDown (now (out .entry)) (wholeRebuilt what (now (words .entry)) (now (pairs .entry)) (now (text .entry)) (now (rules .entry))) ⌝ }
 {
-    match accept(what, words, pairs, text) {
+    match pieces::accept(what, words, pairs, text) {
         Scan::At(end) => {
             if end != words.len() {
                 return RebuildAnswer::Refused(Refusal::LeftOver);

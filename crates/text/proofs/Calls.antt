@@ -1,50 +1,19 @@
--- Laws of the text calls: from what was read, measured and written to the answer and the buffer.
-use Prim.Native.Nat.{ℕ, _≤_, _<_}
-use mathlib.Core.Path.{_≡_, refl, ap}
+-- An answered length lies within the buffer.
+use Prim.Native.Nat.{ℕ, _≤_}
+use mathlib.Core.Path.{_≡_, ap}
 use mathlib.Core.Bool.{Bool, true, false}
 use mathlib.Core.List.{List, _++_}
 use native.Mathlib.Omega.{arith}
-use borrow.Author.Tests.{le-leb, lt-leb, eq-eqb, ne-eqb}
 use lib.Dec.{leb}
 use lib.ListN.{length, drop, length-append}
-use lib.Seq.{sets}
 use Rattle.rast.specs.Bytes.{Bytes}
-use Rattle.output.proofs.Laws.{sets-front}
-use Rattle.encoding.specs.declared.Refusal.{Refusal}
-use Rattle.encoding.specs.declared.Refusal.the-variants.{LeftOver, BufferTooShort}
-use Rattle.encoding.specs.Refusals.{pick, Answer, given, refused, mapAnswer}
-use Rattle.encoding.specs.Reading.{Reading, got, stop, whole}
+use Rattle.encoding.specs.declared.Refusal.the-variants.{BufferTooShort}
+use Rattle.encoding.specs.Refusals.{pick, Answer, given, refused}
+use Rattle.encoding.specs.Filled.{filledBy}
 use Rattle.encoding.proofs.Tables.{impossible}
 use Rattle.text.specs.declared.TextAnswer.{TextAnswer}
 use Rattle.text.specs.declared.TextAnswer.the-variants.{Length, Refused}
 use Rattle.text.specs.Calls.{filled}
-
--- ---- answers
-
-module _ {A : Type 0} (f : A → Bytes) (size : ℕ) (o : List ℕ) (x : Reading A) where
-  pub text-stop : {k : Refusal} → x ≡ stop k → (Refused k, o) ≡ filled o (mapAnswer f (whole size x))
-  unfolding filled mapAnswer whole
-  text-stop e = rw e
-
-  pub text-left : {a : A} {n : ℕ} → x ≡ got a n → (n ≡ size → ⊥) → (Refused LeftOver, o) ≡ filled o (mapAnswer f (whole size x))
-  unfolding filled mapAnswer whole
-  text-left {n = n} e h = rw (e, ne-eqb n size h)
-
-  pub text-short : {a : A} {n : ℕ} → x ≡ got a n → n ≡ size → length o < length (f a) → (Refused BufferTooShort, o) ≡ filled o (mapAnswer f (whole size x))
-  unfolding filled mapAnswer whole
-  text-short {a} {n} e h k = rw (e, eq-eqb n size h, lt-leb (length (f a)) (length o) k)
-
-  pub text-done : {a : A} {n : ℕ} {o′ : List ℕ} (b : ℕ) → x ≡ got a n → n ≡ size → length (f a) ≤ length o → b ≡ length (f a) → o′ ≡ sets o 0 (f a)
-      → (Length b, o′) ≡ filled o (mapAnswer f (whole size x))
-  unfolding filled mapAnswer whole
-  text-done {a} {n} b e h k l w = rw (e, eq-eqb n size h, le-leb (length (f a)) (length o) k, l, w, sets-front (f a) o k)
-
-pub map-twice : {A B C : Type 0} (f : B → C) (g : A → B) (x : Answer A) → mapAnswer f (mapAnswer g x) ≡ mapAnswer (λ a. f (g a)) x
-unfolding mapAnswer
-map-twice f g (given a) = refl
-map-twice f g (refused r) = refl
-
--- ---- an answered length lies within the buffer
 
 answer-of : TextAnswer × List ℕ → TextAnswer
 answer-of p = p .0
@@ -67,7 +36,7 @@ module _ (o after : List ℕ) (r : TextAnswer) (n : ℕ) (q : r ≡ Length n) wh
       impossible (cc)
 
   pub within : (a : Answer Bytes) → _≡_ {A = TextAnswer × List ℕ} (r, after) (filled o a) → n ≤ length after
-  unfolding filled answer-of
+  unfolding filledBy answer-of
   within (given b) e = within-picked (leb (length b) (length o)) b e
   within (refused x) e =
       let p : r ≡ Refused x = ap answer-of e in

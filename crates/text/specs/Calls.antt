@@ -1,12 +1,11 @@
 -- What the text calls give: the answer, and what the buffer holds afterwards.
 use Prim.Native.Nat.{ℕ}
-use mathlib.Core.List.{List, _++_}
-use lib.Dec.{leb}
-use lib.ListN.{length, drop}
+use mathlib.Core.List.{List}
+use lib.ListN.{length}
 use Rattle.rast.specs.Bytes.{Bytes}
 use Rattle.rast.specs.ToString.{Path·ToString, Type·ToString}
-use Rattle.encoding.specs.declared.Refusal.the-variants.{BufferTooShort}
-use Rattle.encoding.specs.Refusals.{pick, Answer, given, refused, mapAnswer, unless}
+use Rattle.encoding.specs.Refusals.{Answer, mapAnswer, unless}
+use Rattle.encoding.specs.Filled.{filledBy}
 use Rattle.encoding.specs.Reading.{whole}
 use Rattle.encoding.specs.Tables.{checkLevel, nameBytes, nameCount}
 use Rattle.encoding.specs.Heads.{readPath}
@@ -14,10 +13,9 @@ use Rattle.encoding.specs.Types.{typeAt, typeOf, pathOf, pathIn}
 use Rattle.text.specs.declared.TextAnswer.{TextAnswer}
 use Rattle.text.specs.declared.TextAnswer.the-variants.{Length, Refused}
 
--- a text fills the front of the buffer, and the rest is unchanged; a refusal leaves all of it, and 8 comes after every other
-unfoldable pub filled : List ℕ → Answer Bytes → TextAnswer × List ℕ
-filled o (given b) = pick (leb (length b) (length o)) (Length (length b), b ++ drop (length b) o) (Refused BufferTooShort, o)
-filled o (refused r) = (Refused r, o)
+-- a text fills the front of the buffer, and the rest is unchanged; a refusal leaves all of it
+abbrev pub filled : List ℕ → Answer Bytes → TextAnswer × List ℕ
+filled = filledBy Length Refused
 
 -- the text of a type; of a path. The level shows in neither, and a bad one comes before all else.
 unfoldable pub typeText : List ℕ → List ℕ → Bytes → ℕ → Answer Bytes
@@ -26,13 +24,7 @@ typeText words pairs text level = unless (checkLevel level) (mapAnswer Type·ToS
 unfoldable pub pathText : List ℕ → List ℕ → Bytes → ℕ → Answer Bytes
 pathText words pairs text level = unless (checkLevel level) (mapAnswer Path·ToString (pathIn words pairs text))
 
--- ---- the same, where the level, and then the tables, are tested already
-
-abbrev pub tableTypeText : List ℕ → List ℕ → Bytes → Answer Bytes
-tableTypeText words pairs text = mapAnswer Type·ToString (typeOf words pairs text)
-
-abbrev pub tablePathText : List ℕ → List ℕ → Bytes → Answer Bytes
-tablePathText words pairs text = mapAnswer Path·ToString (pathIn words pairs text)
+-- ---- the same, where the level and the tables are tested already
 
 abbrev pub wholeTypeText : List ℕ → List ℕ → Bytes → Answer Bytes
 wholeTypeText words pairs text = mapAnswer Type·ToString (whole (length words) (typeAt words pairs text 0))

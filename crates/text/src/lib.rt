@@ -1,10 +1,9 @@
 // The text of a type and of a path, at a level, into a lent buffer.
 ghost use mathlib.Core.Path.{_≡_};
-ghost use mathlib.Core.Bool.{true};
 ghost use Prim.Native.Nat.{_≤_};
 ghost use lib.ListN.{length};
 ghost use Rattle.encoding.specs.Tables.{Good};
-ghost use Rattle.text.specs.Calls.{filled, typeText, pathText, tableTypeText, tablePathText, wholeTypeText, wholePathText};
+ghost use Rattle.text.specs.Calls.{filled, typeText, pathText, wholeTypeText, wholePathText};
 use encoding::Check;
 use encoding::PathScan;
 use encoding::Refusal;
@@ -36,31 +35,6 @@ fn fill_type(words: &[u32], pairs: &[u32], text: &[u8], out: &mut [u8]) -> TextA
     }
 }
 
-fn check_and_fill_type(words: &[u32], pairs: &[u32], text: &[u8], out: &mut [u8]) -> TextAnswer
-    ensures { λ r. ⌜ (r, now (out .exit)) ≡ filled (now (out .entry)) (tableTypeText (now (words .entry)) (now (pairs .entry)) (now (text .entry))) ⌝ }
-{
-    match encoding::check_tables(words, pairs, text) {
-        Check::Passed => fill_type(words, pairs, text, out),
-        Check::Failed(r) => TextAnswer::Refused(r),
-    }
-}
-
-// The text of the type that an encoding holds, in the front of `out`.
-pub fn type_text(
-    words: &[u32],
-    pairs: &[u32],
-    text: &[u8],
-    level: u32,
-    out: &mut [u8],
-) -> TextAnswer
-    ensures { λ r. ⌜ (r, now (out .exit)) ≡ filled (now (out .entry)) (typeText (now (words .entry)) (now (pairs .entry)) (now (text .entry)) level) ⌝ }
-{
-    match encoding::check_level(level) {
-        Check::Passed => check_and_fill_type(words, pairs, text, out),
-        Check::Failed(r) => TextAnswer::Refused(r),
-    }
-}
-
 fn fill_path(words: &[u32], pairs: &[u32], text: &[u8], out: &mut [u8]) -> TextAnswer
     requires { ⌜ Good (now pairs) (now text) × (length (now words) ≤ 8192) ⌝ }
     ensures { λ r. ⌜ (r, now (out .exit)) ≡ filled (now (out .entry)) (wholePathText (now (words .entry)) (now (pairs .entry)) (now (text .entry))) ⌝ }
@@ -82,11 +56,18 @@ fn fill_path(words: &[u32], pairs: &[u32], text: &[u8], out: &mut [u8]) -> TextA
     }
 }
 
-fn check_and_fill_path(words: &[u32], pairs: &[u32], text: &[u8], out: &mut [u8]) -> TextAnswer
-    ensures { λ r. ⌜ (r, now (out .exit)) ≡ filled (now (out .entry)) (tablePathText (now (words .entry)) (now (pairs .entry)) (now (text .entry))) ⌝ }
+// The text of the type that an encoding holds, in the front of `out`.
+pub fn type_text(
+    words: &[u32],
+    pairs: &[u32],
+    text: &[u8],
+    level: u32,
+    out: &mut [u8],
+) -> TextAnswer
+    ensures { λ r. ⌜ (r, now (out .exit)) ≡ filled (now (out .entry)) (typeText (now (words .entry)) (now (pairs .entry)) (now (text .entry)) level) ⌝ }
 {
-    match encoding::check_tables(words, pairs, text) {
-        Check::Passed => fill_path(words, pairs, text, out),
+    match encoding::check_call(words, pairs, text, level) {
+        Check::Passed => fill_type(words, pairs, text, out),
         Check::Failed(r) => TextAnswer::Refused(r),
     }
 }
@@ -101,8 +82,8 @@ pub fn path_text(
 ) -> TextAnswer
     ensures { λ r. ⌜ (r, now (out .exit)) ≡ filled (now (out .entry)) (pathText (now (words .entry)) (now (pairs .entry)) (now (text .entry)) level) ⌝ }
 {
-    match encoding::check_level(level) {
-        Check::Passed => check_and_fill_path(words, pairs, text, out),
+    match encoding::check_call(words, pairs, text, level) {
+        Check::Passed => fill_path(words, pairs, text, out),
         Check::Failed(r) => TextAnswer::Refused(r),
     }
 }

@@ -21,10 +21,16 @@ use Rattle.encoding.specs.Types.{rootOf, pathOf, sizeOf, readTypes, readNode, r
 use Rattle.encoding.proofs.Tables.{impossible}
 use Rattle.encoding.proofs.Types.{type-end}
 use Rattle.trees.specs.Renamed.{renamedPath, renamedSize, renamed, renamedAll}
-use Rattle.trees.specs.Encode.{Token, name, tokenWord, names, pathTokens, tokens, tokensAll, words, wordsAll, encode, encodeAll}
+use Rattle.trees.specs.Encode.{Token, name, tokenWord, renamedToken, names, pathTokens, tokens, tokensAll, words, wordsAll, encode, encodeAll}
 use Rattle.trees.specs.Numbered.{treeAt}
 use Rattle.trees.specs.Runs.{Run}
 use Rattle.trees.proofs.Spans.{type-stands}
+
+-- names as words, by other names
+pub names-renamed : {M N : Type 0} (f : M → N) (xs : List M) → map (renamedToken f) (map name xs) ≡ map name (map f xs)
+unfolding renamedToken
+names-renamed f [] = refl
+names-renamed f (x ∷ xs) = ap (_∷_ (name (f x))) (names-renamed f xs)
 
 -- what is read behind x′ is what is read behind x, mapped
 pub map-on : {A B C D : Type 0} (r : A → B) (s : C → D) (x : Reading A) {x′ : Reading B} (k : A → ℕ → Reading C) (k′ : B → ℕ → Reading D)

@@ -111,11 +111,11 @@ unfolding sizeOf tokenWord
 size-word zero = refl
 size-word (suc s) = let z : suc s - 1 ≡ s = omega arith in rw (ne-eqb (suc s) 0 (λ e. omega (arith, e)), z) refl
 
-root-known : (r : ℕ) → r < 3 → rootWord {N = ℕ} (rootOf r) ≡ r
+pub root-known : (N : Type 0) (r : ℕ) → r < 3 → rootWord {N = N} (rootOf r) ≡ r
 unfolding everyBelow _and_ rootWord rootOf
-root-known r h = eqb-true (rootWord {N = ℕ} (rootOf r)) r (every-at (λ i. eqb (rootWord {N = ℕ} (rootOf i)) i) 3 refl r h)
+root-known N r h = eqb-true (rootWord {N = N} (rootOf r)) r (every-at (λ i. eqb (rootWord {N = N} (rootOf i)) i) 3 refl r h)
 
-pub root-nameless : {N : Type 0} (r : ℕ) → names {N = N} (rootOf r) ≡ []
+root-nameless : {N : Type 0} (r : ℕ) → names {N = N} (rootOf r) ≡ []
 unfolding rootOf names
 root-nameless {N} r = go (eqb r 0) (eqb r 1)
   where
@@ -124,15 +124,24 @@ root-nameless {N} r = go (eqb r 0) (eqb r 1)
     go false true = refl
     go false false = refl
 
-pub select-root : {N : Type 0} (p : Path N) (xs : List N) → rootWord (MSels p xs) ≡ rootWord p
+select-root : {N : Type 0} (p : Path N) (xs : List N) → rootWord (MSels p xs) ≡ rootWord p
 unfolding MSels rootWord
 select-root p [] = refl
 select-root p (x ∷ xs) = select-root (PMemberSelect p x) xs
 
-pub select-names : {N : Type 0} (p : Path N) (xs : List N) → names (MSels p xs) ≡ names p ++ xs
+select-names : {N : Type 0} (p : Path N) (xs : List N) → names (MSels p xs) ≡ names p ++ xs
 unfolding MSels names
 select-names p [] = sym (append-nil (names p))
 select-names p (x ∷ xs) = select-names (PMemberSelect p x) xs ∙ append-assoc (names p) (x ∷ []) xs
+
+-- the names and the root of a path that stands there
+pub path-names : {N : Type 0} (ws : List ℕ) (nm : ℕ → N) (x : PathAt) → names (pathOf ws nm x) ≡ map nm (take (x .count) (drop (x .start) ws))
+unfolding pathOf
+path-names {N} ws nm x = select-names (rootOf (x .root)) (map nm (take (x .count) (drop (x .start) ws))) ∙ rw (root-nameless {N = N} (x .root))
+
+pub path-root : {N : Type 0} (ws : List ℕ) (nm : ℕ → N) (x : PathAt) → rootWord (pathOf ws nm x) ≡ rootWord {N = N} (rootOf (x .root))
+unfolding pathOf
+path-root ws nm x = select-root (rootOf (x .root)) (map nm (take (x .count) (drop (x .start) ws)))
 
 name-words : (xs : List ℕ) → map tokenWord (map name xs) ≡ xs
 unfolding tokenWord
@@ -145,13 +154,13 @@ Stands {A} code ws f = (p : ℕ) (a : A) (n : ℕ) → p ≤ length ws → f p �
 
 path-run : (ws : List ℕ) (p : ℕ) (x : PathAt) (q : ℕ) → PathWords ws p x q
     → Run ws p (map tokenWord (pathTokens (pathOf ws (λ i. i) x))) × (q ≡ p + length (map tokenWord (pathTokens (pathOf ws (λ i. i) x))))
-unfolding pathTokens pathOf tokenWord
+unfolding pathTokens tokenWord
 path-run ws p x q w =
     let xs = take (x .count) (drop (x .start) ws) in
     let l = run-part ws (x .start) (x .count) (omega (arith, w .inside, w .start)) in
-    let m : names (MSels (rootOf (x .root)) (map (λ i. i) xs)) ≡ xs = select-names (rootOf (x .root)) (map (λ i. i) xs) ∙ rw (root-nameless {N = ℕ} (x .root)) (map-id xs) in
+    let m : names (pathOf ws (λ i. i) x) ≡ xs = path-names ws (λ i. i) x ∙ map-id xs in
     let t : Run ws p (x .root ∷ x .count ∷ []) = rw (w .root, w .count) (run-two ws p (omega (arith, w .inside))) in
-    rw (m, select-root (rootOf (x .root)) (map (λ i. i) xs), root-known (x .root) (w .known), name-words xs, l .0)
+    rw (m, path-root ws (λ i. i) x, root-known ℕ (x .root) (w .known), name-words xs, l .0)
     (run-join (x .root ∷ x .count ∷ []) xs t (omega (arith, w .start)) (l .1), omega (arith, w .end))
 
 -- a path that was read stands there

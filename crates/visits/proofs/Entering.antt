@@ -19,7 +19,7 @@ use Rattle.encoding.specs.Types.{readTypes, typeAt}
 use Rattle.encoding.specs.Declarations.{declarationAt}
 use Rattle.encoding.proofs.Tables.{impossible}
 use Rattle.encoding.proofs.Types.{bind-got, type-lies}
-use Rattle.trees.specs.Encode.{Token, tokenWord, words}
+use Rattle.trees.specs.Encode.{Token, tokenWord, renamedToken, words}
 use Rattle.trees.proofs.Renaming.{type-words}
 use Rattle.writing.specs.declared.Spot.{Spot}
 use Rattle.writing.specs.Written.{Readable}
@@ -29,13 +29,14 @@ use Rattle.pieces.specs.declared.Start.{Start}
 use Rattle.pieces.specs.declared.Start.the-variants.{NotBegun}
 use Rattle.pieces.specs.declared.Next.the-variants.{OwnWords, TypeDue, Ended, Halted}
 use Rattle.pieces.specs.Pieces.{Piece, type, owned, typePiece, useTokens, front, rest, pieces}
-use Rattle.pieces.specs.Walks.{leftAt, moved, Stepped, Opening, opened, readOpening, started, renamedToken}
+use Rattle.pieces.specs.Walks.{leftAt, moved, Stepped, Opening, opened, readOpening, started}
 use Rattle.pieces.proofs.Steps.{own-step, due-step, end-step, halt-step}
 use Rattle.pieces.proofs.OpeningRuns.{opening-run}
 use Rattle.pieces.proofs.Passes.{BegunAt, not-begun}
 use Rattle.pieces.proofs.Fronts.{Behind, behind-got, whole-left, Kind, a-struct, an-enum, a-synonym, a-use, kind-of}
 use Rattle.visits.specs.Visited.{visitedFrom, visitedPieces, entered, visitedDeclaration, positions}
-use Rattle.visits.specs.Calls.{declarationVisitsOf, enteredAfter, enteredWalk, Ahead, Entered, AllVisited, Due, Visited}
+use Rattle.pieces.specs.declared.Whole.the-variants.{ADeclaration}
+use Rattle.visits.specs.Calls.{enteredAfter, enteredWalk, Ahead, Entered, AllVisited, Due, Visited}
 use Rattle.visits.proofs.Lists.{listOf, positions-append}
 
 module _ {N : Type 0} where
@@ -109,10 +110,10 @@ module _ (ws pairs : List ℕ) (text : Bytes) where
       let a : Ahead ws pairs text (enteredWalk (opened (b .opening) (b .end))) = record { few = f; inside = omega (arith, ap Walk.place (b .walk), b .inside); there = record { value = l .left; end = l .end; reads = l .reads } } in
       subst (λ (v : Walk). Ahead ws pairs text (enteredWalk v)) (sym (b .walk)) a
 
-  pub entered-all : {w : Walk} {o o′ : List ℕ} {p : ℕ} → Readable (declarationAt ws pairs text 0) → BegunAt ws pairs text w → Entered ws pairs text (enteredWalk w) o o′ p → AllVisited ws pairs text o o′ p
+  pub entered-all : {w : Walk} {o o′ : List ℕ} {p : ℕ} → Readable (declarationAt ws pairs text 0) → BegunAt ws pairs text w → Entered ws pairs text (enteredWalk w) o o′ p → AllVisited ADeclaration ws pairs text o o′ p
   entered-all {w} {o} {o′} {p} r b v = go (subst (λ (x : Walk). Entered ws pairs text (enteredWalk x) o o′ p) (b .walk) v)
     where
-      go : Entered ws pairs text (enteredWalk (opened (b .opening) (b .end))) o o′ p → AllVisited ws pairs text o o′ p
+      go : Entered ws pairs text (enteredWalk (opened (b .opening) (b .end))) o o′ p → AllVisited ADeclaration ws pairs text o o′ p
       go u =
           let l = entered-left (r .reads) (b .reads) in
           let same : u .pieces ≡ l .left = cc (u .reads, l .reads) in
@@ -130,9 +131,6 @@ module _ (ws pairs : List ℕ) (text : Bytes) where
       let n = not-begun ws pairs text e d in
       let m : ended (declarationAt ws pairs text 0) ≡ At (r .end) = ap ended (r .reads) in
       impossible (cc (n, m))
-
-  pub all-visited : {d : Declaration Bytes} {n : ℕ} {o o′ : List ℕ} {p : ℕ} → declarationAt ws pairs text 0 ≡ got d n → AllVisited ws pairs text o o′ p → Wrote o 0 (declarationVisitsOf d) o′ p
-  all-visited {d} e v = let same : v .value ≡ d = cc (e, v .reads) in wrote-as (ap declarationVisitsOf same) (v .wrote)
 
   -- ---- the pass over the walk
 

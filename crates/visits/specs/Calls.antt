@@ -1,16 +1,15 @@
 -- What the visit calls give, and what a pass over accepted types needs and does.
 use Prim.Native.Nat.{ℕ, _≤_}
 use mathlib.Core.Path.{_≡_}
-use mathlib.Core.List.{List, _++_}
-use lib.Dec.{leb}
-use lib.ListN.{length, drop}
+use mathlib.Core.List.{List}
+use lib.ListN.{length}
 use Rattle.rast.specs.Bytes.{Bytes}
 use Rattle.rast.specs.Tree.{Ty, Tys}
 use Rattle.rast.specs.Declaration.{Declaration}
 use Rattle.output.specs.Wrote.{Wrote}
-use Rattle.encoding.specs.declared.Refusal.the-variants.{BufferTooShort}
-use Rattle.encoding.specs.Refusals.{pick, Answer, given, refused, mapAnswer}
-use Rattle.encoding.specs.Reading.{got, whole}
+use Rattle.encoding.specs.Refusals.{Answer, mapAnswer}
+use Rattle.encoding.specs.Filled.{filledBy}
+use Rattle.encoding.specs.Reading.{Reading, got, whole}
 use Rattle.encoding.specs.Types.{readTypes, typeAt}
 use Rattle.encoding.specs.Declarations.{declarationAt}
 use Rattle.writing.specs.declared.Spot.{Spot}
@@ -23,19 +22,16 @@ use Rattle.pieces.specs.Pieces.{Piece}
 use Rattle.pieces.specs.Walks.{leftAt}
 use Rattle.visits.specs.declared.VisitAnswer.{VisitAnswer}
 use Rattle.visits.specs.declared.VisitAnswer.the-variants.{Count, Refused}
+use Rattle.pieces.specs.Ends.{Held, heldAt}
+use Rattle.pieces.specs.declared.Whole.{Whole}
+use Rattle.pieces.specs.declared.Whole.the-variants.{AType, ADeclaration}
 use Rattle.visits.specs.Visited.{visited, visitedAll, visitedPieces, visitedDeclaration, positions}
 
--- a list fills the front of the buffer, and the rest is unchanged; a refusal leaves all of it, and 8 comes after every other
-unfoldable pub filled : List ℕ → Answer (List ℕ) → VisitAnswer × List ℕ
-filled o (given b) = pick (leb (length b) (length o)) (Count (length b), b ++ drop (length b) o) (Refused BufferTooShort, o)
-filled o (refused r) = (Refused r, o)
+-- a list fills the front of the buffer, and the rest is unchanged; a refusal leaves all of it
+abbrev pub filled : List ℕ → Answer (List ℕ) → VisitAnswer × List ℕ
+filled = filledBy Count Refused
 
--- the visit list of a type, where the tables are tested already
-abbrev pub visitsOf : Ty Bytes → List ℕ
-visitsOf t = positions (visited (place 0 t))
-
-abbrev pub wholeTypeVisits : List ℕ → List ℕ → Bytes → Answer (List ℕ)
-wholeTypeVisits words pairs text = mapAnswer visitsOf (whole (length words) (typeAt words pairs text 0))
+-- ---- types
 
 -- `due` types stand at `at`, and no more positions were laid down than words passed
 pub record Due (ws pairs : List ℕ) (text : Bytes) (at due pos : ℕ) : Type 0 where
@@ -52,12 +48,6 @@ pub record Visited (ws pairs : List ℕ) (text : Bytes) (at due : ℕ) (o : List
   pub counted : s .pos ≤ s .next
 
 -- ---- declarations
-
-abbrev pub declarationVisitsOf : Declaration Bytes → List ℕ
-declarationVisitsOf d = positions (visitedDeclaration d)
-
-abbrev pub wholeDeclarationVisits : List ℕ → List ℕ → Bytes → Answer (List ℕ)
-wholeDeclarationVisits words pairs text = mapAnswer declarationVisitsOf (whole (length words) (declarationAt words pairs text 0))
 
 -- a walk that ends where the visitor does: a struct's fields are not entered
 abbrev pub enteredAfter : After → After
@@ -83,10 +73,21 @@ pub record Entered (ws pairs : List ℕ) (text : Bytes) (w : Walk) (o o′ : Lis
   pub wrote : Wrote o 0 (positions (visitedPieces (w .place) pieces)) o′ p
   pub counted : p ≤ length ws
 
--- the declaration's list was laid down
-pub record AllVisited (ws pairs : List ℕ) (text : Bytes) (o o′ : List ℕ) (p : ℕ) : Type 0 where
-  pub value : Declaration Bytes
+-- ---- what an encoding holds
+
+-- its visit list
+abbrev pub heldVisits : (what : Whole) → Held what → List ℕ
+heldVisits AType t = positions (visited (place 0 t))
+heldVisits ADeclaration d = positions (visitedDeclaration d)
+
+-- was laid down
+pub record AllVisited (what : Whole) (ws pairs : List ℕ) (text : Bytes) (o o′ : List ℕ) (p : ℕ) : Type 0 where
+  pub value : Held what
   pub end : ℕ
-  pub reads : declarationAt ws pairs text 0 ≡ got value end
-  pub wrote : Wrote o 0 (declarationVisitsOf value) o′ p
+  pub reads : heldAt what ws pairs text ≡ got value end
+  pub wrote : Wrote o 0 (heldVisits what value) o′ p
   pub counted : p ≤ length ws
+
+-- the list of a tree that fills the words, where the tables are tested already
+abbrev pub wholeVisits : Whole → List ℕ → List ℕ → Bytes → Answer (List ℕ)
+wholeVisits what words pairs text = mapAnswer (heldVisits what) (whole (length words) (heldAt what words pairs text))

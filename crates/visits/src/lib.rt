@@ -4,19 +4,23 @@ ghost use mathlib.Core.List.{[], _∷_};
 ghost use Prim.Native.Nat.{_≤_, _<_, _^_};
 ghost use lib.ListN.{length};
 ghost use Rattle.output.specs.Wrote.{Wrote};
-ghost use Rattle.encoding.specs.Tables.{Good, nameCount};
+ghost use Rattle.encoding.specs.Refusals.{unless};
+ghost use Rattle.encoding.specs.Tables.{Good, checkTables, nameCount};
+ghost use Rattle.encoding.specs.Scans.{ended};
 ghost use Rattle.encoding.specs.Declarations.{declarationAt};
 ghost use Rattle.writing.specs.Written.{Readable};
 ghost use Rattle.visits.specs.Visited.{typeVisits, declarationVisits};
-ghost use Rattle.visits.specs.Calls.{filled, wholeTypeVisits, Due, Visited, wholeDeclarationVisits, enteredAfter, enteredWalk, Ahead, Entered, AllVisited};
+ghost use Rattle.visits.specs.Calls.{filled, Due, Visited, enteredAfter, enteredWalk, Ahead, Entered, AllVisited, wholeVisits};
+ghost use Rattle.pieces.specs.Ends.{heldAt};
+ghost use Rattle.pieces.specs.declared.Whole.the-variants.{ADeclaration};
 use encoding::Check;
 use encoding::Refusal;
 use encoding::Scan;
-use measure::Measure;
 use pieces::After;
 use pieces::Next;
 use pieces::Start;
 use pieces::Walk;
+use pieces::Whole;
 use writing::Spot;
 
 // The length of the list that fills the front of the buffer, or a refusal: then the buffer is as it was.
@@ -71,43 +75,6 @@ fn visit_types(
     Spot {
         next: place,
         pos: p,
-    }
-}
-
-// A type is accepted, and its list counted, before a position is written, since a refusal leaves the buffer unchanged.
-fn fill_type(words: &[u32], pairs: &[u32], text: &[u8], out: &mut [u32]) -> VisitAnswer
-    requires { ⌜ Good (now pairs) (now text) × (length (now words) ≤ 8192) ⌝ }
-    ensures { λ r. ⌜ (r, now (out .exit)) ≡ filled (now (out .entry)) (wholeTypeVisits (now (words .entry)) (now (pairs .entry)) (now (text .entry))) ⌝ }
-{
-    match measure::measure_type(words, pairs, text, 0) {
-        Measure::Measured { next, bytes: _ } => {
-            if next != words.len() {
-                return VisitAnswer::Refused(Refusal::LeftOver);
-            }
-            // There are no more positions than words: only a shorter buffer needs a count first.
-            if words.len() <= out.len() {
-                let all = visit_types(words, pairs, text, 0, 1, out, 0);
-                return VisitAnswer::Count(all.pos);
-            }
-            let mut none = [0u32; 0];
-            let count = visit_types(words, pairs, text, 0, 1, &mut none, 0);
-            if out.len() < count.pos {
-                return VisitAnswer::Refused(Refusal::BufferTooShort);
-            }
-            let end = visit_types(words, pairs, text, 0, 1, out, 0);
-            VisitAnswer::Count(end.pos)
-        }
-        Measure::Stopped(r) => VisitAnswer::Refused(r),
-    }
-}
-
-// The visit list of the type that an encoding holds, in the front of `out`.
-pub fn type_visit(words: &[u32], pairs: &[u32], text: &[u8], out: &mut [u32]) -> VisitAnswer
-    ensures { λ r. ⌜ (r, now (out .exit)) ≡ filled (now (out .entry)) (typeVisits (now (words .entry)) (now (pairs .entry)) (now (text .entry))) ⌝ }
-{
-    match encoding::check_tables(words, pairs, text) {
-        Check::Passed => fill_type(words, pairs, text, out),
-        Check::Failed(r) => VisitAnswer::Refused(r),
     }
 }
 
@@ -180,7 +147,7 @@ fn visit_walk(
 // The declaration at 0, which was accepted.
 fn visit_declaration(words: &[u32], pairs: &[u32], text: &[u8], out: &mut [u32]) -> usize
     requires { ⌜ (length (now words) ≤ 8192) × Readable (declarationAt (now words) (now pairs) (now text) 0) ⌝ }
-    ensures { λ r. ⌜ AllVisited (now (words .entry)) (now (pairs .entry)) (now (text .entry)) (now (out .entry)) (now (out .exit)) r ⌝ }
+    ensures { λ r. ⌜ AllVisited ADeclaration (now (words .entry)) (now (pairs .entry)) (now (text .entry)) (now (out .entry)) (now (out .exit)) r ⌝ }
 {
     let bound = encoding::name_count(pairs);
     match pieces::start_walk(words, bound, 0) {
@@ -189,35 +156,67 @@ fn visit_declaration(words: &[u32], pairs: &[u32], text: &[u8], out: &mut [u32])
     }
 }
 
-// As `fill_type`.
-fn fill_declaration(words: &[u32], pairs: &[u32], text: &[u8], out: &mut [u32]) -> VisitAnswer
-    requires { ⌜ Good (now pairs) (now text) × (length (now words) ≤ 8192) ⌝ }
-    ensures { λ r. ⌜ (r, now (out .exit)) ≡ filled (now (out .entry)) (wholeDeclarationVisits (now (words .entry)) (now (pairs .entry)) (now (text .entry))) ⌝ }
+// ---- either
+
+// The type or the declaration at 0, which was accepted.
+fn visit_whole(what: Whole, words: &[u32], pairs: &[u32], text: &[u8], out: &mut [u32]) -> usize
+    requires { ⌜ (length (now words) ≤ 8192) × Readable (heldAt what (now words) (now pairs) (now text)) ⌝ }
+    ensures { λ r. ⌜ AllVisited what (now (words .entry)) (now (pairs .entry)) (now (text .entry)) (now (out .entry)) (now (out .exit)) r ⌝ }
 {
-    match pieces::accept_declaration(words, pairs, text) {
+    match what {
+        Whole::AType => {
+            let all = visit_types(words, pairs, text, 0, 1, out, 0);
+            all.pos
+        }
+        Whole::ADeclaration => visit_declaration(words, pairs, text, out),
+    }
+}
+
+// A tree is accepted, and its list counted, before a position is written, since a refusal leaves the buffer unchanged.
+fn fill(what: Whole, words: &[u32], pairs: &[u32], text: &[u8], out: &mut [u32]) -> VisitAnswer
+    requires { ⌜ Good (now pairs) (now text) × (length (now words) ≤ 8192) ⌝ }
+    ensures { λ r. ⌜ (r, now (out .exit)) ≡ filled (now (out .entry)) (wholeVisits what (now (words .entry)) (now (pairs .entry)) (now (text .entry))) ⌝ }
+{
+    match pieces::accept(what, words, pairs, text) {
         Scan::At(end) => {
             if end != words.len() {
                 return VisitAnswer::Refused(Refusal::LeftOver);
             }
+            // There are no more positions than words: only a shorter buffer needs a count first.
             if words.len() <= out.len() {
-                return VisitAnswer::Count(visit_declaration(words, pairs, text, out));
+                return VisitAnswer::Count(visit_whole(what, words, pairs, text, out));
             }
             let mut none = [0u32; 0];
-            if out.len() < visit_declaration(words, pairs, text, &mut none) {
+            if out.len() < visit_whole(what, words, pairs, text, &mut none) {
                 return VisitAnswer::Refused(Refusal::BufferTooShort);
             }
-            VisitAnswer::Count(visit_declaration(words, pairs, text, out))
+            VisitAnswer::Count(visit_whole(what, words, pairs, text, out))
         }
         Scan::Refused(r) => VisitAnswer::Refused(r),
     }
+}
+
+// The tables are tested first.
+fn visit_by(what: Whole, words: &[u32], pairs: &[u32], text: &[u8], out: &mut [u32]) -> VisitAnswer
+    ensures { λ r. ⌜ (r, now (out .exit)) ≡ filled (now (out .entry))
+        (unless (checkTables (now (words .entry)) (now (pairs .entry)) (now (text .entry))) (wholeVisits what (now (words .entry)) (now (pairs .entry)) (now (text .entry)))) ⌝ }
+{
+    match encoding::check_tables(words, pairs, text) {
+        Check::Passed => fill(what, words, pairs, text, out),
+        Check::Failed(r) => VisitAnswer::Refused(r),
+    }
+}
+
+// The visit list of the type that an encoding holds, in the front of `out`.
+pub fn type_visit(words: &[u32], pairs: &[u32], text: &[u8], out: &mut [u32]) -> VisitAnswer
+    ensures { λ r. ⌜ (r, now (out .exit)) ≡ filled (now (out .entry)) (typeVisits (now (words .entry)) (now (pairs .entry)) (now (text .entry))) ⌝ }
+{
+    visit_by(Whole::AType, words, pairs, text, out)
 }
 
 // The visit list of the declaration that an encoding holds, in the front of `out`.
 pub fn declaration_visit(words: &[u32], pairs: &[u32], text: &[u8], out: &mut [u32]) -> VisitAnswer
     ensures { λ r. ⌜ (r, now (out .exit)) ≡ filled (now (out .entry)) (declarationVisits (now (words .entry)) (now (pairs .entry)) (now (text .entry))) ⌝ }
 {
-    match encoding::check_tables(words, pairs, text) {
-        Check::Passed => fill_declaration(words, pairs, text, out),
-        Check::Failed(r) => VisitAnswer::Refused(r),
-    }
+    visit_by(Whole::ADeclaration, words, pairs, text, out)
 }

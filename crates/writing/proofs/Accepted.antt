@@ -15,30 +15,13 @@ use Rattle.encoding.specs.Reading.{got, _>>=_, readWord, readBelow, readNames}
 use Rattle.encoding.specs.Heads.{readPath, pathHead, headAfter, readHead, InsidePath}
 use Rattle.encoding.specs.Types.{primitives, pathOf, readNode, readType, typeAt}
 use Rattle.encoding.proofs.Tables.{impossible}
-use Rattle.encoding.proofs.Reading.{word-in, word-end, below-in, below-out, below-end}
 use Rattle.encoding.proofs.Heads.{head-at, head-plain, head-other, past-six}
-use Rattle.encoding.proofs.Inside.{head-lies, path-lies, path-end}
+use Rattle.encoding.proofs.Inside.{word-there, below-there, head-lies, path-lies, path-end}
 use Rattle.encoding.proofs.Types.{bind-got, node-of}
 use Rattle.writing.specs.Written.{nodeAt}
 
 got-same : {A : Type 0} {a b : A} {m n : ℕ} → got a m ≡ got b n → (a ≡ b) × (m ≡ n)
 got-same e = (cc, cc)
-
--- a word that was read stands there
-word-there : (ws : List ℕ) (p : ℕ) {v q : ℕ} → readWord ws p ≡ got v q → (p < length ws) × (v ≡ getD ws p 0) × (q ≡ p + 1)
-word-there ws p {v} {q} e = go (decLt p (length ws))
-  where
-    go : Dec (p < length ws) → (p < length ws) × (v ≡ getD ws p 0) × (q ≡ p + 1)
-    go (yes h) = let w = word-in ws p h in (h, cc, cc)
-    go (no h) = let w = word-end ws p (omega arith) in impossible (cc)
-
-pub below-there : (b : ℕ) (ws : List ℕ) (p : ℕ) {v q : ℕ} → readBelow b ws p ≡ got v q → (p < length ws) × (v < b) × (v ≡ getD ws p 0) × (q ≡ p + 1)
-below-there b ws p {v} {q} e = go (decLt p (length ws)) (decLt (getD ws p 0) b)
-  where
-    go : Dec (p < length ws) → Dec (getD ws p 0 < b) → (p < length ws) × (v < b) × (v ≡ getD ws p 0) × (q ≡ p + 1)
-    go (yes h) (yes k) = let w = below-in b ws p h k in let s : v ≡ getD ws p 0 = cc in (h, rw s k, s, cc)
-    go (yes h) (no k) = let w = below-out b ws p h (omega arith) in impossible (cc)
-    go (no h) k = let w = below-end b ws p (omega arith) in impossible (cc)
 
 module _ (ws pairs : List ℕ) (text : Bytes) (at : ℕ) {t : Ty Bytes} {n : ℕ} (e : typeAt ws pairs text at ≡ got t n) where
   record Headed : Type 0 where
@@ -80,9 +63,9 @@ module _ (ws pairs : List ℕ) (text : Bytes) (at : ℕ) {t : Ty Bytes} {n : ℕ
       let d = headed in
       let r = bind-got (readWord ws (at + 1)) _ (sym k ∙ d .reads) in
       let w = word-there ws (at + 1) (r .first) in
-      let i : f (getD ws (at + 1) 0) ≡ d .head = cc (r .rest, w .1) in
-      let o : at + 2 ≡ d .own = (let z : at + 2 ≡ at + 1 + 1 = omega arith in cc (r .rest, w .2)) in
-      (w .0, rw (i, o) (d .node))
+      let i : f (getD ws (at + 1) 0) ≡ d .head = cc (r .rest, w .same) in
+      let o : at + 2 ≡ d .own = (let z : at + 2 ≡ at + 1 + 1 = omega arith in cc (r .rest, w .next)) in
+      (w .here, rw (i, o) (d .node))
 
   -- and one that is below a bound
   pub by-below : (b : ℕ) (f : ℕ → Head) → headAfter (nameCount pairs) ws (getD ws at 0) (at + 1) ≡ (readBelow b ws (at + 1) >>= λ v q. got (f v) q)
@@ -91,9 +74,9 @@ module _ (ws pairs : List ℕ) (text : Bytes) (at : ℕ) {t : Ty Bytes} {n : ℕ
       let d = headed in
       let r = bind-got (readBelow b ws (at + 1)) _ (sym k ∙ d .reads) in
       let w = below-there b ws (at + 1) (r .first) in
-      let i : f (getD ws (at + 1) 0) ≡ d .head = cc (r .rest, w .2) in
-      let o : at + 2 ≡ d .own = (let z : at + 2 ≡ at + 1 + 1 = omega arith in cc (r .rest, w .3)) in
-      (w .0, rw (w .2) at (w .1), rw (i, o) (d .node))
+      let i : f (getD ws (at + 1) 0) ≡ d .head = cc (r .rest, w .same) in
+      let o : at + 2 ≡ d .own = (let z : at + 2 ≡ at + 1 + 1 = omega arith in cc (r .rest, w .next)) in
+      (w .here, rw (w .same) at (w .below), rw (i, o) (d .node))
 
   pub plain-type : getD ws at 0 < 12 → (t ≡ Primitive (getD primitives (getD ws at 0) U8)) × (n ≡ at + 1)
   unfolding readNode
@@ -133,17 +116,17 @@ module _ (ws pairs : List ℕ) (text : Bytes) (at : ℕ) {t : Ty Bytes} {n : ℕ
       let u = bind-got (readNames (nameCount pairs) ws (k .value) (k .end)) _ (k .rest) in
       let w₁ = below-there 3 ws (at + 1) (r .first) in
       let w₂ = word-there ws (r .end) (k .first) in
-      let e₁ : r .end ≡ at + 2 = (let z : at + 1 + 1 ≡ at + 2 = omega arith in cc (w₁ .3)) in
-      let e₂ : k .end ≡ at + 3 = (let z : at + 2 + 1 ≡ at + 3 = omega arith in cc (w₂ .2)) in
-      let e₃ : k .value ≡ getD ws (at + 2) 0 = cc (w₂ .1) in
-      let path : x .value ≡ path-there = cc (u .rest, w₁ .2) in
+      let e₁ : r .end ≡ at + 2 = (let z : at + 1 + 1 ≡ at + 2 = omega arith in cc (w₁ .next)) in
+      let e₂ : k .end ≡ at + 3 = (let z : at + 2 + 1 ≡ at + 3 = omega arith in cc (w₂ .next)) in
+      let e₃ : k .value ≡ getD ws (at + 2) 0 = cc (w₂ .same) in
+      let path : x .value ≡ path-there = cc (u .rest, w₁ .same) in
       let lies = path-lies (nameCount pairs) ws (at + 1) (x .first) in
       let ends = path-end (nameCount pairs) ws (at + 1) (x .first) in
       let i : FromPath (x .value) ≡ d .head = cc (x .rest) in
       let o : x .end ≡ d .own = cc (x .rest) in
       let m = subst (λ (k : Head). nodeAt ws pairs text k (d .own) ≡ got t n) (sym i) (d .node) in
       record {
-        inside = rw e₁ at (w₂ .0);
+        inside = rw e₁ at (w₂ .here);
         own = subst (InsidePath (nameCount pairs) ws) path (lies .own);
         type = sym (got-same m .0) ∙ ap (λ (p : PathAt). TypeFromPath (pathOf ws (nameBytes pairs text) p)) path;
         end = sym (got-same m .1) ∙ sym o ∙ ends ∙ ap (λ (p : PathAt). p .start + p .count) path;

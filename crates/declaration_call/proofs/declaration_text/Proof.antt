@@ -1,22 +1,26 @@
-use Rattle.declaration_call.proofs.Filling.{level-passed}
+use Rattle.encoding.specs.Declarations.{declarationOf}
+use Rattle.encoding.proofs.Answers.{call-filled, call-passed, call-refused, map-unless}
+use Rattle.encoding.proofs.Tables.{tables-passed}
+use Rattle.text.specs.declared.TextAnswer.the-variants.{Length, Refused}
 use Rattle.declaration_call.specs.Calls.{declarationText}
-use Rattle.encoding.specs.Refusals.{unless}
-use Rattle.text.specs.Calls.{filled}
+use Rattle.declaration_call.proofs.Filling.{level-passed}
 use mathlib.Core.Path.{_∙_, sym}
 use borrow.Author.Needs.{needs}
 use Rattle.declaration_call.proofs.declaration_text.Statement.{statement}
 use Rattle.declaration_call.proofs.declaration_text.Tie as tie
 
-check-level-requires : tie.Need-check-level-requires
-check-level-requires c κs = search needs
+check-call-requires : tie.Need-check-call-requires
+check-call-requires c κs = search needs
 
 enum-told : tie.Need-enum-told
 enum-told c = search needs
 
-check-and-fill-requires : tie.Need-check-and-fill-requires
-check-and-fill-requires c κs =
-    let start = c .before .before .before .before .before .before .before .before in
-    level-passed (start .args .level) (sym (c .before .before .before .check-level .ensures) ∙ c .before .enum-told .given .1)
+fill-requires : tie.Need-fill-requires
+fill-requires c κs =
+    let a = c .before .before .before .before .before .before .before .before .args in
+    let p = call-passed (a .words .now) (a .pairs .now) (a .text .now) (a .level) (sym (c .before .before .before .check-call .ensures) ∙ c .before .enum-told .given .1) in
+    let t = tables-passed (a .words .now) (a .pairs .now) (a .text .now) (p .1) in
+    (record { good = t .good; few = t .few }, level-passed (a .level) (p .0))
 
 enum-known-r : tie.Need-enum-known-r
 enum-known-r c = search needs
@@ -25,20 +29,24 @@ same-length : tie.Need-same-length
 same-length c = search needs
 
 returns : tie.Need-returns
-unfolding declarationText unless
-returns c = c .before .before .check-and-fill .ensures ∙ rw (sym (c .before .before .before .before .before .before .check-level .ensures) ∙ c .before .before .before .before .enum-told .given .1)
+unfolding declarationText declarationOf
+returns c =
+    let a = c .before .before .before .before .before .before .before .before .before .before .before .args in
+    rw map-unless (call-filled Length Refused (a .out .now) (a .words .now) (a .pairs .now) (a .text .now) (a .level) _ (sym (c .before .before .before .before .before .before .check-call .ensures) ∙ c .before .before .before .before .enum-told .given .1) (c .before .before .fill .ensures))
 
 returns-2 : tie.Need-returns-2
-unfolding declarationText unless filled
-returns-2 c = rw (sym (c .before .before .before .check-level .ensures) ∙ c .before .r .given .1)
+unfolding declarationText declarationOf
+returns-2 c =
+    let a = c .before .before .before .before .before .before .before .before .args in
+    rw map-unless (call-refused Length Refused (a .out .now) (a .words .now) (a .pairs .now) (a .text .now) (a .level) _ (sym (c .before .before .before .check-call .ensures) ∙ c .before .r .given .1))
 
 pub declaration-text-spec : {M : Type 1} → statement M
 declaration-text-spec =
     tie.close
     (tie.spec
-    check-level-requires
+    check-call-requires
     enum-told
-    check-and-fill-requires
+    fill-requires
     enum-known-r
     same-length
     returns

@@ -4,7 +4,7 @@ use Rattle.rast.specs.Bytes.{ascii}
 use Rattle.encoding.specs.Reading.{readBelow}
 use Rattle.encoding.specs.Tables.{fixedNames, nameCount}
 use Rattle.encoding.proofs.Reading.{word-got, word-stop}
-use Rattle.writing.proofs.Accepted.{below-there}
+use Rattle.encoding.proofs.Inside.{below-there}
 use Rattle.formal.proofs.Receivers.{tells-behind, tells-name, tells-no-name, tells-other}
 use native.Mathlib.Omega.{arith}
 use borrow.Author.Needs.{needs}
@@ -47,7 +47,7 @@ unfolding fixedNames ascii
 is-name-requires c κs =
     let a = c .before .before .before .before .before .before .before .before .before .before .before .before .args in
     let e = word-got (readBelow (nameCount (a .pairs .now)) (a .words .now) (a .at + 1)) (rw (c .before .before .before .before .before .name-count .ensures) at (c .before .before .before .before .scan-below .ensures)) (c .before .before .value .given .1) in
-    (below-there (nameCount (a .pairs .now)) (a .words .now) (a .at + 1) e .1, c .before .before .before .before .before .before .before .before .before .before .before .before .pre, omega arith, refl)
+    (below-there (nameCount (a .pairs .now)) (a .words .now) (a .at + 1) e .below, c .before .before .before .before .before .before .before .before .before .before .before .before .pre, omega arith, refl)
 
 enum-told : tie.Need-enum-told
 enum-told c = search needs

@@ -1,42 +1,91 @@
-use Rattle.pieces.proofs.Passes.{begun, begun-ends, not-begun}
-use mathlib.Core.Path.{_∙_}
+use Rattle.encoding.specs.Reading.{readWord}
+use Rattle.encoding.specs.Tables.{nameBytes, nameCount}
+use Rattle.encoding.specs.Types.{typeAt}
+use Rattle.encoding.specs.Declarations.{declarationAfter, readDeclaration, readUse}
+use Rattle.encoding.proofs.Reading.{word-got, word-stop}
+use Rattle.pieces.specs.Ends.{enumAt, structAt, synonymAt}
+use Rattle.pieces.proofs.Scans.{ended-made}
+use Rattle.pieces.proofs.Ends.{head-unknown, use-ended}
+use mathlib.Core.Path.{_∙_, sym}
 use borrow.Author.Needs.{needs}
 use Rattle.pieces.proofs.accept_declaration.Statement.{statement}
 use Rattle.pieces.proofs.accept_declaration.Tie as tie
 
+scan-word-requires : tie.Need-scan-word-requires
+scan-word-requires c κs = search needs
+
+enum-known-value : tie.Need-enum-known-value
+enum-known-value c = search needs
+
+scan-struct-requires : tie.Need-scan-struct-requires
+scan-struct-requires c κs = search needs
+
+scan-enum-requires : tie.Need-scan-enum-requires
+scan-enum-requires c κs = search needs
+
+scan-synonym-requires : tie.Need-scan-synonym-requires
+scan-synonym-requires c κs = search needs
+
 name-count-requires : tie.Need-name-count-requires
 name-count-requires c κs = search needs
 
-start-walk-requires : tie.Need-start-walk-requires
-start-walk-requires c κs = search needs
-
-enum-known-walk : tie.Need-enum-known-walk
-enum-known-walk c = search needs
-
-accept-rest-requires : tie.Need-accept-rest-requires
-accept-rest-requires c κs =
-    let b = begun (c .before .before .before .before .before .before .before .before .args .words .now) (c .before .before .before .before .before .before .before .before .args .pairs .now) (c .before .before .before .before .before .before .before .before .args .text .now) (rw (c .before .before .before .before .name-count .ensures) at (c .before .before .before .start-walk .ensures)) (c .before .walk .given .1) in
-    (c .before .before .before .before .name-count .ensures, c .before .before .before .before .before .before .before .before .pre .0, c .before .before .before .before .before .before .before .before .pre .1, b .inside)
+scan-use-requires : tie.Need-scan-use-requires
+scan-use-requires c κs = search needs
 
 enum-known-r : tie.Need-enum-known-r
 enum-known-r c = search needs
 
 returns : tie.Need-returns
+unfolding readDeclaration declarationAfter
 returns c =
-    c .accept-rest .ensures ∙ begun-ends (c .before .before .before .before .before .before .before .before .before .args .words .now) (c .before .before .before .before .before .before .before .before .before .args .pairs .now) (c .before .before .before .before .before .before .before .before .before .args .text .now) (begun (c .before .before .before .before .before .before .before .before .before .args .words .now) (c .before .before .before .before .before .before .before .before .before .args .pairs .now) (c .before .before .before .before .before .before .before .before .before .args .text .now) (rw (c .before .before .before .before .before .name-count .ensures) at (c .before .before .before .before .start-walk .ensures)) (c .before .before .walk .given .1))
+    let a = c .before .before .before .before .before .before .before .before .before .args in
+    c .scan-struct .ensures ∙ rw (word-got (readWord (a .words .now) 0) (c .before .before .before .before .before .scan-word .ensures) (c .before .before .before .value .given .1), c .before .match2 .keys1) (sym (ended-made (structAt (a .words .now) (a .pairs .now) (a .text .now) _) _))
 
 returns-2 : tie.Need-returns-2
+unfolding readDeclaration declarationAfter
 returns-2 c =
-    not-begun (c .before .before .before .before .before .before .before .before .args .words .now) (c .before .before .before .before .before .before .before .before .args .pairs .now) (c .before .before .before .before .before .before .before .before .args .text .now) (rw (c .before .before .before .before .name-count .ensures) at (c .before .before .before .start-walk .ensures)) (c .before .r .given .1)
+    let a = c .before .before .before .before .before .before .before .before .before .args in
+    c .scan-enum .ensures ∙ rw (word-got (readWord (a .words .now) 0) (c .before .before .before .before .before .scan-word .ensures) (c .before .before .before .value .given .1), c .before .match2 .keys2) (sym (ended-made (enumAt (a .words .now) (a .pairs .now) (a .text .now) _) _))
+
+returns-3 : tie.Need-returns-3
+unfolding readDeclaration declarationAfter
+returns-3 c =
+    let a = c .before .before .before .before .before .before .before .before .before .args in
+    c .scan-synonym .ensures ∙ rw (word-got (readWord (a .words .now) 0) (c .before .before .before .before .before .scan-word .ensures) (c .before .before .before .value .given .1), c .before .match2 .keys3) (sym (ended-made (synonymAt (a .words .now) (a .pairs .now) (a .text .now) _) _))
+
+returns-4 : tie.Need-returns-4
+unfolding readDeclaration declarationAfter
+returns-4 c =
+    let a = c .before .before .before .before .before .before .before .before .before .before .args in
+    rw (c .before .name-count .ensures) at (c .scan-use .ensures) ∙ use-ended (a .words .now) (a .pairs .now) (a .text .now) _ ∙ rw (word-got (readWord (a .words .now) 0) (c .before .before .before .before .before .before .scan-word .ensures) (c .before .before .before .before .value .given .1), c .before .before .match2 .keys4) (sym (ended-made (readUse (nameCount (a .pairs .now)) (a .words .now) (nameBytes (a .pairs .now) (a .text .now)) (typeAt (a .words .now) (a .pairs .now) (a .text .now)) _) _))
+
+returns-5 : tie.Need-returns-5
+unfolding readDeclaration
+returns-5 c =
+    let a = c .before .before .before .before .before .before .before .before .args in
+    rw (word-got (readWord (a .words .now) 0) (c .before .before .before .before .scan-word .ensures) (c .before .before .value .given .1), head-unknown (a .words .now) (a .pairs .now) (a .text .now) _ _ (c .match2 .rest .0 .0 .0 .1) (c .match2 .rest .0 .0 .1) (c .match2 .rest .0 .1) (c .match2 .rest .1))
+
+returns-6 : tie.Need-returns-6
+unfolding readDeclaration
+returns-6 c =
+    let a = c .before .before .before .before .before .before .before .args in
+    rw (word-stop (readWord (a .words .now) 0) (c .before .before .before .scan-word .ensures) (c .before .r .given .1))
 
 pub accept-declaration-spec : {M : Type 1} → statement M
 accept-declaration-spec =
     tie.close
     (tie.spec
+    scan-word-requires
+    enum-known-value
+    scan-struct-requires
+    scan-enum-requires
+    scan-synonym-requires
     name-count-requires
-    start-walk-requires
-    enum-known-walk
-    accept-rest-requires
+    scan-use-requires
     enum-known-r
     returns
-    returns-2)
+    returns-2
+    returns-3
+    returns-4
+    returns-5
+    returns-6)

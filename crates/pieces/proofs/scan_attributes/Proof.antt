@@ -13,8 +13,8 @@ scan-word-requires c κs = search needs
 enum-known-value : tie.Need-enum-known-value
 enum-known-value c = search needs
 
-scan-each-requires : tie.Need-scan-each-requires
-scan-each-requires c κs = search needs
+scan-each-attribute-requires : tie.Need-scan-each-attribute-requires
+scan-each-attribute-requires c κs = search needs
 
 enum-known-r : tie.Need-enum-known-r
 enum-known-r c = search needs
@@ -22,7 +22,7 @@ enum-known-r c = search needs
 returns : tie.Need-returns
 unfolding readAttributes readCounted
 returns c =
-    c .scan-each .ensures ∙ rw (word-got (readWord (c .before .before .before .before .before .before .args .words .now) (c .before .before .before .before .before .before .args .at)) (c .before .before .before .before .scan-word .ensures) (c .before .before .value .given .1))
+    c .scan-each-attribute .ensures ∙ rw (word-got (readWord (c .before .before .before .before .before .before .args .words .now) (c .before .before .before .before .before .before .args .at)) (c .before .before .before .before .scan-word .ensures) (c .before .before .value .given .1))
 
 returns-2 : tie.Need-returns-2
 unfolding readAttributes readCounted
@@ -35,7 +35,7 @@ scan-attributes-spec =
     (tie.spec
     scan-word-requires
     enum-known-value
-    scan-each-requires
+    scan-each-attribute-requires
     enum-known-r
     returns
     returns-2)

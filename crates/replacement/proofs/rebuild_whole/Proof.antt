@@ -3,7 +3,7 @@ use Rattle.rebuild.specs.Calls.{laidType}
 use Rattle.rebuild.specs.Laid.{mapping}
 use Rattle.rebuild_declaration.specs.Calls.{declarationIn, laidDeclaration}
 use Rattle.replacement.specs.Wholes.{laidBy}
-use Rattle.replacement.specs.declared.Whole.the-variants.{ADeclaration, AType}
+use Rattle.pieces.specs.declared.Whole.the-variants.{ADeclaration, AType}
 use Rattle.trees.specs.Numbered.{treeAt}
 use Rattle.writing.specs.Written.{Readable}
 use native.Mathlib.Omega.{arith}

@@ -1,8 +1,8 @@
+use Rattle.encoding.proofs.Inside.{below-there}
 use Rattle.encoding.proofs.Reading.{word-got, word-stop}
 use Rattle.encoding.specs.Reading.{readBelow}
 use Rattle.rules.proofs.Lists.{first-stops, listed-got, listed-stop, rules-distinct, rules-none, rules-over, rules-repeated, rules-some, rules-stop}
 use Rattle.rules.proofs.Tables.{tabled-fits}
-use Rattle.writing.proofs.Accepted.{below-there}
 use mathlib.Core.Path.{_∙_, sym}
 use native.Mathlib.Omega.{arith}
 use borrow.Author.Needs.{needs}
@@ -22,7 +22,7 @@ scan-list-requires : tie.Need-scan-list-requires
 scan-list-requires c κs =
     let a = c .before .before .before .before .before .before .before .before .args in
     let b = below-there 33 (a .rules .now) 0 (word-got (readBelow 33 (a .rules .now) 0) (c .before .before .before .before .scan-below .ensures) (c .before .before .value .given .1)) in
-    (c .before .before .before .before .before .before .before .before .pre .0, c .before .before .before .before .before .before .before .before .pre .1, omega (arith, b .1), omega (arith, b .0, b .3), c .before .before .before .before .before .before .before .before .pre .2)
+    (c .before .before .before .before .before .before .before .before .pre .0, c .before .before .before .before .before .before .before .before .pre .1, omega (arith, b .below), omega (arith, b .here, b .next), c .before .before .before .before .before .before .before .before .pre .2)
 
 enum-known-end : tie.Need-enum-known-end
 enum-known-end c = search needs
@@ -39,7 +39,7 @@ are-repeated-requires c κs =
     let a = c .before .before .before .before .before .before .before .before .before .before .before .before .before .before .args in
     let b = below-there 33 (a .rules .now) 0 (word-got (readBelow 33 (a .rules .now) 0) (c .before .before .before .before .before .before .before .before .before .before .scan-below .ensures) (c .before .before .before .before .before .before .before .before .value .given .1)) in
     let l = listed-got (c .before .before .before .before .before .scan-list .ensures) (c .before .before .before .end .given .1) in
-    (c .before .before .before .before .before .before .before .before .before .before .before .before .before .before .pre .0, tabled-fits (a .rules .now) _ (l .0) _ (l .3) (omega (arith, b .1)) (l .4) (l .2))
+    (c .before .before .before .before .before .before .before .before .before .before .before .before .before .before .pre .0, tabled-fits (a .rules .now) _ (l .0) _ (l .3) (omega (arith, b .below)) (l .4) (l .2))
 
 returns-2 : tie.Need-returns-2
 returns-2 c =
@@ -60,7 +60,7 @@ returns-3 c =
     let b = word-got (readBelow 33 (a .rules .now) 0) (c .before .before .before .before .before .before .before .before .before .before .before .before .scan-below .ensures) (c .before .before .before .before .before .before .before .before .before .before .value .given .1) in
     let h = below-there 33 (a .rules .now) 0 b in
     let l = listed-got (c .before .before .before .before .before .before .before .scan-list .ensures) (c .before .before .before .before .before .end .given .1) in
-    rules-some (rules-distinct (a .rules .now) (a .pairs .now) (a .text .now) b _ (l .1) (c .before .before .before .if1 .left) (l .2) (l .3) (sym (c .before .are-repeated .ensures) ∙ c .if2 .left)) (l .2) (l .3) (omega (arith, h .1)) (l .4)
+    rules-some (rules-distinct (a .rules .now) (a .pairs .now) (a .text .now) b _ (l .1) (c .before .before .before .if1 .left) (l .2) (l .3) (sym (c .before .are-repeated .ensures) ∙ c .if2 .left)) (l .2) (l .3) (omega (arith, h .below)) (l .4)
 
 returns-4 : tie.Need-returns-4
 returns-4 c =

@@ -7,7 +7,8 @@ use Rattle.encoding.specs.Heads.{readPath}
 use Rattle.encoding.specs.Types.{pathOf}
 use Rattle.encoding.proofs.Reading.{path-got, path-stop}
 use Rattle.encoding.proofs.Inside.{path-lies}
-use Rattle.text.proofs.Calls.{map-twice, text-stop, text-left, text-short, text-done}
+use Rattle.encoding.proofs.Answers.{map-twice, filled-stop, filled-left, filled-short, filled-done}
+use Rattle.text.specs.declared.TextAnswer.the-variants.{Length, Refused}
 use native.Mathlib.Omega.{arith}
 use borrow.Author.Needs.{needs}
 use Rattle.text.proofs.fill_path.Statement.{statement}
@@ -26,7 +27,7 @@ returns : tie.Need-returns
 returns c =
     let a = c .before .before .before .before .before .before .before .before .before .before .args in
     let m = path-got (readPath (nameCount (a .pairs .now)) (a .words .now) 0) (rw (c .before .before .before .before .before .name-count .ensures) at (c .before .before .before .before .scan-path .ensures)) (c .before .before .path .given .1) in
-    rw (map-twice Path·ToString (pathOf (a .words .now) (nameBytes (a .pairs .now) (a .text .now))) (whole (length (a .words .now)) (readPath (nameCount (a .pairs .now)) (a .words .now) 0))) (text-left (λ (p : PathAt). Path·ToString (pathOf (a .words .now) (nameBytes (a .pairs .now) (a .text .now)) p)) (length (a .words .now)) (a .out .now) (readPath (nameCount (a .pairs .now)) (a .words .now) 0) m (c .if1 .taken))
+    rw (map-twice Path·ToString (pathOf (a .words .now) (nameBytes (a .pairs .now) (a .text .now))) (whole (length (a .words .now)) (readPath (nameCount (a .pairs .now)) (a .words .now) 0))) (filled-left Length Refused (a .out .now) (λ (p : PathAt). Path·ToString (pathOf (a .words .now) (nameBytes (a .pairs .now) (a .text .now)) p)) (length (a .words .now)) (readPath (nameCount (a .pairs .now)) (a .words .now) 0) m (c .if1 .taken))
 
 path-length-requires : tie.Need-path-length-requires
 path-length-requires c κs =
@@ -38,7 +39,7 @@ returns-2 : tie.Need-returns-2
 returns-2 c =
     let a = c .before .before .before .before .before .before .before .before .before .before .before .before .args in
     let m = path-got (readPath (nameCount (a .pairs .now)) (a .words .now) 0) (rw (c .before .before .before .before .before .before .before .name-count .ensures) at (c .before .before .before .before .before .before .scan-path .ensures)) (c .before .before .before .before .path .given .1) in
-    rw (map-twice Path·ToString (pathOf (a .words .now) (nameBytes (a .pairs .now) (a .text .now))) (whole (length (a .words .now)) (readPath (nameCount (a .pairs .now)) (a .words .now) 0))) (text-short (λ (p : PathAt). Path·ToString (pathOf (a .words .now) (nameBytes (a .pairs .now) (a .text .now)) p)) (length (a .words .now)) (a .out .now) (readPath (nameCount (a .pairs .now)) (a .words .now) 0) m (c .before .before .if1 .left) (omega (arith, c .if2 .taken, c .before .path-length .ensures)))
+    rw (map-twice Path·ToString (pathOf (a .words .now) (nameBytes (a .pairs .now) (a .text .now))) (whole (length (a .words .now)) (readPath (nameCount (a .pairs .now)) (a .words .now) 0))) (filled-short Length Refused (a .out .now) (λ (p : PathAt). Path·ToString (pathOf (a .words .now) (nameBytes (a .pairs .now) (a .text .now)) p)) (length (a .words .now)) (readPath (nameCount (a .pairs .now)) (a .words .now) 0) m (c .before .before .if1 .left) (omega (arith, c .if2 .taken, c .before .path-length .ensures)))
 
 put-path-requires : tie.Need-put-path-requires
 put-path-requires c κs =
@@ -56,12 +57,12 @@ returns-3 : tie.Need-returns-3
 returns-3 c =
     let a = c .before .before .before .before .before .before .before .before .before .before .before .before .before .before .before .before .args in
     let m = path-got (readPath (nameCount (a .pairs .now)) (a .words .now) 0) (rw (c .before .before .before .before .before .before .before .before .before .before .before .name-count .ensures) at (c .before .before .before .before .before .before .before .before .before .before .scan-path .ensures)) (c .before .before .before .before .before .before .before .before .path .given .1) in
-    rw (map-twice Path·ToString (pathOf (a .words .now) (nameBytes (a .pairs .now) (a .text .now))) (whole (length (a .words .now)) (readPath (nameCount (a .pairs .now)) (a .words .now) 0))) (text-done (λ (p : PathAt). Path·ToString (pathOf (a .words .now) (nameBytes (a .pairs .now) (a .text .now)) p)) (length (a .words .now)) (a .out .now) (readPath (nameCount (a .pairs .now)) (a .words .now) 0) _ m (c .before .before .before .before .before .before .if1 .left) (omega (arith, c .before .before .before .before .if2 .left, c .before .before .before .before .before .path-length .ensures)) (c .before .before .before .before .before .path-length .ensures) (c .before .before .put-path .ensures .bytes))
+    rw (map-twice Path·ToString (pathOf (a .words .now) (nameBytes (a .pairs .now) (a .text .now))) (whole (length (a .words .now)) (readPath (nameCount (a .pairs .now)) (a .words .now) 0))) (filled-done Length Refused (a .out .now) (λ (p : PathAt). Path·ToString (pathOf (a .words .now) (nameBytes (a .pairs .now) (a .text .now)) p)) (length (a .words .now)) (readPath (nameCount (a .pairs .now)) (a .words .now) 0) _ m (c .before .before .before .before .before .before .if1 .left) (omega (arith, c .before .before .before .before .if2 .left, c .before .before .before .before .before .path-length .ensures)) (c .before .before .before .before .before .path-length .ensures) (c .before .before .put-path .ensures .bytes))
 
 returns-4 : tie.Need-returns-4
 returns-4 c =
     let a = c .before .before .before .before .before .before .before .before .before .args in
-    rw (map-twice Path·ToString (pathOf (a .words .now) (nameBytes (a .pairs .now) (a .text .now))) (whole (length (a .words .now)) (readPath (nameCount (a .pairs .now)) (a .words .now) 0))) (text-stop (λ (p : PathAt). Path·ToString (pathOf (a .words .now) (nameBytes (a .pairs .now) (a .text .now)) p)) (length (a .words .now)) (a .out .now) (readPath (nameCount (a .pairs .now)) (a .words .now) 0) (path-stop (readPath (nameCount (a .pairs .now)) (a .words .now) 0) (rw (c .before .before .before .before .name-count .ensures) at (c .before .before .before .scan-path .ensures)) (c .before .r .given .1)))
+    rw (map-twice Path·ToString (pathOf (a .words .now) (nameBytes (a .pairs .now) (a .text .now))) (whole (length (a .words .now)) (readPath (nameCount (a .pairs .now)) (a .words .now) 0))) (filled-stop Length Refused (a .out .now) (λ (p : PathAt). Path·ToString (pathOf (a .words .now) (nameBytes (a .pairs .now) (a .text .now)) p)) (length (a .words .now)) (readPath (nameCount (a .pairs .now)) (a .words .now) 0) (path-stop (readPath (nameCount (a .pairs .now)) (a .words .now) 0) (rw (c .before .before .before .before .name-count .ensures) at (c .before .before .before .scan-path .ensures)) (c .before .r .given .1)))
 
 pub fill-path-spec : {M : Type 1} → statement M
 fill-path-spec =

@@ -6,7 +6,8 @@ use Rattle.rast.specs.Tree.{Ty}
 use Rattle.rast.specs.ToString.{Type·ToString}
 use Rattle.encoding.specs.Types.{typeAt}
 use Rattle.measure.proofs.Measured.{measured-got, measured-stop}
-use Rattle.text.proofs.Calls.{text-stop, text-left, text-short, text-done}
+use Rattle.encoding.proofs.Answers.{filled-stop, filled-left, filled-short, filled-done}
+use Rattle.text.specs.declared.TextAnswer.the-variants.{Length, Refused}
 use native.Mathlib.Omega.{arith}
 use borrow.Author.Needs.{needs}
 use Rattle.text.proofs.fill_type.Statement.{statement}
@@ -23,13 +24,13 @@ returns : tie.Need-returns
 returns c =
     let a = c .before .before .before .before .before .before .before .before .before .args in
     let m = measured-got (typeAt (a .words .now) (a .pairs .now) (a .text .now) 0) (c .before .before .before .before .measure-type .ensures) (c .before .before .next .given .1) in
-    text-left Type·ToString (length (a .words .now)) (a .out .now) (typeAt (a .words .now) (a .pairs .now) (a .text .now) 0) (m .reads) (c .if1 .taken)
+    filled-left Length Refused (a .out .now) Type·ToString (length (a .words .now)) (typeAt (a .words .now) (a .pairs .now) (a .text .now) 0) (m .reads) (c .if1 .taken)
 
 returns-2 : tie.Need-returns-2
 returns-2 c =
     let a = c .before .before .before .before .before .before .before .before .before .before .args in
     let m = measured-got (typeAt (a .words .now) (a .pairs .now) (a .text .now) 0) (c .before .before .before .before .before .measure-type .ensures) (c .before .before .before .next .given .1) in
-    text-short Type·ToString (length (a .words .now)) (a .out .now) (typeAt (a .words .now) (a .pairs .now) (a .text .now) 0) (m .reads) (c .before .if1 .left) (omega (arith, c .if2 .taken, m .size))
+    filled-short Length Refused (a .out .now) Type·ToString (length (a .words .now)) (typeAt (a .words .now) (a .pairs .now) (a .text .now) 0) (m .reads) (c .before .if1 .left) (omega (arith, c .if2 .taken, m .size))
 
 write-type-requires : tie.Need-write-type-requires
 write-type-requires c κs =
@@ -49,12 +50,12 @@ returns-3 c =
     let m = measured-got (typeAt (a .words .now) (a .pairs .now) (a .text .now) 0) (c .before .before .before .before .before .before .before .before .before .measure-type .ensures) (c .before .before .before .before .before .before .before .next .given .1) in
     let w = c .before .before .write-type .ensures in
     let v : w .value ≡ m .value = cc (w .reads, m .reads) in
-    text-done Type·ToString (length (a .words .now)) (a .out .now) (typeAt (a .words .now) (a .pairs .now) (a .text .now) 0) _ (m .reads) (c .before .before .before .before .before .if1 .left) (omega (arith, c .before .before .before .before .if2 .left, m .size)) (m .size) (w .wrote .bytes ∙ ap (λ (t : Ty Bytes). sets (a .out .now) 0 (Type·ToString t)) v)
+    filled-done Length Refused (a .out .now) Type·ToString (length (a .words .now)) (typeAt (a .words .now) (a .pairs .now) (a .text .now) 0) _ (m .reads) (c .before .before .before .before .before .if1 .left) (omega (arith, c .before .before .before .before .if2 .left, m .size)) (m .size) (w .wrote .bytes ∙ ap (λ (t : Ty Bytes). sets (a .out .now) 0 (Type·ToString t)) v)
 
 returns-4 : tie.Need-returns-4
 returns-4 c =
     let a = c .before .before .before .before .before .before .before .before .args in
-    text-stop Type·ToString (length (a .words .now)) (a .out .now) (typeAt (a .words .now) (a .pairs .now) (a .text .now) 0) (measured-stop (typeAt (a .words .now) (a .pairs .now) (a .text .now) 0) (c .before .before .before .measure-type .ensures) (c .before .r .given .1))
+    filled-stop Length Refused (a .out .now) Type·ToString (length (a .words .now)) (typeAt (a .words .now) (a .pairs .now) (a .text .now) 0) (measured-stop (typeAt (a .words .now) (a .pairs .now) (a .text .now) 0) (c .before .before .before .measure-type .ensures) (c .before .r .given .1))
 
 pub fill-type-spec : {M : Type 1} → statement M
 fill-type-spec =

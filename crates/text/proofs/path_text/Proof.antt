@@ -1,18 +1,25 @@
-use mathlib.Core.Path.{sym, _∙_}
-use Rattle.encoding.specs.Refusals.{unless}
-use Rattle.text.specs.Calls.{filled, pathText}
+use Rattle.encoding.specs.Types.{pathIn}
+use Rattle.encoding.proofs.Answers.{call-filled, call-passed, call-refused, map-unless}
+use Rattle.encoding.proofs.Tables.{tables-passed}
+use Rattle.text.specs.declared.TextAnswer.the-variants.{Length, Refused}
+use Rattle.text.specs.Calls.{pathText}
+use mathlib.Core.Path.{_∙_, sym}
 use borrow.Author.Needs.{needs}
 use Rattle.text.proofs.path_text.Statement.{statement}
 use Rattle.text.proofs.path_text.Tie as tie
 
-check-level-requires : tie.Need-check-level-requires
-check-level-requires c κs = search needs
+check-call-requires : tie.Need-check-call-requires
+check-call-requires c κs = search needs
 
 enum-told : tie.Need-enum-told
 enum-told c = search needs
 
-check-and-fill-path-requires : tie.Need-check-and-fill-path-requires
-check-and-fill-path-requires c κs = search needs
+fill-path-requires : tie.Need-fill-path-requires
+fill-path-requires c κs =
+    let a = c .before .before .before .before .before .before .before .before .args in
+    let p = call-passed (a .words .now) (a .pairs .now) (a .text .now) (a .level) (sym (c .before .before .before .check-call .ensures) ∙ c .before .enum-told .given .1) in
+    let t = tables-passed (a .words .now) (a .pairs .now) (a .text .now) (p .1) in
+    (t .good, t .few)
 
 enum-known-r : tie.Need-enum-known-r
 enum-known-r c = search needs
@@ -21,24 +28,24 @@ same-length : tie.Need-same-length
 same-length c = search needs
 
 returns : tie.Need-returns
-unfolding pathText unless
+unfolding pathText pathIn
 returns c =
     let a = c .before .before .before .before .before .before .before .before .before .before .before .args in
-    c .before .before .check-and-fill-path .ensures ∙ rw (sym (c .before .before .before .before .before .before .check-level .ensures) ∙ c .before .before .before .before .enum-told .given .1)
+    rw map-unless (call-filled Length Refused (a .out .now) (a .words .now) (a .pairs .now) (a .text .now) (a .level) _ (sym (c .before .before .before .before .before .before .check-call .ensures) ∙ c .before .before .before .before .enum-told .given .1) (c .before .before .fill-path .ensures))
 
 returns-2 : tie.Need-returns-2
-unfolding pathText unless filled
+unfolding pathText pathIn
 returns-2 c =
     let a = c .before .before .before .before .before .before .before .before .args in
-    rw (sym (c .before .before .before .check-level .ensures) ∙ c .before .r .given .1)
+    rw map-unless (call-refused Length Refused (a .out .now) (a .words .now) (a .pairs .now) (a .text .now) (a .level) _ (sym (c .before .before .before .check-call .ensures) ∙ c .before .r .given .1))
 
 pub path-text-spec : {M : Type 1} → statement M
 path-text-spec =
     tie.close
     (tie.spec
-    check-level-requires
+    check-call-requires
     enum-told
-    check-and-fill-path-requires
+    fill-path-requires
     enum-known-r
     same-length
     returns

@@ -1,47 +1,20 @@
-use Rattle.encoding.proofs.Tables.{tables-passed}
-use Rattle.encoding.specs.Refusals.{mapAnswer, unless}
 use Rattle.encoding.specs.Types.{typeOf}
-use Rattle.visits.specs.Calls.{filled}
+use Rattle.encoding.proofs.Answers.{map-unless}
 use Rattle.visits.specs.Visited.{typeVisits}
-use mathlib.Core.Path.{_∙_, sym}
 use borrow.Author.Needs.{needs}
 use Rattle.visits.proofs.type_visit.Statement.{statement}
 use Rattle.visits.proofs.type_visit.Tie as tie
 
-check-tables-requires : tie.Need-check-tables-requires
-check-tables-requires c κs = search needs
-
-enum-told : tie.Need-enum-told
-enum-told c = search needs
-
-fill-type-requires : tie.Need-fill-type-requires
-fill-type-requires c κs =
-    let t = tables-passed (c .before .before .before .before .before .before .before .before .args .words .now) (c .before .before .before .before .before .before .before .before .args .pairs .now) (c .before .before .before .before .before .before .before .before .args .text .now) (sym (c .before .before .before .check-tables .ensures) ∙ c .before .enum-told .given .1) in
-    (t .good, t .few)
-
-enum-known-r : tie.Need-enum-known-r
-enum-known-r c = search needs
+visit-by-requires : tie.Need-visit-by-requires
+visit-by-requires c κs = search needs
 
 same-length : tie.Need-same-length
 same-length c = search needs
 
 returns : tie.Need-returns
-unfolding typeVisits typeOf unless
+unfolding typeVisits typeOf
 returns c =
-    c .before .before .fill-type .ensures ∙ rw (sym (c .before .before .before .before .before .before .check-tables .ensures) ∙ c .before .before .before .before .enum-told .given .1)
-
-returns-2 : tie.Need-returns-2
-unfolding typeVisits typeOf unless filled mapAnswer
-returns-2 c = rw (sym (c .before .before .before .check-tables .ensures) ∙ c .before .r .given .1)
+    rw map-unless (c .before .before .visit-by .ensures)
 
 pub type-visit-spec : {M : Type 1} → statement M
-type-visit-spec =
-    tie.close
-    (tie.spec
-    check-tables-requires
-    enum-told
-    fill-type-requires
-    enum-known-r
-    same-length
-    returns
-    returns-2)
+type-visit-spec = tie.close (tie.spec visit-by-requires same-length returns)

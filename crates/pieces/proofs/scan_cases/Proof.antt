@@ -1,0 +1,42 @@
+use Rattle.encoding.specs.Reading.{readWord}
+use Rattle.encoding.specs.Declarations.{readCounted}
+use Rattle.encoding.proofs.Reading.{word-got, word-stop}
+use mathlib.Core.Path.{_∙_}
+use borrow.Author.Needs.{needs}
+use Rattle.pieces.proofs.scan_cases.Statement.{statement}
+use Rattle.pieces.proofs.scan_cases.Tie as tie
+
+scan-word-requires : tie.Need-scan-word-requires
+scan-word-requires c κs = search needs
+
+enum-known-value : tie.Need-enum-known-value
+enum-known-value c = search needs
+
+scan-each-case-requires : tie.Need-scan-each-case-requires
+scan-each-case-requires c κs = search needs
+
+enum-known-r : tie.Need-enum-known-r
+enum-known-r c = search needs
+
+returns : tie.Need-returns
+unfolding readCounted
+returns c =
+    let a = c .before .before .before .before .before .before .before .before .args in
+    c .scan-each-case .ensures ∙ rw (word-got (readWord (a .words .now) (a .at)) (c .before .before .before .before .scan-word .ensures) (c .before .before .value .given .1))
+
+returns-2 : tie.Need-returns-2
+unfolding readCounted
+returns-2 c =
+    let a = c .before .before .before .before .before .before .before .args in
+    rw (word-stop (readWord (a .words .now) (a .at)) (c .before .before .before .scan-word .ensures) (c .before .r .given .1))
+
+pub scan-cases-spec : {M : Type 1} → statement M
+scan-cases-spec =
+    tie.close
+    (tie.spec
+    scan-word-requires
+    enum-known-value
+    scan-each-case-requires
+    enum-known-r
+    returns
+    returns-2)

@@ -1,0 +1,62 @@
+use Rattle.encoding.specs.Scans.{ended}
+use Rattle.encoding.proofs.Reading.{scan-stop}
+use Rattle.encoding.specs.Declarations.{readList}
+use Rattle.pieces.proofs.Scans.{end-got, list-more, list-none, list-stops}
+use Rattle.pieces.specs.Walks.{readOneAttribute}
+use mathlib.Core.Path.{_∙_, _≡_, refl, sym}
+use native.Mathlib.Omega.{arith}
+use borrow.Author.Needs.{needs}
+use Rattle.pieces.proofs.scan_each_attribute.Statement.{statement}
+use Rattle.pieces.proofs.scan_each_attribute.Tie as tie
+
+abbrev Inv-loop : tie.InvT-loop
+Inv-loop words bound at count pos₀ left₀ pos left = ended (readList (readOneAttribute bound words) left pos) ≡ ended (readList (readOneAttribute bound words) count at)
+
+abbrev μ-loop : tie.MeasureT-loop
+μ-loop words bound at count pos₀ left₀ pos left = left
+
+loop-holds : tie.Need-loop-holds Inv-loop μ-loop
+loop-holds c = refl
+
+scan-attribute-requires : tie.Need-scan-attribute-requires Inv-loop μ-loop
+scan-attribute-requires c κs = search needs
+
+enum-known-next : tie.Need-enum-known-next Inv-loop μ-loop
+enum-known-next c = search needs
+
+enum-known-r : tie.Need-enum-known-r Inv-loop μ-loop
+enum-known-r c = search needs
+
+returns : tie.Need-returns Inv-loop μ-loop
+returns c =
+    sym (list-stops (readOneAttribute (c .before .before .before .before .before .before .before .args .bound) (c .before .before .before .before .before .before .before .args .words .now)) (c .before .before .before .before .before .loop .left) (c .before .before .before .before .before .loop .pos) (search needs) (scan-stop ((readOneAttribute (c .before .before .before .before .before .before .before .args .bound) (c .before .before .before .before .before .before .before .args .words .now)) (c .before .before .before .before .before .loop .pos)) (c .before .before .before .scan-attribute .ensures) (c .before .r .given .1))) ∙ c .before .before .before .before .before .loop .inv
+
+sub-left : tie.Need-sub-left Inv-loop μ-loop
+sub-left c = search needs
+
+loop-less : tie.Need-loop-less Inv-loop μ-loop
+loop-less c = search needs
+
+loop-again : tie.Need-loop-again Inv-loop μ-loop
+loop-again c =
+    sym (list-more (readOneAttribute (c .before .before .before .before .before .before .before .args .bound) (c .before .before .before .before .before .before .before .args .words .now)) (c .before .before .before .before .before .loop .left) (c .before .before .before .before .before .loop .pos) (search needs) (end-got ((readOneAttribute (c .before .before .before .before .before .before .before .args .bound) (c .before .before .before .before .before .before .before .args .words .now)) (c .before .before .before .before .before .loop .pos)) (c .before .before .before .scan-attribute .ensures) (c .before .next .given .1))) ∙ c .before .before .before .before .before .loop .inv
+
+returns-2 : tie.Need-returns-2 Inv-loop μ-loop
+returns-2 c =
+    sym (list-none (readOneAttribute (c .before .before .before .args .bound) (c .before .before .before .args .words .now)) (c .before .loop .left) (c .before .loop .pos) (omega arith)) ∙ c .before .loop .inv
+
+pub scan-each-attribute-spec : {M : Type 1} → statement M
+scan-each-attribute-spec =
+    tie.close
+    (tie.spec
+    Inv-loop
+    μ-loop
+    loop-holds
+    scan-attribute-requires
+    enum-known-next
+    enum-known-r
+    returns
+    sub-left
+    loop-less
+    loop-again
+    returns-2)

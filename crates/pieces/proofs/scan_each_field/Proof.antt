@@ -1,0 +1,65 @@
+use Rattle.pieces.specs.Ends.{eachFieldEnd}
+use Rattle.pieces.proofs.Ends.{fields-more, fields-none, fields-stop}
+use mathlib.Core.Path.{_≡_, refl, sym, _∙_}
+use native.Mathlib.Omega.{arith}
+use borrow.Author.Needs.{needs}
+use Rattle.pieces.proofs.scan_each_field.Statement.{statement}
+use Rattle.pieces.proofs.scan_each_field.Tie as tie
+
+abbrev Inv-loop : tie.InvT-loop
+Inv-loop words pairs text kind at count pos₀ left₀ pos left = eachFieldEnd words pairs text kind left pos ≡ eachFieldEnd words pairs text kind count at
+
+abbrev μ-loop : tie.MeasureT-loop
+μ-loop words pairs text kind at count pos₀ left₀ pos left = left
+
+loop-holds : tie.Need-loop-holds Inv-loop μ-loop
+loop-holds c = refl
+
+scan-field-requires : tie.Need-scan-field-requires Inv-loop μ-loop
+scan-field-requires c κs = search needs
+
+enum-known-next : tie.Need-enum-known-next Inv-loop μ-loop
+enum-known-next c = search needs
+
+enum-known-r : tie.Need-enum-known-r Inv-loop μ-loop
+enum-known-r c = search needs
+
+returns : tie.Need-returns Inv-loop μ-loop
+returns c =
+    let a = c .before .before .before .before .before .before .before .before .before .args in
+    let l = c .before .before .before .before .before .loop in
+    sym (fields-stop (a .words .now) (a .pairs .now) (a .text .now) (a .kind) (l .left) (l .pos) (search needs) (sym (c .before .before .before .scan-field .ensures) ∙ c .before .r .given .1)) ∙ l .inv
+
+sub-left : tie.Need-sub-left Inv-loop μ-loop
+sub-left c = search needs
+
+loop-less : tie.Need-loop-less Inv-loop μ-loop
+loop-less c = search needs
+
+loop-again : tie.Need-loop-again Inv-loop μ-loop
+loop-again c =
+    let a = c .before .before .before .before .before .before .before .before .before .args in
+    let l = c .before .before .before .before .before .loop in
+    sym (fields-more (a .words .now) (a .pairs .now) (a .text .now) (a .kind) (l .left) (l .pos) (search needs) (sym (c .before .before .before .scan-field .ensures) ∙ c .before .next .given .1)) ∙ l .inv
+
+returns-2 : tie.Need-returns-2 Inv-loop μ-loop
+returns-2 c =
+    let a = c .before .before .before .before .before .args in
+    let l = c .before .loop in
+    sym (fields-none (a .words .now) (a .pairs .now) (a .text .now) (a .kind) (l .left) (l .pos) (omega arith)) ∙ l .inv
+
+pub scan-each-field-spec : {M : Type 1} → statement M
+scan-each-field-spec =
+    tie.close
+    (tie.spec
+    Inv-loop
+    μ-loop
+    loop-holds
+    scan-field-requires
+    enum-known-next
+    enum-known-r
+    returns
+    sub-left
+    loop-less
+    loop-again
+    returns-2)

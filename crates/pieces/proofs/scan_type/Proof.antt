@@ -1,0 +1,62 @@
+use Rattle.encoding.specs.Scans.{ended}
+use Rattle.encoding.specs.Types.{typeAt}
+use Rattle.encoding.proofs.Types.{type-end}
+use Rattle.measure.proofs.Measured.{measured-got, measured-stop}
+use Rattle.pieces.proofs.Ends.{type-plain}
+use mathlib.Core.Path.{ap, sym}
+use borrow.Author.Needs.{needs}
+use Rattle.pieces.proofs.scan_type.Statement.{statement}
+use Rattle.pieces.proofs.scan_type.Tie as tie
+
+returns : tie.Need-returns
+returns c =
+    let a = c .before .before .before .before .args in
+    ap ended (sym (type-end (a .words .now) (a .pairs .now) (a .text .now) (a .at) (c .if1 .taken)))
+
+mul-if2 : tie.Need-mul-if2
+mul-if2 c = search needs
+
+shared-slice-read-if2 : tie.Need-shared-slice-read-if2
+shared-slice-read-if2 c = search needs
+
+add-t12 : tie.Need-add-t12
+add-t12 c = search needs
+
+returns-2 : tie.Need-returns-2
+returns-2 c =
+    let a = c .before .before .before .before .before .before .args in
+    sym (type-plain (a .words .now) (a .pairs .now) (a .text .now) (a .at) (search needs) (c .if2 .taken))
+
+measure-type-requires : tie.Need-measure-type-requires
+measure-type-requires c κs = search needs
+
+enum-known-next : tie.Need-enum-known-next
+enum-known-next c = search needs
+
+enum-known-r : tie.Need-enum-known-r
+enum-known-r c = search needs
+
+returns-3 : tie.Need-returns-3
+returns-3 c =
+    let a = c .before .before .before .before .before .before .before .before .before .before .args in
+    ap ended (sym (measured-got (typeAt (a .words .now) (a .pairs .now) (a .text .now) (a .at)) (c .before .before .before .measure-type .ensures) (c .before .next .given .1) .reads))
+
+returns-4 : tie.Need-returns-4
+returns-4 c =
+    let a = c .before .before .before .before .before .before .before .before .before .before .args in
+    ap ended (sym (measured-stop (typeAt (a .words .now) (a .pairs .now) (a .text .now) (a .at)) (c .before .before .before .measure-type .ensures) (c .before .r .given .1)))
+
+pub scan-type-spec : {M : Type 1} → statement M
+scan-type-spec =
+    tie.close
+    (tie.spec
+    returns
+    mul-if2
+    shared-slice-read-if2
+    add-t12
+    returns-2
+    measure-type-requires
+    enum-known-next
+    enum-known-r
+    returns-3
+    returns-4)
