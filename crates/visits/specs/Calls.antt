@@ -75,12 +75,12 @@ pub record Entered (ws pairs : List ℕ) (text : Bytes) (w : Walk) (o o′ : Lis
 
 -- ---- what an encoding holds
 
--- its visit list
+-- the visit list of a type or a declaration
 abbrev pub heldVisits : (what : Whole) → Held what → List ℕ
 heldVisits AType t = positions (visited (place 0 t))
 heldVisits ADeclaration d = positions (visitedDeclaration d)
 
--- was laid down
+-- the visit list of what an encoding holds was laid down
 pub record AllVisited (what : Whole) (ws pairs : List ℕ) (text : Bytes) (o o′ : List ℕ) (p : ℕ) : Type 0 where
   pub value : Held what
   pub end : ℕ
