@@ -151,6 +151,18 @@ fn put_fixed(name: usize, out: &mut [u8], pos: usize) -> usize
     output::put_part(all, start, count, out, pos)
 }
 
+// The bytes of a name that stands in the text.
+pub fn put_pair(pairs: &[u32], text: &[u8], name: u32, out: &mut [u8], pos: usize) -> usize
+    requires { ⌜ (16 ≤ name) × (name < nameCount (now pairs)) × Good (now pairs) (now text)
+        × (pos + length (nameBytes (now pairs) (now text) name) ≤ length (now out)) ⌝ }
+    ensures { λ r. ⌜ Wrote (now (out .entry)) pos (nameBytes (now (pairs .entry)) (now (text .entry)) name) (now (out .exit)) r ⌝ }
+{
+    let i = (name - 16) as usize;
+    let start = pairs[2 * i] as usize;
+    let count = pairs[2 * i + 1] as usize;
+    output::put_part(text, start, count, out, pos)
+}
+
 // The bytes of a name.
 pub fn put_name(pairs: &[u32], text: &[u8], name: u32, out: &mut [u8], pos: usize) -> usize
     requires { ⌜ (name < nameCount (now pairs)) × Good (now pairs) (now text)
@@ -160,10 +172,7 @@ pub fn put_name(pairs: &[u32], text: &[u8], name: u32, out: &mut [u8], pos: usiz
     if name < 16 {
         return put_fixed(name as usize, out, pos);
     }
-    let i = (name - 16) as usize;
-    let start = pairs[2 * i] as usize;
-    let count = pairs[2 * i + 1] as usize;
-    output::put_part(text, start, count, out, pos)
+    put_pair(pairs, text, name, out, pos)
 }
 
 // How long the plain types' texts are, by their kinds.

@@ -21,7 +21,7 @@ pub fn put_primitive(kind: u32, out: &mut [u8], pos: usize) -> usize
     let all = b"u8u16u32u64u128i8i16i32i64i128usizebool";
     let start = STARTS[kind as usize] as usize;
     let count = encoding::primitive_length(kind);
-    output::put_part(all, start, count, out, pos)
+    output::put_few(all, start, count, out, pos)
 }
 
 fn put_root(root: u32, out: &mut [u8], pos: usize) -> usize
@@ -35,14 +35,17 @@ fn put_root(root: u32, out: &mut [u8], pos: usize) -> usize
     }
 }
 
-// One more name of a path.
+// One more name of a path. Most stand in the text: these are copied here, without a call.
 fn put_member(pairs: &[u32], text: &[u8], name: u32, out: &mut [u8], pos: usize) -> usize
     requires { ⌜ (name < nameCount (now pairs)) × Good (now pairs) (now text)
         × (pos + length (memberText (nameBytes (now pairs) (now text) name)) ≤ length (now out)) ⌝ }
     ensures { λ r. ⌜ Wrote (now (out .entry)) pos (memberText (nameBytes (now (pairs .entry)) (now (text .entry)) name)) (now (out .exit)) r ⌝ }
 {
     let p = output::put(b"::", out, pos);
-    encoding::put_name(pairs, text, name, out, p)
+    if name < 16 {
+        return encoding::put_name(pairs, text, name, out, p);
+    }
+    encoding::put_pair(pairs, text, name, out, p)
 }
 
 pub fn put_path(

@@ -31,11 +31,10 @@ name-fits pairs h x n e = omega (arith, name-short pairs h x)
 -- ---- paths
 
 -- the names from `i` on, up to `end`
-pub names-more : (len : ℕ → ℕ) (ws : List ℕ) (i end : ℕ) → i < end → end ≤ length ws
+pub names-more : (len : ℕ → ℕ) (ws : List ℕ) (i end : ℕ) → i < end → i < length ws
     → namesLength len (take (end - i) (drop i ws)) ≡ 2 + len (getD ws i 0) + namesLength len (take (end - (i + 1)) (drop (i + 1) ws))
 unfolding namesLength
-names-more len ws i end h k =
-    let l : i < length ws = omega arith in
+names-more len ws i end h l =
     let e : end - i ≡ suc (end - (i + 1)) = omega arith in
     rw (e, add-one i, drop-cons ws i 0 l)
 

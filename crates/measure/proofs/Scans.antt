@@ -10,14 +10,15 @@ use Rattle.encoding.specs.declared.Refusal.{Refusal}
 use Rattle.encoding.specs.declared.Refusal.the-variants.{UnknownWord}
 use Rattle.encoding.specs.declared.Head.{Head}
 use Rattle.encoding.specs.Refusals.{pick}
-use Rattle.encoding.specs.Reading.{Reading, got, stop, readWord, readBelow}
+use Rattle.encoding.specs.Reading.{Reading, got, stop, _>>=_, readWord, readBelow, readNames}
 use Rattle.encoding.specs.Tables.{nameLength}
-use Rattle.encoding.specs.Heads.{kids}
+use Rattle.encoding.specs.declared.Head.the-variants.{FromPath}
+use Rattle.encoding.specs.Heads.{kids, readPath, pathHead}
 use Rattle.encoding.proofs.Tables.{impossible}
 use Rattle.encoding.proofs.Types.{bind-got}
 use Rattle.measure.specs.declared.OwnScan.{OwnScan}
 use Rattle.measure.specs.declared.OwnScan.the-variants.{Leaf, Node, NoNode}
-use Rattle.measure.specs.Lengths.{ownLength, modeOf, Counted, exact, many, Scanned, leaf, node, none}
+use Rattle.measure.specs.Lengths.{ownLength, modeOf, namesHead, Counted, exact, many, Scanned, leaf, node, none}
 
 -- a word that was read below a bound is below it
 pub below-less : (b : ℕ) (ws : List ℕ) (at : ℕ) {w n : ℕ} → readBelow b ws at ≡ got w n → w < b
@@ -29,6 +30,17 @@ below-less b ws at {w} {n} e =
     go : (v m : ℕ) (t : Bool) → (t ≡ true → v < b) → pick t (got v m) (stop UnknownWord) ≡ got w n → w < b
     go v m true h d = let f : v ≡ w = cc in omega (arith, h refl)
     go v m false h d = impossible (cc)
+
+-- a path's head, behind its root and its count
+pub path-names : (bound : ℕ) (ws : List ℕ) (at : ℕ) {root p n q : ℕ} → readBelow 3 ws at ≡ got root p → readWord ws p ≡ got n q
+    → pathHead bound ws at ≡ namesHead bound ws (record { root = root; start = q; count = n })
+unfolding pathHead readPath namesHead
+path-names bound ws at {root} {p} {n} {q} e d = rw (e, d) (go (readNames bound ws n q))
+  where
+    go : (x : Reading (Unit {0})) → ((x >>= λ u r. got (record { root = root; start = q; count = n }) r) >>= λ x r. got (FromPath x) r)
+        ≡ (x >>= λ u r. got (FromPath (record { root = root; start = q; count = n })) r)
+    go (got u r) = refl
+    go (stop r) = refl
 
 -- one type more, by a count that may be cut down
 pub counted-more : {k n : ℕ} → Counted k n → Counted (k + 1) (n + 1)

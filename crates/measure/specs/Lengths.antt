@@ -12,7 +12,7 @@ use Rattle.encoding.specs.declared.Refusal.{Refusal}
 use Rattle.encoding.specs.declared.Head.{Head}
 use Rattle.encoding.specs.declared.Head.the-variants.{Plain, Name, FromPath, Apply, Ref, RefMut, Impl, Dyn, Tuple, Function, Both, ArrayOf, Synonym, Meta}
 use Rattle.encoding.specs.Refusals.{pick}
-use Rattle.encoding.specs.Reading.{Reading, got, stop, _>>=_}
+use Rattle.encoding.specs.Reading.{Reading, got, stop, _>>=_, readNames}
 use Rattle.encoding.specs.Tables.{nameLength}
 use Rattle.encoding.specs.Heads.{kids}
 use Rattle.encoding.specs.Types.{primitives, rootOf}
@@ -41,6 +41,10 @@ arrayLength len s = pick (eqb s 0) 2 (4 + len (s - 1))
 -- a head with one own word
 abbrev pub worded : (ℕ → Head) → Reading ℕ → Reading Head
 worded f x = x >>= λ w n. got (f w) n
+
+-- a path's head, from its names
+unfoldable pub namesHead : ℕ → List ℕ → PathAt → Reading Head
+namesHead bound ws p = readNames bound ws (p .count) (p .start) >>= λ u r. got (FromPath p) r
 
 -- what a head adds to the texts of its types
 unfoldable pub ownLength : List ℕ → (ℕ → ℕ) → Head → ℕ

@@ -10,7 +10,7 @@ ghost use Rattle.encoding.specs.Tables.{Good, nameBytes, nameLength, nameCount}
 ghost use Rattle.encoding.specs.Heads.{InsidePath, pathHead, headAfter, readHead};
 ghost use Rattle.encoding.specs.Types.{rootOf, pathOf, typeAt};
 ghost use Rattle.encoding.specs.declared.Head.the-variants.{Name, Apply, Tuple, Function, ArrayOf, Meta};
-ghost use Rattle.measure.specs.Lengths.{measureOf, pathLength, arrayLength, worded, Counted, Scanned};
+ghost use Rattle.measure.specs.Lengths.{measureOf, pathLength, arrayLength, namesHead, worded, Counted, Scanned};
 ghost use Rattle.measure.specs.Levels.{leaving, beside, under, pushed, Outward, Kept, Stepped};
 use encoding::PathAt;
 use encoding::PathScan;
@@ -146,17 +146,48 @@ fn own_name(words: &[u32], pairs: &[u32], bound: usize, at: usize) -> OwnScan
     }
 }
 
+// The head of a path, from its names: they are read and measured in one loop.
+fn own_names(words: &[u32], pairs: &[u32], bound: usize, path: PathAt) -> OwnScan
+    requires { ⌜ (bound ≡ nameCount (now pairs)) × (length (now words) ≤ 8192) × (path .start ≤ length (now words)) ⌝ }
+    ensures { λ r. ⌜ Scanned (now (words .entry)) (now (pairs .entry)) (namesHead bound (now (words .entry)) path) r ⌝ }
+{
+    let mut i = path.start;
+    let end = i + path.count as usize;
+    let mut bytes = root_length(path.root);
+    while i < end {
+        match encoding::scan_below(words, bound, i) {
+            WordScan::Word { value, next } => {
+                bytes += 2 + encoding::name_length(pairs, value);
+                i = next;
+            }
+            WordScan::NoWord(r) => {
+                return OwnScan::NoNode(r);
+            }
+        }
+    }
+    own_leaf(end, bytes)
+}
+
 // A path's head.
 fn own_path(words: &[u32], pairs: &[u32], bound: usize, at: usize) -> OwnScan
     requires { ⌜ (bound ≡ nameCount (now pairs)) × (length (now words) ≤ 8192) ⌝ }
     ensures { λ r. ⌜ Scanned (now (words .entry)) (now (pairs .entry)) (pathHead bound (now (words .entry)) at) r ⌝ }
 {
-    match encoding::scan_path(words, bound, at) {
-        PathScan::OwnPath { path, next } => {
-            let bytes = path_bytes(words, pairs, path);
-            own_leaf(next, bytes)
-        }
-        PathScan::NoPath(r) => OwnScan::NoNode(r),
+    match encoding::scan_below(words, 3, at) {
+        WordScan::Word {
+            value: root,
+            next: p,
+        } => match encoding::scan_word(words, p) {
+            WordScan::Word {
+                value: count,
+                next: start,
+            } => {
+                let path = PathAt { root, start, count };
+                own_names(words, pairs, bound, path)
+            }
+            WordScan::NoWord(r) => OwnScan::NoNode(r),
+        },
+        WordScan::NoWord(r) => OwnScan::NoNode(r),
     }
 }
 

@@ -66,6 +66,11 @@ copied-more l o start count p i h k =
 pub part-length : (l : List ℕ) (start count : ℕ) → start + count ≤ length l → length (take count (drop start l)) ≡ count
 part-length l start count h = simp (length-take, length-drop) (omega arith)
 
+-- a part that was copied was written
+pub part-wrote : (l : List ℕ) (start count : ℕ) {o o′ : List ℕ} {p : ℕ} → start + count ≤ length l → o′ ≡ sets o p (take count (drop start l))
+    → Wrote o p (take count (drop start l)) o′ (p + count)
+part-wrote l start count h e = record { bytes = e; next = rw (part-length l start count h) }
+
 -- a part is its front and what follows it
 part-split : (l : List ℕ) (start a b : ℕ) → take (a + b) (drop start l) ≡ take a (drop start l) ++ take b (drop (start + a) l)
 part-split l start a b = take-add a b (drop start l) ∙ rw (drop-drop a start l)

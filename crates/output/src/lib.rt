@@ -83,7 +83,17 @@ fn copy_any(bytes: &[u8], start: usize, count: usize, out: &mut [u8], pos: usize
     copy(bytes, start, count, out, pos)
 }
 
-// `count` bytes of `bytes` from `start` on, written from `pos` on. The answer is the position behind them.
+// `count` bytes of `bytes` from `start` on, fewer than eight, written from `pos` on. The answer is the position behind them. It calls nothing, so that a caller
+// saves no registers for it.
+pub fn put_few(bytes: &[u8], start: usize, count: usize, out: &mut [u8], pos: usize) -> usize
+    requires { ⌜ (count < 8) × (start + count ≤ length (now bytes)) × (pos + count ≤ length (now out)) ⌝ }
+    ensures { λ r. ⌜ Wrote (now (out .entry)) pos (take count (drop start (now (bytes .entry)))) (now (out .exit)) r ⌝ }
+{
+    copy_few(bytes, start, count, out, pos);
+    pos + count
+}
+
+// The same, for any count.
 pub fn put_part(bytes: &[u8], start: usize, count: usize, out: &mut [u8], pos: usize) -> usize
     requires { ⌜ (start + count ≤ length (now bytes)) × (pos + count ≤ length (now out)) ⌝ }
     ensures { λ r. ⌜ Wrote (now (out .entry)) pos (take count (drop start (now (bytes .entry)))) (now (out .exit)) r ⌝ }

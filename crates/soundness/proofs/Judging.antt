@@ -1,5 +1,5 @@
 -- Laws of judging: a type's judgement follows from those of the types below its head.
-use Prim.Native.Nat.{ℕ, zero, suc, _-_, _<_}
+use Prim.Native.Nat.{ℕ, zero, suc, _+_, _-_, _<_}
 use mathlib.Core.Path.{_≡_, refl, ap, sym, _∙_}
 use mathlib.Core.Bool.{Bool, true, false, not}
 use mathlib.Core.List.{List}
@@ -7,6 +7,7 @@ use native.Mathlib.Omega.{arith}
 use native.Mathlib.Numerals.{add-one, sub-one}
 use borrow.Author.Tests.{lt-ltb, eq-eqb, ne-eqb}
 use lib.Dec.{ltb}
+use lib.ListN.{length, getD}
 use Rattle.rast.specs.Bytes.{Bytes, _and_}
 use Rattle.rast.specs.Tree.{Ty, Tys, Primitive, TIdentifier, TypeFromPath, TypeApp, Borrowed, BorrowedMut, ImplType, DynType, TupleType, FnType, IntersectionType, Array, TSynonym, TMetaData, nil, cons}
 use Rattle.rast.specs.Sound.{sound, sounds, isNamed, isIntersection, isEmpty}
@@ -16,11 +17,12 @@ use Rattle.encoding.specs.declared.Check.the-variants.{Passed}
 use Rattle.encoding.specs.declared.Head.{Head}
 use Rattle.encoding.specs.declared.Head.the-variants.{Plain, Name, FromPath, Apply, Ref, RefMut, Impl, Dyn, Tuple, Function, Both, ArrayOf, Synonym, Meta}
 use Rattle.encoding.specs.Refusals.{pick, given, mapAnswer}
-use Rattle.encoding.specs.Reading.{Reading, got, stop, _>>=_, whole}
+use Rattle.encoding.specs.Reading.{Reading, got, stop, _>>=_, readBelow, whole}
 use Rattle.encoding.specs.Tables.{checkTables}
-use Rattle.encoding.specs.Heads.{readHead, kids}
+use Rattle.encoding.specs.Heads.{headAfter, readHead, kids}
 use Rattle.encoding.specs.Types.{readTypes, readNode, readType}
 use Rattle.encoding.proofs.Tables.{impossible, tables-passed}
+use Rattle.encoding.proofs.Heads.{head-at, head-plain}
 use Rattle.encoding.proofs.Types.{made₂-got}
 use Rattle.soundness.specs.declared.SoundAnswer.the-variants.{Refused}
 use Rattle.soundness.specs.declared.Shape.{Shape}
@@ -30,7 +32,7 @@ use Rattle.soundness.specs.declared.Judgement.the-variants.{Judged, Stop
 use Rattle.soundness.specs.declared.Below.{Below}
 use Rattle.soundness.specs.declared.BelowScan.{BelowScan}
 use Rattle.soundness.specs.declared.BelowScan.the-variants.{Types, NoTypes}
-use Rattle.soundness.specs.Judging.{Ready, shapeOf, namedShape, intersectionShape, judgement, nothingBelow, withType, withTypes, belowScan, soundAbove, shapeAbove, above}
+use Rattle.soundness.specs.Judging.{Ready, shapeOf, namedShape, intersectionShape, judgement, nameJudgement, nothingBelow, withType, withTypes, belowScan, soundAbove, shapeAbove, above}
 use Rattle.soundness.specs.Calls.{soundAnswer}
 use Rattle.soundness.proofs.Names.{and-true, and-assoc}
 
@@ -238,6 +240,21 @@ unfolding readType
 type-judged b ws name zero at l e n d a = absurd (let z : ⊥ = omega arith in z)
 type-judged b ws name (suc deep) at {h} {p} {k} {scan} {j} l e n d a =
     rw (e, a, d, n, sub-one (suc deep)) (sym (judged-above ws name (readType b ws name deep) h p))
+
+-- a plain type, and a name by its number
+module _ (b : ℕ) (ws : List ℕ) (name : ℕ → Bytes) (deep at : ℕ) (some : 0 < deep) (here : at < length ws) where
+  pub plain-judged : getD ws at 0 < 12 → Judged true Other (at + 1) ≡ judgement (readType b ws name deep at)
+  unfolding readTypes withTypes soundAbove
+  plain-judged h =
+      type-judged b ws name deep at some (head-at b ws at here ∙ head-plain b ws (getD ws at 0) (at + 1) h) refl refl refl
+
+  pub name-judged : getD ws at 0 ≡ 12 → nameJudgement name (readBelow b ws (at + 1)) ≡ judgement (readType b ws name deep at)
+  unfolding headAfter readTypes withTypes soundAbove
+  name-judged e = go (readBelow b ws (at + 1)) (head-at b ws at here ∙ rw e)
+    where
+      go : (x : Reading ℕ) → readHead b ws at ≡ (x >>= λ n p. got (Name n) p) → nameJudgement name x ≡ judgement (readType b ws name deep at)
+      go (got n p) d = type-judged b ws name deep at some d refl refl refl
+      go (stop r) d = rw (type-stop b ws name deep at some d)
 
 module _ (f : ℕ → Reading (Ty Bytes)) (b : Below) (pos : ℕ) where
   pub types-end : (left : ℕ) → left ≡ 0 → belowScan b (readTypes f left pos) ≡ Types b pos

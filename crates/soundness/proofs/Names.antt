@@ -1,5 +1,5 @@
 -- Laws of words, of the words that are no names, and of names and sizes.
-use Prim.Native.Nat.{ℕ, _+_, _-_, _≤_, _<_}
+use Prim.Native.Nat.{ℕ, suc, _+_, _-_, _≤_, _<_}
 use mathlib.Core.Path.{_≡_, refl}
 use mathlib.Core.Bool.{Bool, true, false, not, Bool·beq}
 use mathlib.Core.List.{List, [], _∷_}
@@ -14,7 +14,8 @@ use Rattle.rast.specs.Bytes.{Bytes, ascii, same, each, among, _and_, _or_}
 use Rattle.rast.specs.Sound.{within, isLetter, isWordStart, isWordByte, isWord, excluded, soundName, soundSize}
 use Rattle.encoding.specs.Tables.{fixedNames, nameBytes}
 use Rattle.encoding.specs.Types.{sizeOf}
-use Rattle.encoding.proofs.Tables.{everyBelow, every-at, same-eq, name-fixed}
+use Rattle.soundness.specs.Judging.{beginsExcluded}
+use Rattle.encoding.proofs.Tables.{impossible, everyBelow, every-at, same-eq, name-fixed}
 use Rattle.encoding.proofs.Names.{beq-eq}
 
 pub and-true : (a : Bool) → (a and true) ≡ a
@@ -82,6 +83,25 @@ unfolding everyBelow starts lengths _and_
 excluded-inside k h =
     leb-true (getD starts k 0 + getD lengths k 0) 58
     (every-at (λ i. leb (getD starts i 0 + getD lengths i 0) 58) 17 refl k h)
+
+-- what lacks something that all of some words have is none of them
+among-none : (f : Bytes → Bool) (x : Bytes) (l : List Bytes) → ((k : ℕ) → k < length l → f (getD l k []) ≡ true) → f x ≡ false → among x l ≡ false
+unfolding among
+among-none f x [] h e = refl
+among-none f x (y ∷ l) h e = go (same x y) refl (among-none f x l (λ k b. h (suc k) (omega arith)) e)
+  where
+    go : (t : Bool) → same x y ≡ t → among x l ≡ false → (same x y or among x l) ≡ false
+    go true d ih = let p : f y ≡ true = h 0 (omega arith) in let q : x ≡ y = same-eq x y d in impossible (cc)
+    go false d ih = rw d ih
+
+-- these words have two to five bytes, and begin with certain letters
+pub excluded-sized : (x : Bytes) → (within 2 5 (length x)) ≡ false → among x excluded ≡ false
+unfolding everyBelow within excluded ascii _and_
+excluded-sized x e = among-none (λ w. within 2 5 (length w)) x excluded (λ k h. every-at (λ i. within 2 5 (length (getD excluded i []))) 17 refl k h) e
+
+pub excluded-begins : (x : Bytes) → beginsExcluded (getD x 0 0) ≡ false → among x excluded ≡ false
+unfolding everyBelow beginsExcluded excluded ascii _and_
+excluded-begins x e = among-none (λ w. beginsExcluded (getD w 0 0)) x excluded (λ k h. every-at (λ i. beginsExcluded (getD (getD excluded i []) 0 0)) 17 refl k h) e
 
 -- ---- fixed names
 

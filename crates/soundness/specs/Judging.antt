@@ -2,9 +2,9 @@
 use Prim.Native.Nat.{ℕ, _≤_, _<_, _^_}
 use mathlib.Core.Bool.{Bool, true, false, not}
 use mathlib.Core.List.{List, [], _∷_}
-use lib.Dec.{ltb}
+use lib.Dec.{ltb, eqb}
 use lib.ListN.{length, getD}
-use Rattle.rast.specs.Bytes.{Bytes, _and_}
+use Rattle.rast.specs.Bytes.{Bytes, _and_, _or_}
 use Rattle.rast.specs.Tree.{Ty, Tys, nil, cons}
 use Rattle.rast.specs.Sound.{soundName, soundSize, soundPath, isNamed, isIntersection, sound}
 use Rattle.encoding.specs.declared.Head.{Head}
@@ -24,6 +24,12 @@ use Rattle.soundness.specs.declared.BelowScan.the-variants.{Types, NoTyp
 -- the tables keep their rule, and name numbers are far from overflow
 abbrev pub Ready : List ℕ → Bytes → Type 0
 Ready pairs text = Good pairs text × (length pairs < 2 ^ 62)
+
+-- ---- names
+
+-- what a word that is no name may begin with
+unfoldable pub beginsExcluded : ℕ → Bool
+beginsExcluded x = eqb x 83 or eqb x 98 or eqb x 99 or eqb x 100 or eqb x 105 or eqb x 109 or eqb x 117
 
 -- ---- paths
 
@@ -56,6 +62,11 @@ intersectionShape Other = false
 abbrev pub judgement : Reading (Ty Bytes) → Judgement
 judgement (got t n) = Judged (sound t) (shapeOf t) n
 judgement (stop r) = Stopped r
+
+-- the judgement on a name, from its number
+abbrev pub nameJudgement : (ℕ → Bytes) → Reading ℕ → Judgement
+nameJudgement name (got x n) = Judged (soundName (name x)) Named n
+nameJudgement name (stop r) = Stopped r
 
 -- ---- the types below a head
 

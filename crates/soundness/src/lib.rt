@@ -8,17 +8,18 @@ ghost use lib.ListN.{length, take, drop, getD};
 ghost use Rattle.rast.specs.Bytes.{_and_, same, each, among};
 ghost use Rattle.rast.specs.Sound.{isWordStart, isWordByte, isWord, excluded, soundName, soundSize, soundPath, sound};
 ghost use Rattle.encoding.specs.Refusals.{mapAnswer};
-ghost use Rattle.encoding.specs.Reading.{whole};
+ghost use Rattle.encoding.specs.Reading.{whole, readBelow};
 ghost use Rattle.encoding.specs.Tables.{nameBytes, nameCount, Good};
 ghost use Rattle.encoding.specs.Heads.{InsidePath, InsideHead};
 ghost use Rattle.encoding.specs.Types.{pathOf, sizeOf, readTypes, readType, typeAt};
-ghost use Rattle.soundness.specs.Judging.{Ready, NamesAt, allNamesSound, namedShape, intersectionShape, withType, nothingBelow, soundAbove, shapeAbove, above, judgement, belowScan};
+ghost use Rattle.soundness.specs.Judging.{beginsExcluded, Ready, NamesAt, allNamesSound, namedShape, intersectionShape, withType, nothingBelow, soundAbove, shapeAbove, above, judgement, nameJudgement, belowScan};
 ghost use Rattle.soundness.specs.Calls.{typeIsSound, soundAnswer};
 use encoding::Check;
 use encoding::Head;
 use encoding::HeadScan;
 use encoding::PathAt;
 use encoding::Refusal;
+use encoding::WordScan;
 
 // Document 01's "sound": yes, no, or the refusal.
 pub enum SoundAnswer {
@@ -152,8 +153,8 @@ fn is_excluded_word(bytes: &[u8], k: usize) -> bool
     encoding::same_bytes(bytes, encoding::part(all, start, end))
 }
 
-// `bytes` is one of the words that are no names.
-fn is_excluded(bytes: &[u8]) -> bool
+// `bytes` is one of the words that are no names, found by comparing with each.
+fn is_listed(bytes: &[u8]) -> bool
     ensures { λ r. ⌜ r ≡ among (now (bytes .entry)) excluded ⌝ }
 {
     let mut k = 0;
@@ -162,6 +163,38 @@ fn is_excluded(bytes: &[u8]) -> bool
             return true;
         }
         k += 1;
+    }
+    false
+}
+
+// Each of these words begins with one of seven letters.
+fn begins_excluded(b: u8) -> bool
+    ensures { λ r. ⌜ r ≡ beginsExcluded b ⌝ }
+{
+    match b {
+        b'S' => true,
+        b'b' => true,
+        b'c' => true,
+        b'd' => true,
+        b'i' => true,
+        b'm' => true,
+        b'u' => true,
+        _ => false,
+    }
+}
+
+// `bytes` is one of the words that are no names. Most names are told apart by their length or first letter.
+fn is_excluded(bytes: &[u8]) -> bool
+    ensures { λ r. ⌜ r ≡ among (now (bytes .entry)) excluded ⌝ }
+{
+    if bytes.len() == 0 {
+        return false;
+    }
+    if 5 < bytes.len() {
+        return false;
+    }
+    if begins_excluded(bytes[0]) {
+        return is_listed(bytes);
     }
     false
 }
@@ -384,6 +417,47 @@ fn judge_type(words: &[u32], pairs: &[u32], text: &[u8], at: usize, deep: usize)
     }
 }
 
+// A name, behind the word that says so.
+fn judge_name(words: &[u32], pairs: &[u32], text: &[u8], at: usize) -> Judgement
+    requires { ⌜ Good (now pairs) (now text) ⌝ }
+    ensures { λ r. ⌜ r ≡ nameJudgement (nameBytes (now (pairs .entry)) (now (text .entry))) (readBelow (nameCount (now (pairs .entry))) (now (words .entry)) at) ⌝ }
+{
+    match encoding::scan_below(words, encoding::name_count(pairs), at) {
+        WordScan::Word { value, next } => Judgement::Judged {
+            sound: sound_name(pairs, text, value),
+            shape: Shape::Named,
+            next,
+        },
+        WordScan::NoWord(r) => Judgement::Stopped(r),
+    }
+}
+
+// A type that stands in another: most are names or plain types, and are judged without a further call.
+fn judge_part(words: &[u32], pairs: &[u32], text: &[u8], at: usize, deep: usize) -> Judgement
+    requires { ⌜ Ready (now pairs) (now text) ⌝ }
+    ensures { λ r. ⌜ r ≡ judgement
+        (readType (nameCount (now (pairs .entry))) (now (words .entry)) (nameBytes (now (pairs .entry)) (now (text .entry))) deep at) ⌝ }
+{
+    if deep == 0 {
+        return Judgement::Stopped(Refusal::TooDeep);
+    }
+    if words.len() <= at {
+        return Judgement::Stopped(Refusal::EndsEarly);
+    }
+    let w = words[at];
+    if w < 12 {
+        return Judgement::Judged {
+            sound: true,
+            shape: Shape::Other,
+            next: at + 1,
+        };
+    }
+    if w == 12 {
+        return judge_name(words, pairs, text, at + 1);
+    }
+    judge_type(words, pairs, text, at, deep)
+}
+
 // `count` types, one behind the other.
 fn judge_types(
     words: &[u32],
@@ -407,7 +481,7 @@ fn judge_types(
     let mut pos = at;
     let mut left = count;
     while 0 < left {
-        match judge_type(words, pairs, text, pos, deep) {
+        match judge_part(words, pairs, text, pos, deep) {
             Judgement::Judged { sound, shape, next } => {
                 below = with_type(below, sound, shape);
                 pos = next;

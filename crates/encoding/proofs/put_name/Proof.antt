@@ -1,8 +1,7 @@
-use Prim.Native.Nat.{_*_, _-_, _+_}
 use mathlib.Core.Path.{sym, ap}
 use lib.ListN.{length}
 use Rattle.output.proofs.Laws.{wrote-as}
-use Rattle.encoding.proofs.Tables.{name-fixed, name-pair, name-length, pair-inside, length-pair}
+use Rattle.encoding.proofs.Tables.{name-fixed}
 use native.Mathlib.Omega.{arith}
 use borrow.Author.Needs.{needs}
 use Rattle.encoding.proofs.put_name.Statement.{statement}
@@ -23,70 +22,16 @@ returns c =
     let a = c .before .before .before .before .before .before .before .before .args in
     wrote-as (sym (name-fixed (a .pairs .now) (a .text .now) (a .name) (search needs))) (c .before .before .put-fixed .ensures)
 
-cast-i : tie.Need-cast-i
-cast-i c = search needs
-
-mul-start : tie.Need-mul-start
-mul-start c = search needs
-
-mul-start-2 : tie.Need-mul-start-2
-mul-start-2 c = search needs
-
-shared-slice-read-start : tie.Need-shared-slice-read-start
-shared-slice-read-start c = search needs
-
-cast-start : tie.Need-cast-start
-cast-start c = omega (arith, c .shared-slice-known3 .given (2 * (c .before .before .before .before .before .args .name - 16)))
-
-mul-count : tie.Need-mul-count
-mul-count c = search needs
-
-add-count : tie.Need-add-count
-add-count c = search needs
-
-mul-count-2 : tie.Need-mul-count-2
-mul-count-2 c = search needs
-
-shared-slice-read-count : tie.Need-shared-slice-read-count
-shared-slice-read-count c = search needs
-
-cast-count : tie.Need-cast-count
-cast-count c = omega (arith, c .shared-slice-known4 .given (2 * (c .before .before .before .before .before .before .args .name - 16) + 1))
-
-put-part-requires : tie.Need-put-part-requires
-put-part-requires c κs =
-    let a = c .before .before .before .before .before .before .before .args in
-    let pre = c .before .before .before .before .before .before .before .pre in
-    let fits = pair-inside (a .pairs .now) (a .text .now) (a .name) (pre .1) (search needs) (pre .0) in
-    let size = name-length (a .pairs .now) (a .text .now) (a .name) (pre .1) (pre .0) in
-    let pair = length-pair (a .pairs .now) (a .name) (search needs) in
-    (omega arith, omega (arith, pre .2))
+put-pair-requires : tie.Need-put-pair-requires
+put-pair-requires c κs = search needs
 
 same-length-2 : tie.Need-same-length-2
 same-length-2 c = search needs
 
 returns-2 : tie.Need-returns-2
-returns-2 c =
-    let a = c .before .before .before .before .before .before .before .before .before .before .args in
-    wrote-as (sym (name-pair (a .pairs .now) (a .text .now) (a .name) (search needs))) (c .before .before .put-part .ensures)
+returns-2 c = search needs
 
 pub put-name-spec : {M : Type 1} → statement M
 put-name-spec =
     tie.close
-    (tie.spec
-    put-fixed-requires
-    same-length
-    returns
-    cast-i
-    mul-start
-    mul-start-2
-    shared-slice-read-start
-    cast-start
-    mul-count
-    add-count
-    mul-count-2
-    shared-slice-read-count
-    cast-count
-    put-part-requires
-    same-length-2
-    returns-2)
+    (tie.spec put-fixed-requires same-length returns put-pair-requires same-length-2 returns-2)

@@ -15,8 +15,8 @@ put-requires c κs = omega (arith, c .before .before .before .before .before .pr
 put-name-requires : tie.Need-put-name-requires
 unfolding ascii
 put-name-requires c κs =
-    let s = c .before .before .before .before .before .before .before .before .before in
-    let w = c .before .before .before .put .ensures in
+    let s = c .before .before .before .before .before .before .before .before .before .before in
+    let w = c .before .before .before .before .put .ensures in
     (s .pre .0, s .pre .1, omega (arith, s .pre .2, w .next, wrote-kept w))
 
 same-length : tie.Need-same-length
@@ -24,8 +24,31 @@ same-length c = search needs
 
 returns : tie.Need-returns
 unfolding ascii
-returns c = wrote-then (c .before .before .before .before .before .before .put .ensures) (c .before .before .put-name .ensures)
+returns c = wrote-then (c .before .before .before .before .before .before .before .put .ensures) (c .before .before .put-name .ensures)
+
+put-pair-requires : tie.Need-put-pair-requires
+unfolding ascii
+put-pair-requires c κs =
+    let s = c .before .before .before .before .before .before .before .before .before .before in
+    let w = c .before .before .before .before .put .ensures in
+    (search needs, s .pre .0, s .pre .1, omega (arith, s .pre .2, w .next, wrote-kept w))
+
+same-length-2 : tie.Need-same-length-2
+same-length-2 c = search needs
+
+returns-2 : tie.Need-returns-2
+unfolding ascii
+returns-2 c = wrote-then (c .before .before .before .before .before .before .before .put .ensures) (c .before .before .put-pair .ensures)
 
 pub put-member-spec : {M : Type 1} → statement M
 put-member-spec =
-    tie.close (tie.spec slice-aggregate-put put-requires put-name-requires same-length returns)
+    tie.close
+    (tie.spec
+    slice-aggregate-put
+    put-requires
+    put-name-requires
+    same-length
+    returns
+    put-pair-requires
+    same-length-2
+    returns-2)

@@ -19,13 +19,13 @@ cast-start c = let h = plain-inside (c .before .before .args .kind) (search need
 primitive-length-requires : tie.Need-primitive-length-requires
 primitive-length-requires c κs = search needs
 
-put-part-requires : tie.Need-put-part-requires
+put-few-requires : tie.Need-put-few-requires
 unfolding plainStarts
-put-part-requires c κs =
+put-few-requires c κs =
     let s = c .before .before .before .before .before in
     let h = plain-inside (s .args .kind) (search needs) in
-    let n = c .before .before .primitive-length .ensures .0 in
-    (omega arith, omega (arith, s .pre .1))
+    let n = c .before .before .primitive-length .ensures in
+    (omega (arith, n .1), omega (arith, n .0), omega (arith, n .0, s .pre .1))
 
 same-length : tie.Need-same-length
 same-length c = search needs
@@ -35,7 +35,7 @@ unfolding plainStarts plainLetters ascii
 returns c =
     let k = c .before .before .before .before .before .before .before .before .args .kind in
     let n = c .before .before .before .before .before .primitive-length .ensures .0 in
-    wrote-as (ap (λ (m : ℕ). take m (drop (getD plainStarts k 0) plainLetters)) n ∙ plain-part k (search needs)) (c .before .before .put-part .ensures)
+    wrote-as (ap (λ (m : ℕ). take m (drop (getD plainStarts k 0) plainLetters)) n ∙ plain-part k (search needs)) (c .before .before .put-few .ensures)
 
 pub put-primitive-spec : {M : Type 1} → statement M
-put-primitive-spec = tie.close (tie.spec array-read-start cast-start primitive-length-requires put-part-requires same-length returns)
+put-primitive-spec = tie.close (tie.spec array-read-start cast-start primitive-length-requires put-few-requires same-length returns)

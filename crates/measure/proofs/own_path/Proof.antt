@@ -1,54 +1,72 @@
 use mathlib.Core.Path.{refl}
-use Rattle.encoding.specs.declared.Head.the-variants.{FromPath}
+use Rattle.encoding.specs.Reading.{readBelow, readWord}
 use Rattle.encoding.specs.Heads.{readPath, pathHead}
-use Rattle.encoding.proofs.Reading.{path-got, path-stop}
-use Rattle.encoding.proofs.Inside.{path-lies}
-use Rattle.measure.specs.Lengths.{ownLength}
-use Rattle.measure.proofs.Scans.{scanned-leaf, scanned-stop}
+use Rattle.encoding.proofs.Reading.{word-got, word-stop}
+use Rattle.encoding.proofs.Inside.{word-there}
+use Rattle.measure.specs.Lengths.{namesHead}
+use Rattle.measure.proofs.Scans.{scanned-stop, scanned-as, path-names}
+use native.Mathlib.Omega.{arith}
 use borrow.Author.Needs.{needs}
 use Rattle.measure.proofs.own_path.Statement.{statement}
 use Rattle.measure.proofs.own_path.Tie as tie
 
-scan-path-requires : tie.Need-scan-path-requires
-scan-path-requires c κs = search needs
+scan-below-requires : tie.Need-scan-below-requires
+scan-below-requires c κs = search needs
 
-enum-known-path : tie.Need-enum-known-path
-enum-known-path c = search needs
+enum-known-root : tie.Need-enum-known-root
+enum-known-root c = search needs
 
-path-bytes-requires : tie.Need-path-bytes-requires
-path-bytes-requires c κs =
-    let s = c .before .before .before .before .before .before in
-    let a = s .args in
-    let e = path-got (readPath (a .bound) (a .words .now) (a .at)) (c .before .before .before .scan-path .ensures) (c .before .path .given .1) in
-    (rw (s .pre .0) at (path-lies (a .bound) (a .words .now) (a .at) e .own), s .pre .1)
+scan-word-requires : tie.Need-scan-word-requires
+scan-word-requires c κs = search needs
 
-own-leaf-requires : tie.Need-own-leaf-requires
-own-leaf-requires c κs = search needs
+enum-known-count : tie.Need-enum-known-count
+enum-known-count c = search needs
+
+own-names-requires : tie.Need-own-names-requires
+own-names-requires c κs =
+    let s = c .before .before .before .before .before .before .before .before .before .before in
+    let d = word-got (readWord (s .args .words .now) _) (c .before .before .before .scan-word .ensures) (c .before .count .given .1) in
+    let k = word-there (s .args .words .now) _ d in
+    (s .pre .0, s .pre .1, omega (arith, k .next, k .here))
 
 enum-known-r : tie.Need-enum-known-r
 enum-known-r c = search needs
 
+enum-known-r-2 : tie.Need-enum-known-r-2
+enum-known-r-2 c = search needs
+
 returns : tie.Need-returns
-unfolding pathHead ownLength
 returns c =
-    let a = c .before .before .before .before .before .before .before .before .args in
-    let e = path-got (readPath (a .bound) (a .words .now) (a .at)) (c .before .before .before .before .before .scan-path .ensures) (c .before .before .before .path .given .1) in
-    scanned-leaf (a .words .now) (a .pairs .now) (FromPath _) (rw e) (c .own-leaf .ensures) refl (c .before .path-bytes .ensures .0) (c .before .path-bytes .ensures .1)
+    let a = c .before .before .before .before .before .before .before .before .before .before .before .args in
+    let e = word-got (readBelow 3 (a .words .now) (a .at)) (c .before .before .before .before .before .before .before .before .scan-below .ensures) (c .before .before .before .before .before .before .root .given .1) in
+    let d = word-got (readWord (a .words .now) _) (c .before .before .before .before .scan-word .ensures) (c .before .before .count .given .1) in
+    scanned-as (a .words .now) (a .pairs .now) (path-names (a .bound) (a .words .now) (a .at) e d) (c .own-names .ensures)
 
 returns-2 : tie.Need-returns-2
-unfolding pathHead
+unfolding pathHead readPath
 returns-2 c =
+    let a = c .before .before .before .before .before .before .before .before .before .before .args in
+    let e = word-got (readBelow 3 (a .words .now) (a .at)) (c .before .before .before .before .before .before .before .scan-below .ensures) (c .before .before .before .before .before .root .given .1) in
+    let d = word-stop (readWord (a .words .now) _) (c .before .before .before .scan-word .ensures) (c .before .r .given .1) in
+    scanned-stop (a .words .now) (a .pairs .now) (rw (e, d)) refl
+
+returns-3 : tie.Need-returns-3
+unfolding pathHead readPath
+returns-3 c =
     let a = c .before .before .before .before .before .before .args in
-    scanned-stop (a .words .now) (a .pairs .now) (rw (path-stop (readPath (a .bound) (a .words .now) (a .at)) (c .before .before .before .scan-path .ensures) (c .before .r .given .1))) refl
+    scanned-stop (a .words .now) (a .pairs .now) (rw (word-stop (readBelow 3 (a .words .now) (a .at)) (c .before .before .before .scan-below .ensures) (c .before .r2 .given .1))) refl
 
 pub own-path-spec : {M : Type 1} → statement M
 own-path-spec =
     tie.close
     (tie.spec
-    scan-path-requires
-    enum-known-path
-    path-bytes-requires
-    own-leaf-requires
+    scan-below-requires
+    enum-known-root
+    scan-word-requires
+    enum-known-count
+    own-names-requires
     enum-known-r
+    enum-known-r-2
     returns
-    returns-2)
+    returns-2
+    returns-3)

@@ -66,7 +66,7 @@ loop-again c =
     let h = l .inv .2 in
     let e = l .inv .3 in
     let n = name-fits (s .args .pairs .now) (λ j. omega (arith, c .before .before .before .before .before .before .shared-slice-known2 .given j)) _ _ (c .name-length .ensures) in
-    let m = names-more (nameLength (s .args .pairs .now)) (s .args .words .now) (l .i) (s .args .path .start + s .args .path .count) (search needs) (s .pre .0 .inside) in
+    let m = names-more (nameLength (s .args .pairs .now)) (s .args .words .now) (l .i) (s .args .path .start + s .args .path .count) (search needs) (omega (arith, s .pre .0 .inside)) in
     (omega arith, omega arith, omega arith, omega (arith, c .name-length .ensures))
 
 returns : tie.Need-returns Inv-loop μ-loop

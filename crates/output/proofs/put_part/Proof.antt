@@ -1,4 +1,4 @@
-use Rattle.output.proofs.Laws.{part-length}
+use Rattle.output.proofs.Laws.{part-wrote}
 use borrow.Author.Needs.{needs}
 use Rattle.output.proofs.put_part.Statement.{statement}
 use Rattle.output.proofs.put_part.Tie as tie
@@ -15,7 +15,7 @@ same-length c = search needs
 returns : tie.Need-returns
 returns c =
     let a = c .before .before .before .before .before .before .args in
-    record { bytes = c .before .before .copy-any .ensures; next = rw (part-length (a .bytes .now) (a .start) (a .count) (search needs)) }
+    part-wrote (a .bytes .now) (a .start) (a .count) (search needs) (c .before .before .copy-any .ensures)
 
 pub put-part-spec : {M : Type 1} → statement M
 put-part-spec = tie.close (tie.spec copy-any-requires add-result same-length returns)

@@ -1,63 +1,50 @@
-use Prim.Native.Nat.{_≤_, _-_}
-use mathlib.Core.Path.{_≡_, sym, _∙_}
-use lib.ListN.{drop}
-use Rattle.rast.specs.Bytes.{among}
-use Rattle.rast.specs.Sound.{excluded}
-use Rattle.soundness.proofs.Names.{among-more, among-end}
+use mathlib.Core.Path.{sym, _∙_}
+use borrow.Author.Tests.{le-leb, lt-leb}
 use borrow.Author.Needs.{needs}
+use native.Mathlib.Omega.{arith}
+use lib.ListN.{length}
+use Rattle.rast.specs.Bytes.{_and_}
+use Rattle.rast.specs.Sound.{within}
+use Rattle.soundness.proofs.Names.{excluded-sized, excluded-begins}
 use Rattle.soundness.proofs.is_excluded.Statement.{statement}
 use Rattle.soundness.proofs.is_excluded.Tie as tie
 
-abbrev Inv-loop : tie.InvT-loop
-Inv-loop bytes k₀ k = (k ≤ 17) × (among bytes (drop k excluded) ≡ among bytes excluded)
-
-abbrev μ-loop : tie.MeasureT-loop
-μ-loop bytes k₀ k = 17 - k
-
-loop-holds : tie.Need-loop-holds Inv-loop μ-loop
-loop-holds c = search needs
-
-is-excluded-word-requires : tie.Need-is-excluded-word-requires Inv-loop μ-loop
-is-excluded-word-requires c κs = search needs
-
-returns : tie.Need-returns Inv-loop μ-loop
-unfolding excluded
+returns : tie.Need-returns
+unfolding within _and_
 returns c =
-    let l = c .before .before .before .loop in
-    let a = c .before .before .before .before .before .args in
-    let yes = sym (c .before .is-excluded-word .ensures) ∙ c .if1 .taken in
-    sym (among-more (a .bytes .now) excluded (l .k) (search needs) ∙ rw yes) ∙ l .inv .1
+    let b = c .before .before .args .bytes .now in
+    sym (excluded-sized b (rw (lt-leb 2 (length b) (omega arith))))
 
-add-k : tie.Need-add-k Inv-loop μ-loop
-add-k c = search needs
-
-loop-less : tie.Need-loop-less Inv-loop μ-loop
-loop-less c = search needs
-
-loop-again : tie.Need-loop-again Inv-loop μ-loop
-unfolding excluded
-loop-again c =
-    let l = c .before .before .before .loop in
-    let a = c .before .before .before .before .before .args in
-    let no = sym (c .before .is-excluded-word .ensures) ∙ c .if1 .left in
-    (search needs, sym (among-more (a .bytes .now) excluded (l .k) (search needs) ∙ rw no) ∙ l .inv .1)
-
-returns-2 : tie.Need-returns-2 Inv-loop μ-loop
-unfolding excluded
+returns-2 : tie.Need-returns-2
+unfolding within _and_
 returns-2 c =
-    let l = c .before .loop in
-    sym (among-end (c .before .before .before .args .bytes .now) excluded (l .k) (search needs)) ∙ l .inv .1
+    let b = c .before .before .before .args .bytes .now in
+    sym (excluded-sized b (rw (le-leb 2 (length b) (omega arith), lt-leb (length b) 5 (omega arith))))
+
+shared-slice-read-begins-excluded : tie.Need-shared-slice-read-begins-excluded
+shared-slice-read-begins-excluded c = search needs
+
+begins-excluded-requires : tie.Need-begins-excluded-requires
+begins-excluded-requires c κs = search needs
+
+is-listed-requires : tie.Need-is-listed-requires
+is-listed-requires c κs = search needs
+
+returns-3 : tie.Need-returns-3
+returns-3 c = search needs
+
+returns-4 : tie.Need-returns-4
+returns-4 c =
+    sym (excluded-begins (c .before .before .before .before .before .before .args .bytes .now) (sym (c .before .begins-excluded .ensures) ∙ c .if3 .left))
 
 pub is-excluded-spec : {M : Type 1} → statement M
 is-excluded-spec =
     tie.close
     (tie.spec
-    Inv-loop
-    μ-loop
-    loop-holds
-    is-excluded-word-requires
     returns
-    add-k
-    loop-less
-    loop-again
-    returns-2)
+    returns-2
+    shared-slice-read-begins-excluded
+    begins-excluded-requires
+    is-listed-requires
+    returns-3
+    returns-4)

@@ -1,0 +1,147 @@
+use Prim.Native.Nat.{_+_, _-_, _*_, _^_, _≤_}
+use mathlib.Core.Path.{_≡_, refl, sym, ap, _∙_}
+use lib.ListN.{length, take, drop}
+use Rattle.encoding.specs.declared.Head.the-variants.{FromPath}
+use Rattle.encoding.specs.Tables.{nameLength}
+use Rattle.encoding.specs.Reading.{readBelow, readNames}
+use Rattle.encoding.proofs.Reading.{word-got, word-stop, names-more as reads-more, names-stop, names-none as reads-none}
+use Rattle.encoding.proofs.Inside.{below-there}
+use Rattle.measure.specs.Lengths.{namesLength, pathLength, ownLength, namesHead}
+use Rattle.measure.proofs.Lengths.{name-fits, names-more, names-none}
+use Rattle.measure.proofs.Scans.{scanned-leaf, scanned-stop}
+use native.Mathlib.Omega.{arith}
+use borrow.Author.Needs.{needs}
+use Rattle.measure.proofs.own_names.Statement.{statement}
+use Rattle.measure.proofs.own_names.Tie as tie
+
+-- what is left of the names is read as all of them are, and their lengths add up
+abbrev Inv-loop : tie.InvT-loop
+Inv-loop words pairs bound i₀ end bytes₀ i bytes =
+    (i ≤ end) × (i ≤ length words) × (bytes ≤ 5 + i * (2 ^ 32 + 2))
+    × (readNames bound words (end - i) i ≡ readNames bound words (end - i₀) i₀)
+    × (bytes + namesLength (nameLength pairs) (take (end - i) (drop i words))
+    ≡ bytes₀ + namesLength (nameLength pairs) (take (end - i₀) (drop i₀ words)))
+
+abbrev μ-loop : tie.MeasureT-loop
+μ-loop words pairs bound i₀ end bytes₀ i bytes = end - i
+
+cast-end : tie.Need-cast-end Inv-loop μ-loop
+cast-end c = search needs
+
+add-end : tie.Need-add-end Inv-loop μ-loop
+add-end c = omega (arith, c .before .before .before .pre .2)
+
+root-length-requires : tie.Need-root-length-requires Inv-loop μ-loop
+root-length-requires c κs = search needs
+
+loop-holds : tie.Need-loop-holds Inv-loop μ-loop
+loop-holds c =
+    let s = c .before .before .before .before in
+    (omega arith, s .pre .2, omega (arith, c .root-length .ensures .1), refl, refl)
+
+scan-below-requires : tie.Need-scan-below-requires Inv-loop μ-loop
+scan-below-requires c κs = search needs
+
+enum-known-value : tie.Need-enum-known-value Inv-loop μ-loop
+enum-known-value c = search needs
+
+name-length-requires : tie.Need-name-length-requires Inv-loop μ-loop
+name-length-requires c κs =
+    let s = c .before .before .before .before .before .before .before .before .before .before in
+    let a = s .args in
+    let l = c .before .before .before .before .before .loop in
+    let e = word-got (readBelow (a .bound) (a .words .now) (l .i)) (c .before .before .before .scan-below .ensures) (c .before .value .given .1) in
+    omega (arith, s .pre .0, below-there (a .bound) (a .words .now) (l .i) e .below)
+
+add-bytes : tie.Need-add-bytes Inv-loop μ-loop
+add-bytes c =
+    let a = c .before .before .before .before .before .before .before .before .before .before .before .args in
+    omega (arith, name-fits (a .pairs .now) (λ j. omega (arith, c .before .before .before .before .before .before .before .before .before .shared-slice-known2 .given j)) _ _ (c .name-length .ensures))
+
+add-bytes-2 : tie.Need-add-bytes-2 Inv-loop μ-loop
+add-bytes-2 c =
+    let s = c .before .before .before .before .before .before .before .before .before .before .before in
+    let a = s .args in
+    let l = c .before .before .before .before .before .before .loop in
+    let n = name-fits (a .pairs .now) (λ j. omega (arith, c .before .before .before .before .before .before .before .before .before .shared-slice-known2 .given j)) _ _ (c .name-length .ensures) in
+    omega (arith, l .inv .2, l .inv .1, s .pre .1)
+
+loop-less : tie.Need-loop-less Inv-loop μ-loop
+loop-less c =
+    let a = c .before .before .before .before .before .before .before .before .before .before .before .args in
+    let l = c .before .before .before .before .before .before .loop in
+    let e = word-got (readBelow (a .bound) (a .words .now) (l .i)) (c .before .before .before .before .scan-below .ensures) (c .before .before .value .given .1) in
+    omega (arith, below-there (a .bound) (a .words .now) (l .i) e .next)
+
+loop-again : tie.Need-loop-again Inv-loop μ-loop
+loop-again c =
+    let s = c .before .before .before .before .before .before .before .before .before .before .before in
+    let a = s .args in
+    let l = c .before .before .before .before .before .before .loop in
+    let end = a .path .start + a .path .count in
+    let e = word-got (readBelow (a .bound) (a .words .now) (l .i)) (c .before .before .before .before .scan-below .ensures) (c .before .before .value .given .1) in
+    let k = below-there (a .bound) (a .words .now) (l .i) e in
+    let n = name-fits (a .pairs .now) (λ j. omega (arith, c .before .before .before .before .before .before .before .before .before .shared-slice-known2 .given j)) _ _ (c .name-length .ensures) in
+    let m = names-more (nameLength (a .pairs .now)) (a .words .now) (l .i) end (search needs) (k .here) in
+    let r = reads-more (a .bound) (a .words .now) (l .i) (end - l .i) _ _ (omega arith) e in (
+      omega (arith, k .next),
+      omega (arith, k .next, k .here),
+      omega (arith, k .next, l .inv .2),
+      ap (λ j. readNames (a .bound) (a .words .now) j (c .before .before .value .given .0 .1 .0)) (omega (arith, k .next)) ∙ sym r ∙ l .inv .3,
+      rw (k .next) (omega (arith, l .inv .4, m, c .name-length .ensures, ap (nameLength (a .pairs .now)) (k .same))),
+    )
+
+enum-known-r : tie.Need-enum-known-r Inv-loop μ-loop
+enum-known-r c = search needs
+
+returns : tie.Need-returns Inv-loop μ-loop
+unfolding namesHead
+returns c =
+    let a = c .before .before .before .before .before .before .before .before .before .before .args in
+    let l = c .before .before .before .before .before .loop in
+    let end = a .path .start + a .path .count in
+    let e = word-stop (readBelow (a .bound) (a .words .now) (l .i)) (c .before .before .before .scan-below .ensures) (c .before .r .given .1) in
+    let f = sym (names-stop (a .bound) (a .words .now) (l .i) (end - l .i) _ (omega arith) e) ∙ l .inv .3 in
+    let n : end - a .path .start ≡ a .path .count = omega arith in
+    scanned-stop (a .words .now) (a .pairs .now) (rw (sym (rw n at f))) refl
+
+own-leaf-requires : tie.Need-own-leaf-requires Inv-loop μ-loop
+own-leaf-requires c κs = search needs
+
+returns-2 : tie.Need-returns-2 Inv-loop μ-loop
+unfolding namesHead ownLength pathLength
+returns-2 c =
+    let s = c .before .before .before .before .before .before .before in
+    let a = s .args in
+    let l = c .before .before .loop in
+    let end = a .path .start + a .path .count in
+    let z : end - l .i ≡ 0 = omega arith in
+    let n : end - a .path .start ≡ a .path .count = omega arith in
+    let i : l .i ≡ end = omega arith in
+    let f = sym (reads-none (a .bound) (a .words .now) (l .i) (end - l .i) z) ∙ l .inv .3 in
+    let m = names-none (nameLength (a .pairs .now)) (a .words .now) (l .i) end (search needs) in
+    scanned-leaf (a .words .now) (a .pairs .now) (FromPath (a .path)) (rw (sym (rw (n, i) at f))) (c .own-leaf .ensures) refl
+    (omega (arith, c .before .before .before .root-length .ensures .0, m, rw n at (l .inv .4)))
+    (omega (arith, l .inv .2, l .inv .1, s .pre .1))
+
+pub own-names-spec : {M : Type 1} → statement M
+own-names-spec =
+    tie.close
+    (tie.spec
+    Inv-loop
+    μ-loop
+    cast-end
+    add-end
+    root-length-requires
+    loop-holds
+    scan-below-requires
+    enum-known-value
+    name-length-requires
+    add-bytes
+    add-bytes-2
+    loop-less
+    loop-again
+    enum-known-r
+    returns
+    own-leaf-requires
+    returns-2)
