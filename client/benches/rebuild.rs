@@ -1,5 +1,5 @@
-//! Times rebuilt types and declarations: the library through its wrapper, the hand-tuned version
-//! and the reference, side by side in one run.
+//! Times rebuilt types and declarations, and types at initialization: the library through its
+//! wrapper, the hand-tuned version and the reference, side by side in one run.
 
 mod samples;
 mod timing;
@@ -20,6 +20,13 @@ const DECLARATIONS: [WordCall; 3] = [
     tillercoral::declaration_rebuild,
     tuned::declaration_rebuild,
     reference::declaration_rebuild,
+];
+
+/// These take no rules.
+const INITIALIZATIONS: [WordCall; 3] = [
+    |encoding, _rules, out| tillercoral::type_at_initialization(encoding, out),
+    |encoding, _rules, out| tuned::type_at_initialization(encoding, out),
+    |encoding, _rules, out| reference::type_at_initialization(encoding, out),
 ];
 
 /// Trees that are rebuilt one after the other, each with its rules.
@@ -152,6 +159,7 @@ fn cases() -> Vec<Case> {
     cases.extend(growing_with_rules());
     cases.push(Case::one("nested, all match", nested(), vec![1, 15, 0, 0]));
     cases.extend(declarations());
+    cases.extend(initializations());
     cases
 }
 
@@ -161,6 +169,30 @@ fn declarations() -> Vec<Case> {
         Case::new("a struct, one rule", DECLARATIONS, vec![a_struct()]),
         fields("fields, none matches", rules_that_miss(8)),
         fields("fields, many match", rules_that_hit(8)),
+    ]
+}
+
+fn initializations() -> Vec<Case> {
+    let case = |name, words: &[u32]| {
+        let tree = item_names().with_words(words);
+        Case::new(name, INITIALIZATIONS, vec![(tree, vec![0])])
+    };
+    let object_of = [14, 1, 13, 0, 2, 10, 11];
+    let array_of = [22, 0];
+    let large = list_of_types(8_000).words;
+    vec![
+        case(
+            "initialized, the same",
+            &[&object_of[..], &[12, 16]].concat(),
+        ),
+        case(
+            "initialized, an array",
+            &[&object_of[..], &array_of, &[12, 16]].concat(),
+        ),
+        case(
+            "initialized, large",
+            &[&object_of[..], &array_of, &large].concat(),
+        ),
     ]
 }
 

@@ -1,14 +1,14 @@
-//! Times the text of types: the library through its wrapper, the reference with its trees and
-//! vectors, and the hand-tuned version, side by side in one run.
+//! Times the text of types and of paths: the library through its wrapper, the reference with its
+//! trees and vectors, and the hand-tuned version, side by side in one run.
 //!
 //! The buffers are not cleared between calls, so only the calls themselves are timed.
 
 mod samples;
 mod timing;
 
-use samples::gauge_types;
+use samples::{gauge_types, nested_paths};
 use tillercoral::generate::{random_type, Names, Random, Shape};
-use tillercoral::{reference, tuned, type_text, EncodingBuf};
+use tillercoral::{path_text, reference, tuned, type_text, EncodingBuf};
 use timing::{print_growth, print_times, timed, Case, Kind, Maker};
 
 const TYPES: Kind = Kind {
@@ -17,21 +17,36 @@ const TYPES: Kind = Kind {
     text_of,
 };
 
+const PATHS: Kind = Kind {
+    what: "paths",
+    calls: [path_text, tuned::path_text, reference::path_text],
+    text_of: text_of_path,
+};
+
 fn main() {
-    let cases = cases();
-    for case in &cases {
+    let (cases, paths) = (cases(), paths());
+    for case in cases.iter().chain(&paths) {
         case.check();
     }
     println!("{} groups of types: all three versions agree", cases.len());
+    println!("{} paths: all three versions agree", paths.len());
     if timed() {
         print_times(&cases);
         print_growth(&TYPES, &GROWING);
+        println!();
+        print_times(&paths);
     }
 }
 
 fn text_of(sample: &EncodingBuf, _level: u32) -> Vec<u8> {
     reference::read_type(&sample.as_encoding())
         .expect("the benchmark's own types are accepted")
+        .reference_text()
+}
+
+fn text_of_path(sample: &EncodingBuf, _level: u32) -> Vec<u8> {
+    reference::read_path(&sample.as_encoding())
+        .expect("the benchmark's own paths are accepted")
         .reference_text()
 }
 
@@ -60,6 +75,15 @@ fn cases() -> Vec<Case<'static>> {
         case("most words", vec![many_children(8_192)]),
         case("most pairs", vec![most_pairs()]),
         case("most text", vec![most_text()]),
+    ]
+}
+
+fn paths() -> Vec<Case<'static>> {
+    let case = |name, sample| Case::new(&PATHS, name, 0, vec![sample]);
+    vec![
+        case("::std::rc::Rc", Names::of(&[]).with_words(&[0, 3, 1, 2, 3])),
+        case("crate, five names", five_names()),
+        case("1,000 names", thousand_names()),
     ]
 }
 
@@ -103,17 +127,6 @@ fn nested() -> EncodingBuf {
     }
     words.push(0);
     names.with_words(&words)
-}
-
-fn nested_paths(words: usize) -> EncodingBuf {
-    let names = Names::of(&[b"instruments", b"sounder", b"channel", b"Reading"]);
-    let mut children = Vec::new();
-    let mut count = 0;
-    while children.len() + 18 <= words {
-        children.extend([14, 1, 13, 1, 4, 16, 17, 18, 19, 13, 0, 3, 1, 2, 3]);
-        count += 1;
-    }
-    names.with_words(&[&[19, count], &children[..]].concat())
 }
 
 fn long_names() -> EncodingBuf {
@@ -183,5 +196,23 @@ fn most_text() -> EncodingBuf {
     for _ in 0..64 {
         words.extend([12, 16]);
     }
+    names.with_words(&words)
+}
+
+fn five_names() -> EncodingBuf {
+    let names = Names::of(&[b"instruments", b"sounder", b"channel", b"nmea", b"Reading"]);
+    names.with_words(&[1, 5, 16, 17, 18, 19, 20])
+}
+
+/// Names of a table and fixed ones, of different lengths.
+fn thousand_names() -> EncodingBuf {
+    let names = Names::of(&[
+        b"Gauge",
+        b"instruments",
+        b"mm",
+        b"a_longer_name_of_a_module",
+    ]);
+    let mut words = vec![0, 1_000];
+    words.extend((0..1_000).map(|i| [16, 17, 18, 1, 19, 10][i % 6]));
     names.with_words(&words)
 }

@@ -1,5 +1,5 @@
-//! Times visit lists, and some answers about shapes and parts: the library through its wrapper, the
-//! hand-tuned version and the reference, side by side in one run.
+//! Times visit lists, soundness, and some answers about shapes and parts: the library through its
+//! wrapper, the hand-tuned version and the reference, side by side in one run.
 
 mod samples;
 mod timing;
@@ -7,8 +7,8 @@ mod timing;
 use std::hint::black_box;
 use std::time::Instant;
 
-use samples::gauge_types;
-use tillercoral::generate::{random_shaped_type, Names, Random};
+use samples::{gauge_types, nested_paths};
+use tillercoral::generate::{random_shaped_type, random_type, Names, Random, Shape};
 use tillercoral::reference::{self, PARTS, SHAPES};
 use tillercoral::{tuned, Encoding, EncodingBuf, Refusal};
 use timing::{best_times, is_asked_for, timed, ROUNDS};
@@ -42,6 +42,15 @@ static VISITS: [Kind; 2] = [
         ],
     },
 ];
+
+static SOUNDNESS: Kind = Kind {
+    name: "type_is_sound",
+    calls: [
+        |encoding, _| tillercoral::type_is_sound(encoding).map(usize::from),
+        |encoding, _| tuned::type_is_sound(encoding).map(usize::from),
+        |encoding, _| reference::type_is_sound(encoding).map(usize::from),
+    ],
+};
 
 static ANSWERS: [Kind; 4] = [
     Kind {
@@ -163,6 +172,7 @@ fn print_times(cases: &[Case]) {
 
 fn cases() -> Vec<Case> {
     let mut cases = visits();
+    cases.extend(soundness());
     for kind in &ANSWERS {
         cases.push(Case::new(kind, "gauge types", gauge_types()));
         cases.push(Case::new(kind, "shaped types", shaped_types()));
@@ -182,6 +192,48 @@ fn visits() -> Vec<Case> {
         Case::new(declarations, "struct fields", vec![many_fields(25)]),
         Case::new(declarations, "enum fields", vec![many_fields(26)]),
     ]
+}
+
+/// All of these but the shaped types are sound, so that the answer depends on every word.
+fn soundness() -> Vec<Case> {
+    let case = |what, samples| Case::new(&SOUNDNESS, what, samples);
+    vec![
+        case("gauge types", sound(gauge_types())),
+        case("shaped types", shaped_types()),
+        case("nested mix", sound(nested_mix())),
+        case("8,192 words", sound(vec![list_of_synonyms(8_192)])),
+        case("nested paths", sound(vec![nested_paths(8_192)])),
+    ]
+}
+
+fn sound(samples: Vec<EncodingBuf>) -> Vec<EncodingBuf> {
+    for sample in &samples {
+        let answer = reference::type_is_sound(&sample.as_encoding());
+        assert_eq!(answer, Ok(true), "{sample:?}");
+    }
+    samples
+}
+
+/// Names of 1 to 40 bytes, in types with all heads.
+fn nested_mix() -> Vec<EncodingBuf> {
+    let stock: Vec<Vec<u8>> = (0..120)
+        .map(|i| {
+            let name = format!("G{i}_of_a_gauge_that_has_a_very_long_name");
+            name.as_bytes()[..1 + i * 7 % 40].to_vec()
+        })
+        .collect();
+    let names = Names::of(&stock.iter().map(Vec::as_slice).collect::<Vec<_>>());
+    let random = &mut Random::new(11);
+    let shape = Shape {
+        depth: 10,
+        chain: false,
+        children: 4,
+        words: 300,
+        careless: 0,
+    };
+    (0..60)
+        .map(|_| random_type(random, &names, shape))
+        .collect()
 }
 
 fn shaped_types() -> Vec<EncodingBuf> {

@@ -1,5 +1,5 @@
-//! The text of a type and of a declaration as one would write it by hand for speed, in safe Rust:
-//! the baseline that the proved library is compared with.
+//! The text of a type, a path and a declaration as one would write it by hand for speed, in safe
+//! Rust: the baseline that the proved library is compared with.
 //!
 //! The first pass checks the words and adds up the length of the text, the second writes. Neither
 //! allocates. The second relies on the first for what the words are; where a bounds check remains,
@@ -8,7 +8,9 @@
 use crate::{Encoding, Refusal};
 
 pub use declaration::declaration_text;
+pub use initialization::type_at_initialization;
 pub use rebuild::{declaration_rebuild, type_rebuild};
+pub use sound::type_is_sound;
 pub use walks::{
     can_read_without_clone, declaration_visit, expand, is_object_or_pointer, is_rc,
     object_or_pointer_underlying, type_visit,
@@ -17,7 +19,9 @@ pub use walks::{
 mod check;
 mod declaration;
 mod doc;
+mod initialization;
 mod rebuild;
+mod sound;
 mod walks;
 
 const FIXED_COUNT: u32 = 16;
@@ -106,6 +110,23 @@ pub fn type_text(encoding: &Encoding<'_>, level: u32, out: &mut [u8]) -> Result<
         out,
     };
     writer.put_type(0, 0);
+    Ok(length)
+}
+
+pub fn path_text(encoding: &Encoding<'_>, level: u32, out: &mut [u8]) -> Result<usize, Refusal> {
+    let Encoding { words, pairs, text } = *encoding;
+    check_tables(encoding, level)?;
+    let mut rest = words.iter();
+    let length = measure_path(&mut rest, pairs)? as usize;
+    check_no_rest(&rest)?;
+    let out = out.get_mut(..length).ok_or(Refusal::BufferTooShort)?;
+    let mut writer = Writer {
+        words,
+        pairs,
+        text,
+        out,
+    };
+    writer.put_path(0, 0);
     Ok(length)
 }
 

@@ -41,7 +41,13 @@ fn check_type(encoding: &Encoding<'_>, level: u32, tally: &mut Tally) {
         Ok(false) => tally.unsound += 1,
         Err(_) => {}
     }
-    assert_eq!(type_is_sound(encoding), wanted_sound, "sound: {encoding:?}");
+    check_sound(encoding, wanted_sound);
+}
+
+fn check_sound(encoding: &Encoding<'_>, wanted: Result<bool, Refusal>) {
+    assert_eq!(type_is_sound(encoding), wanted, "library: {encoding:?}");
+    let tuned = tuned::type_is_sound(encoding);
+    assert_eq!(tuned, wanted, "tuned: {encoding:?}");
 }
 
 /// The call for a path on one encoding, with buffers of many lengths.
@@ -53,6 +59,8 @@ fn check_path(encoding: &Encoding<'_>, level: u32, tally: &mut Tally) {
     tally.count_text(&wanted);
     for length in buffer_lengths(&wanted) {
         check_text("library, path", path_text, encoding, level, length, &wanted);
+        let tuned = tuned::path_text;
+        check_text("tuned, path", tuned, encoding, level, length, &wanted);
     }
     let length = wanted.as_ref().map_or(9, Vec::len);
     check_text(
@@ -224,7 +232,7 @@ fn soundness() {
             damage(random, &mut sample);
         }
         let wanted = reference::type_is_sound(&sample.as_encoding());
-        assert_eq!(type_is_sound(&sample.as_encoding()), wanted, "{sample:?}");
+        check_sound(&sample.as_encoding(), wanted);
         match wanted {
             Ok(true) => answers[0] += 1,
             Ok(false) => answers[1] += 1,
@@ -281,7 +289,7 @@ fn soundness_of_names() {
                 text: &text,
             };
             let wanted = reference::type_is_sound(&encoding);
-            assert_eq!(type_is_sound(&encoding), wanted, "{encoding:?}");
+            check_sound(&encoding, wanted);
             answers[wanted.unwrap() as usize] += 1;
         }
     }

@@ -323,10 +323,13 @@ fn check_by_hand(call: WordCall, cases: &[WordCase]) {
 fn by_hand() {
     check_by_hand(type_rebuild, &cases::type_rebuilds());
     check_by_hand(declaration_rebuild, &cases::declaration_rebuilds());
-    check_by_hand(
+    let initializations: [WordCall; 2] = [
         |encoding, _rules, out| type_at_initialization(encoding, out),
-        &cases::initializations(),
-    );
+        |encoding, _rules, out| tuned::type_at_initialization(encoding, out),
+    ];
+    for call in initializations {
+        check_by_hand(call, &cases::initializations());
+    }
 }
 
 /// 1 comes first, of the rules as of the tree; then 2; then the tree, whose 6 comes before the
@@ -441,6 +444,13 @@ struct InitializationTally {
     refused: [usize; 12],
 }
 
+type InitializationCall = fn(&Encoding<'_>, &mut [u32]) -> Result<usize, Refusal>;
+
+const INITIALIZATIONS: [(&str, InitializationCall); 2] = [
+    ("library", type_at_initialization),
+    ("tuned", tuned::type_at_initialization),
+];
+
 /// `TypeAtInitialization` on buffers of many lengths.
 fn check_initialization(encoding: &Encoding<'_>, tally: &mut InitializationTally) {
     let words = reference::initialization_words(encoding);
@@ -452,16 +462,18 @@ fn check_initialization(encoding: &Encoding<'_>, tally: &mut InitializationTally
         }
     };
     for length in [length, length.saturating_sub(1), 0, length + 9] {
-        let run = |call: fn(&Encoding<'_>, &mut [u32]) -> Result<usize, Refusal>| {
+        let run = |call: InitializationCall| {
             let mut buffer = word_pattern(length);
             (call(encoding, &mut buffer), buffer)
         };
         let wanted = run(reference::type_at_initialization);
-        assert_eq!(
-            run(type_at_initialization),
-            wanted,
-            "buffer of {length}: {encoding:?}"
-        );
+        for (what, call) in INITIALIZATIONS {
+            assert_eq!(
+                run(call),
+                wanted,
+                "{what}, buffer of {length}: {encoding:?}"
+            );
+        }
         match (&words, wanted.0) {
             (Ok(words), Ok(_)) if words == encoding.words => tally.unchanged += 1,
             (Ok(_), Ok(_)) => tally.changed += 1,
@@ -485,11 +497,21 @@ fn initializations() {
         check_initialization(&sample.as_encoding(), &mut tally);
     }
     // Elements of which the deepest just fit, or just do not.
+    let wrapped_array = cases::joined(&[&[24, 0], &cases::ARRAY2_OF]);
     for outside in [cases::OBJECT_OF, cases::PTR_OF] {
         for depth in 55..=64 {
-            for inside in [&[22, 0][..], &cases::ARRAY2_OF, &[22, 1]] {
-                let words = cases::joined(&[&outside, inside, &borrows_then(depth, &[0])]);
-                check_initialization(&cases::encoded(&words).as_encoding(), &mut tally);
+            let deep = borrows_then(depth, &[0]);
+            for inside in [&[22, 0][..], &cases::ARRAY2_OF, &[22, 1], &wrapped_array] {
+                let words = cases::joined(&[&outside, inside, &deep]);
+                for words in [
+                    cases::joined(&[&[24, 0], &words]),
+                    cases::joined(&[&[23, 0], &words]),
+                    // Deep is what goes, not the element.
+                    cases::joined(&[&[23], &deep, &outside, inside, &[0]]),
+                    words,
+                ] {
+                    check_initialization(&cases::encoded(&words).as_encoding(), &mut tally);
+                }
             }
         }
     }
@@ -507,13 +529,15 @@ fn longest_initializations() {
     for (count, wanted) in [(8_172, Ok(8_191)), (8_173, Ok(8_192)), (8_174, Err(8))] {
         let mut words = cases::joined(&[&cases::PTR_OF, &[22, 0, 19, count]]);
         words.resize(11 + count as usize, 1);
-        for length in [8_192, 9_000] {
-            let mut buffer = word_pattern(length);
-            let answer = type_at_initialization(&bare(&words), &mut buffer);
-            assert_eq!(answer.map_err(Refusal::number), wanted);
-            match wanted {
-                Ok(end) => assert_eq!(buffer[end..], word_pattern(length)[end..]),
-                Err(_) => assert_eq!(buffer, vec![0; length]),
+        for (what, call) in INITIALIZATIONS {
+            for length in [8_192, 9_000] {
+                let mut buffer = word_pattern(length);
+                let answer = call(&bare(&words), &mut buffer);
+                assert_eq!(answer.map_err(Refusal::number), wanted, "{what}");
+                match wanted {
+                    Ok(end) => assert_eq!(buffer[end..], word_pattern(length)[end..], "{what}"),
+                    Err(_) => assert_eq!(buffer, vec![0; length], "{what}"),
+                }
             }
         }
     }

@@ -1,5 +1,8 @@
 //! Encodings that more than one benchmark uses.
 
+// Each benchmark takes what it needs.
+#![allow(dead_code)]
+
 use tillercoral::generate::Names;
 use tillercoral::EncodingBuf;
 
@@ -68,4 +71,16 @@ pub fn gauge_types() -> Vec<EncodingBuf> {
         &[14, 2, 12, 20, 14, 1, 13, 0, 3, 1, 22, 23, 12, 28, 12, 21],
     ];
     types.iter().map(|words| names.with_words(words)).collect()
+}
+
+/// Paths of a crate applied to paths of the standard library, of about so many words.
+pub fn nested_paths(words: usize) -> EncodingBuf {
+    let names = Names::of(&[b"instruments", b"sounder", b"channel", b"Reading"]);
+    let mut children = Vec::new();
+    let mut count = 0;
+    while children.len() + 18 <= words {
+        children.extend([14, 1, 13, 1, 4, 16, 17, 18, 19, 13, 0, 3, 1, 2, 3]);
+        count += 1;
+    }
+    names.with_words(&[&[19, count], &children[..]].concat())
 }

@@ -17,7 +17,7 @@ pub(super) const NONE_LEFT: ChildrenLeft = [0; DEPTH_LIMIT];
 type Checked = Result<(), Refusal>;
 
 #[inline]
-fn check_below(word: u32, bound: u32) -> Checked {
+pub(super) fn check_below(word: u32, bound: u32) -> Checked {
     if word < bound {
         Ok(())
     } else {
@@ -33,9 +33,23 @@ fn check_path(rest: &mut Words<'_>, names: u32) -> Checked {
     Ok(())
 }
 
-/// Checks the type that the words begin with; its words are taken.
+/// Checks the type that the words begin with; its words are taken. Put in place of its calls it
+/// comes out slower.
+#[inline(never)]
 pub(super) fn check_type(rest: &mut Words<'_>, names: u32, outer: &mut ChildrenLeft) -> Checked {
-    let mut depth = 0;
+    check_type_inside(rest, names, outer, 0)
+}
+
+/// The same for a type that stands inside so many others, what `outer` has about these stays, and
+/// that reaches no deeper than `outer` is long.
+#[inline(always)]
+pub(super) fn check_type_inside<const DEPTH: usize>(
+    rest: &mut Words<'_>,
+    names: u32,
+    outer: &mut [u32; DEPTH],
+    inside: usize,
+) -> Checked {
+    let mut depth = inside;
     let mut children_left = 1;
     loop {
         let children = check_own_words(rest, names)?;
@@ -51,7 +65,7 @@ pub(super) fn check_type(rest: &mut Words<'_>, names: u32, outer: &mut ChildrenL
             if children_left > 0 {
                 break;
             }
-            if depth == 0 {
+            if depth == inside {
                 return Ok(());
             }
             children_left = outer[depth];
@@ -209,6 +223,7 @@ pub(super) fn check_declaration(words: &[u32], names: u32) -> Checked {
 }
 
 /// Checks a whole type and that no words are left over.
+#[inline]
 pub(super) fn check_whole_type(words: &[u32], names: u32) -> Checked {
     let mut rest = words.iter();
     check_type(&mut rest, names, &mut { NONE_LEFT })?;

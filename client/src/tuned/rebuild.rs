@@ -12,7 +12,7 @@ use super::declaration::Names;
 use super::{check_no_rest, check_tables, next, DEPTH_LIMIT};
 use crate::{Encoding, Refusal};
 
-const WORD_LIMIT: usize = 8_192;
+pub(super) const WORD_LIMIT: usize = 8_192;
 const RULE_LIMIT: usize = 32;
 const HEADS: usize = 25;
 
@@ -69,7 +69,7 @@ fn name_bytes<'a>(encoding: &Encoding<'a>) -> Names<'a> {
     }
 }
 
-fn copied(words: &[u32], out: &mut [u32]) -> Result<usize, Refusal> {
+pub(super) fn copied(words: &[u32], out: &mut [u32]) -> Result<usize, Refusal> {
     match out.get_mut(..words.len()) {
         Some(front) => {
             front.copy_from_slice(words);
@@ -79,7 +79,7 @@ fn copied(words: &[u32], out: &mut [u32]) -> Result<usize, Refusal> {
     }
 }
 
-fn cleared(refusal: Refusal, out: &mut [u32]) -> Result<usize, Refusal> {
+pub(super) fn cleared(refusal: Refusal, out: &mut [u32]) -> Result<usize, Refusal> {
     out.fill(0);
     Err(refusal)
 }

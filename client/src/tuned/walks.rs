@@ -94,15 +94,15 @@ fn visit_types(
 
 /// The words of a type that were checked, and their names.
 #[derive(Clone, Copy)]
-struct Checked<'a> {
-    words: &'a [u32],
-    names: Names<'a>,
+pub(super) struct Checked<'a> {
+    pub words: &'a [u32],
+    pub names: Names<'a>,
 }
 
 const STD: u32 = 1;
-const DAFNY_RUNTIME: u32 = 10;
-const OBJECT: u32 = 11;
-const PTR: u32 = 12;
+pub(super) const DAFNY_RUNTIME: u32 = 10;
+pub(super) const OBJECT: u32 = 11;
+pub(super) const PTR: u32 = 12;
 
 impl<'a> Checked<'a> {
     fn new(encoding: &Encoding<'a>) -> Result<Checked<'a>, Refusal> {
@@ -116,13 +116,13 @@ impl<'a> Checked<'a> {
     }
 
     #[inline]
-    fn is_name(self, number: u32, fixed: u32) -> bool {
+    pub fn is_name(self, number: u32, fixed: u32) -> bool {
         number == fixed
             || (number >= FIXED_COUNT && self.names.bytes(number) == self.names.bytes(fixed))
     }
 
     /// Whether the type at `at` is `::dafny_runtime::name` of one argument.
-    fn is_runtime_type(self, at: usize, name: u32) -> bool {
+    pub fn is_runtime_type(self, at: usize, name: u32) -> bool {
         match self.words[at..] {
             [14, 1, 13, 0, 2, module, of, ..] => {
                 self.is_name(of, name) && self.is_name(module, DAFNY_RUNTIME)
@@ -132,7 +132,7 @@ impl<'a> Checked<'a> {
     }
 
     /// Where the type at `at` is, wrappers opened.
-    fn expanded(self, mut at: usize) -> usize {
+    pub fn expanded(self, mut at: usize) -> usize {
         loop {
             match self.words[at] {
                 23 => at = skip_type(self.words, at + 1),
