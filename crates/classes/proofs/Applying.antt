@@ -1,6 +1,6 @@
 -- Applications of paths: the first argument of one of a class.
 use Prim.Native.Nat.{ℕ, _+_, _<_}
-use mathlib.Core.Path.{_≡_, refl, _∙_}
+use mathlib.Core.Path.{_≡_, refl, sym, _∙_}
 use mathlib.Core.Bool.{Bool, true, false}
 use mathlib.Core.Option.{Option, some, none}
 use native.Mathlib.Omega.{arith}
@@ -110,6 +110,31 @@ path-false f (Array t s) h = refl
 path-false f (TSynonym d b) h = refl
 path-false f (TMetaData d c o) h = refl
 
+-- ---- whether a type is of a class
+
+module _ (class : Class) where
+  pub of-other : (t : Ty Bytes) → (kind t ≡ 14 → ⊥) → isOf class t ≡ false
+  unfolding isOf
+  of-other t h = applied-other _ t h
+
+  module _ (b : Ty Bytes) (ts : Tys Bytes) where
+    pub of-count : (count ts ≡ arity class → ⊥) → isOf class (TypeApp b ts) ≡ false
+    unfolding isOf applied
+    of-count h = path-false _ b λ p. rw (ne-eqb (count ts) (arity class) h) (and-false (inClass class p))
+
+    pub of-base : (kind b ≡ 13 → ⊥) → isOf class (TypeApp b ts) ≡ false
+    unfolding isOf applied
+    of-base h = base-other _ b h
+
+  and-true : (a : Bool) → (a and true) ≡ a
+  unfolding _and_
+  and-true true = refl
+  and-true false = refl
+
+  pub of-path : (p : Path Bytes) (ts : Tys Bytes) → count ts ≡ arity class → inClass class p ≡ isOf class (TypeApp (TypeFromPath p) ts)
+  unfolding isOf applied onPath
+  of-path p ts h = rw (eq-eqb (count ts) (arity class) h) (sym (and-true (inClass class p)))
+
 -- ---- the first argument
 
 arity-some : (class : Class) → 0 < arity class
@@ -130,18 +155,14 @@ first-not class p h = rw h refl
 
 module _ (class : Class) (at : ℕ) where
   pub first-other : (t : Ty Bytes) → (kind t ≡ 14 → ⊥) → found (first class (place at t)) ≡ NoPart
-  unfolding isOf
-  first-other t h = first-not class (place at t) (applied-other _ t h)
+  first-other t h = first-not class (place at t) (of-other class t h)
 
   module _ (b : Ty Bytes) (ts : Tys Bytes) where
     pub first-count : (count ts ≡ arity class → ⊥) → found (first class (place at (TypeApp b ts))) ≡ NoPart
-    unfolding isOf applied
-    first-count h =
-        first-not class (place at (TypeApp b ts)) (path-false _ b λ p. rw (ne-eqb (count ts) (arity class) h) (and-false (inClass class p)))
+    first-count h = first-not class (place at (TypeApp b ts)) (of-count class b ts h)
 
     pub first-base : (kind b ≡ 13 → ⊥) → found (first class (place at (TypeApp b ts))) ≡ NoPart
-    unfolding isOf applied
-    first-base h = first-not class (place at (TypeApp b ts)) (base-other _ b h)
+    first-base h = first-not class (place at (TypeApp b ts)) (of-base class b ts h)
 
   module _ (p : Path Bytes) where
     pub first-class : (ts : Tys Bytes) → inClass class p ≡ false → found (first class (place at (TypeApp (TypeFromPath p) ts))) ≡ NoPart

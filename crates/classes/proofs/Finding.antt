@@ -40,11 +40,10 @@ use Rattle.trees.proofs.Nodes.{types-count}
 use Rattle.classes.specs.declared.Class.{Class}
 use Rattle.classes.specs.declared.Found.{Found}
 use Rattle.classes.specs.declared.Found.the-variants.{At, NoPart}
-use Rattle.wrappers.specs.Asked.{Judges}
-use Rattle.classes.specs.Asked.{Finds, found, isFound}
+use Rattle.classes.specs.Asked.{Finds, found}
 use Rattle.classes.specs.Classes.{inClass, arity, first, isOf}
 use Rattle.classes.specs.Steps.{when, argumentOf}
-use Rattle.classes.proofs.Applying.{first-other, first-count, first-base, first-class, first-is, first-found}
+use Rattle.classes.proofs.Applying.{first-other, first-count, first-base, first-class, first-is}
 use Rattle.classes.proofs.Children.{Keeps, argument-keeps, when-keeps}
 
 -- ---- heads
@@ -224,9 +223,6 @@ module _ (ws pairs : List ℕ) (text : Bytes) where
   first-keeps class = argument-kept (λ p. isOf class (p .tpe)) 0
 
 module _ (ws pairs : List ℕ) (text : Bytes) (at : ℕ) where
-  pub judge-class : (class : Class) {u : Found} {b : Bool} → Finds (first class) (typeAt ws pairs text) at u → b ≡ isFound u → Judges (isOf class) (typeAt ws pairs text at) b
-  judge-class class d k = record { says = λ t n e. k ∙ ap isFound (d .says t n e) ∙ first-found class (place at t) }
-
   -- a part that was found can be read
   pub found-readable : {f : Place Bytes → Option (Place Bytes)} {m : Found} {s : ℕ} → Keeps ws pairs text f → Readable (typeAt ws pairs text at) → Finds f (typeAt ws pairs text) at m → m ≡ At s → Readable (typeAt ws pairs text s)
   found-readable k r d y =

@@ -3,3 +3,4 @@ pub mod Paths
 pub mod Children
 pub mod Applying
 pub mod Finding
+pub mod Worded

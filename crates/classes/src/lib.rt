@@ -204,6 +204,11 @@ fn arity_of(class: Class) -> u32
 
 // ---- on an accepted type
 
+// The kinds of a path's type and of a type with arguments.
+const PATH: u32 = 13;
+
+const APPLY: u32 = 14;
+
 // The first argument of an application of a path of the class.
 pub fn first_argument(words: &[u32], pairs: &[u32], text: &[u8], class: Class, at: usize) -> Found
     requires { ⌜ Good (now pairs) (now text) × Readable (typeAt (now words) (now pairs) (now text) at) ⌝ }
@@ -240,10 +245,25 @@ pub fn is_found(found: Found) -> bool
     }
 }
 
-// Whether a type is an application of a path of the class.
+// Whether a type is an application of a path of the class. Shapes only ask this, and most types are no application: it is seen by the words, without taking heads.
 pub fn is_of(words: &[u32], pairs: &[u32], text: &[u8], class: Class, at: usize) -> bool
     requires { ⌜ Good (now pairs) (now text) × Readable (typeAt (now words) (now pairs) (now text) at) ⌝ }
     ensures { λ r. ⌜ Judges (isOf class) (typeAt (now (words .entry)) (now (pairs .entry)) (now (text .entry)) at) r ⌝ }
 {
-    is_found(first_argument(words, pairs, text, class, at))
+    if words[at] != APPLY {
+        return false;
+    }
+    if words[at + 1] != arity_of(class) {
+        return false;
+    }
+    let base = at + 2;
+    if words[base] != PATH {
+        return false;
+    }
+    let path = PathAt {
+        root: words[base + 1],
+        start: base + 3,
+        count: words[base + 2],
+    };
+    is_in_class(words, pairs, text, class, path)
 }

@@ -7,6 +7,7 @@ use native.Mathlib.Omega.{arith}
 use lib.ListN.{length, take, drop}
 use Rattle.rast.specs.Bytes.{Bytes}
 use Rattle.rast.specs.Tree.{Ty}
+use Rattle.rast.specs.DeclarationToString.{Expand}
 use Rattle.encoding.specs.declared.Refusal.{Refusal}
 use Rattle.encoding.specs.declared.Refusal.the-variants.{NoSuchPart}
 use Rattle.encoding.specs.declared.Check.the-variants.{Passed}
@@ -97,6 +98,14 @@ module _ (ws pairs : List ℕ) (text : Bytes) where
     pub part-refused : {r : Refusal} → typeOf ws pairs text ≡ refused r → Refused r ≡ partAnswer (partOf f ws pairs text)
     unfolding partOf spanIn
     part-refused e = rw e refl
+
+  -- what `Expand` gives of a type that fills the words ends where they do
+  module _ {s : ℕ} (a : Accepted ws pairs text) (x : ExpandsAt again 0 s) where
+    pub expanded-end : EndsAt (again s) (length ws)
+    expanded-end = record { value = Expand (a .type); reads = x .expands (a .type) (length ws) (a .reads) }
+
+    pub expanded-given : Part s (length ws - s) ≡ partAnswer (partOf ExpandAt ws pairs text)
+    expanded-given = part-given ExpandAt a (span-found ExpandAt (expanded-keeps ws pairs text) (expanded-finds 0 s x) refl expanded-end)
 
   -- a part that ends does so behind its start
   pub part-forward : (s : ℕ) {end : ℕ} → EndsAt (again s) end → s ≤ end

@@ -99,11 +99,20 @@ pub fn remove_synonyms<'a>(words: &'a [u32], pairs: &[u32], text: &[u8]) -> &'a 
     words_in(words, pairs, text, Wanted::Removed)
 }
 
-// `Expand`: where it stands, and its words
+// `Expand`: where it stands, and its words. It ends where the type ends that fills the words.
 pub fn expand_at(words: &[u32], pairs: &[u32], text: &[u8]) -> PartAnswer
     ensures { λ r. ⌜ r ≡ partAnswer (partOf ExpandAt (now (words .entry)) (now (pairs .entry)) (now (text .entry))) ⌝ }
 {
-    part_in(words, pairs, text, Wanted::Expanded)
+    match shapes::accept(words, pairs, text) {
+        Check::Passed => {
+            let start = wrappers::expand(words, pairs, text, 0);
+            PartAnswer::Part {
+                start,
+                length: words.len() - start,
+            }
+        }
+        Check::Failed(r) => PartAnswer::Refused(r),
+    }
 }
 
 pub fn expand<'a>(words: &'a [u32], pairs: &[u32], text: &[u8]) -> &'a [u32]

@@ -1,6 +1,6 @@
 -- Accept, then ask: the public answers by what is asked of the accepted type.
 use Prim.Native.Nat.{ℕ, _≤_}
-use mathlib.Core.Path.{_≡_, refl, sym, _∙_}
+use mathlib.Core.Path.{_≡_, refl, ap, sym, _∙_}
 use mathlib.Core.Bool.{Bool, true, false}
 use mathlib.Core.List.{List}
 use borrow.Author.Tests.{eq-eqb, ne-eqb, eqb-true}
@@ -23,7 +23,8 @@ use Rattle.measure.specs.Lengths.{measureOf}
 use Rattle.measure.proofs.Measured.{measured-got, measured-stop}
 use Rattle.writing.specs.Written.{Readable}
 use Rattle.wrappers.specs.Asked.{Judges}
-use Rattle.shapes.specs.declared.ShapeAnswer.the-variants.{Yes, No, Refused}
+use Rattle.shapes.specs.declared.ShapeAnswer.{ShapeAnswer}
+use Rattle.shapes.specs.declared.ShapeAnswer.the-variants.{Refused}
 use Rattle.shapes.specs.Asked.{shapeAnswer, acceptance}
 
 -- ---- accepting
@@ -106,19 +107,17 @@ module _ (ws pairs : List ℕ) (text : Bytes) where
 
   -- ---- shapes
 
-  module _ (g : Ty Bytes → Bool) where
-    pub shape-yes : {b : Bool} → Accepted ws pairs text → Judges g (typeAt ws pairs text 0) b → b ≡ true → Yes ≡ shapeAnswer (mapAnswer g (typeOf ws pairs text))
-    unfolding mapAnswer
-    shape-yes a j k =
-        let y : g (a .type) ≡ true = sym (j .says (a .type) (length ws) (a .reads)) ∙ k in
-        rw (a .is, y) refl
+  -- what is asked about an accepted type
+  pub ready : {c : Check} → c ≡ acceptance (typeOf ws pairs text) → c ≡ Passed → Good pairs text × Readable (typeAt ws pairs text 0)
+  ready e d = let a = accepted e d in (a .good, accepted-readable a)
 
-    pub shape-no : {b : Bool} → Accepted ws pairs text → Judges g (typeAt ws pairs text 0) b → b ≡ false → No ≡ shapeAnswer (mapAnswer g (typeOf ws pairs text))
+  module _ (g : Ty Bytes → Bool) {c : Check} (e : c ≡ acceptance (typeOf ws pairs text)) where
+    pub shape-answered : {b : Bool} {r : ShapeAnswer} → c ≡ Passed → Judges g (typeAt ws pairs text 0) b → r ≡ shapeAnswer (given b) → r ≡ shapeAnswer (mapAnswer g (typeOf ws pairs text))
     unfolding mapAnswer
-    shape-no a j k =
-        let y : g (a .type) ≡ false = sym (j .says (a .type) (length ws) (a .reads)) ∙ k in
-        rw (a .is, y) refl
+    shape-answered d j k =
+        let a = accepted e d in
+        k ∙ rw (a .is) (ap (λ x. shapeAnswer (given x)) (j .says (a .type) (length ws) (a .reads)))
 
-    pub shape-refused : {r : Refusal} → typeOf ws pairs text ≡ refused r → Refused r ≡ shapeAnswer (mapAnswer g (typeOf ws pairs text))
+    pub shape-refused : {r : Refusal} → c ≡ Failed r → Refused r ≡ shapeAnswer (mapAnswer g (typeOf ws pairs text))
     unfolding mapAnswer
-    shape-refused e = rw e refl
+    shape-refused d = rw (not-accepted e d) refl

@@ -108,6 +108,9 @@ collection-answers : (t : Ty Bytes) → Answers (IsBuiltinCollection t) (isOf Co
 unfolding IsBuiltinCollection
 collection-answers t = type-answers (Expand t)
 
+pub collection-is : (t : Ty Bytes) → (isOf Collection (Expand t) or isOf MapClass (Expand t)) ≡ IsBuiltinCollection t
+collection-is t = sym (collection-answers t .whole)
+
 -- a map's second argument, and else a set's first
 picks : {c s m k : Bool} (a b : Option (Place Bytes)) → Answers c s m k → when c (pick k b a) ≡ pick m b (when s a)
 unfolding when
@@ -231,29 +234,3 @@ pub no-map-element : (q : Place Bytes) → found (first MapClass q) ≡ NoPart �
 no-map-element q e =
     let n : isOf MapClass (q .tpe) ≡ false = sym (first-found MapClass q) ∙ ap isFound e in
     rw n refl
-
-element-found : (q : Place Bytes) → isFound (found (element q)) ≡ (isOf Collection (q .tpe) or isOf MapClass (q .tpe))
-unfolding first found
-element-found q = go (first MapClass q) refl
-  where
-    or-true : (b : Bool) → (b or true) ≡ true
-    or-true true = refl
-    or-true false = refl
-
-    or-false : (b : Bool) → (b or false) ≡ b
-    or-false true = refl
-    or-false false = refl
-
-    go : (x : Option (Place Bytes)) → first MapClass q ≡ x → isFound (found (element q)) ≡ (isOf Collection (q .tpe) or isOf MapClass (q .tpe))
-    go none e =
-        let f : found (first MapClass q) ≡ NoPart = ap found e in
-        let n : isOf MapClass (q .tpe) ≡ false = sym (first-found MapClass q) ∙ ap isFound f in
-        ap isFound (no-map-element q f) ∙ first-found Collection q ∙ sym (rw n (or-false (isOf Collection (q .tpe))))
-    go (some p) e =
-        let n : isOf MapClass (q .tpe) ≡ true = when-some (isOf MapClass (q .tpe)) (argumentOf 0 q) e .0 in
-        ap isFound (map-element q (p .at) (p .tpe) e) ∙ sym (rw n (or-true (isOf Collection (q .tpe))))
-
-pub collection-found : (p : Place Bytes) → isFound (found (GetBuiltinCollectionElement p)) ≡ IsBuiltinCollection (p .tpe)
-unfolding expanded
-collection-found p =
-    rw (collection-first p, element-found (expanded p), expanded-tree (p .at) (p .tpe)) (sym (collection-answers (p .tpe) .whole))

@@ -4,7 +4,7 @@ use mathlib.Core.Bool.{Bool, true, false}
 use mathlib.Core.Path.{_≡_, refl}
 use mathlib.Core.List.{List, [], _∷_, _++_, map}
 use Rattle.rast.specs.Bytes.{Bytes, ascii, same, begins, _and_}
-use Rattle.rast.specs.Tree.{MSels}
+use Rattle.rast.specs.Tree.{Ty, MSels}
 use Rattle.rast.specs.DeclarationToString.{Expand}
 use Rattle.encoding.specs.Refusals.{Answer, given, mapAnswer, unless}
 use Rattle.encoding.specs.Reading.{readWord, readBelow, readNames, whole}
@@ -17,9 +17,6 @@ use Rattle.trees.specs.Encode.{tokenWord, primitiveWord, flagsWord, rootWord, n
 use Rattle.classes.specs.Matches.{onPath, applied, typeIn, argument, unsized, isDyn, someIs}
 use Rattle.classes.specs.Paths.{samePath, std, inStd, dafny_runtime, inRuntime, RcPath, ArcPath, BoxPath, MaybeUninitPath, ObjectPath, PtrPath, runtimeMember}
 use Rattle.classes.specs.Steps.{when, andThen, orElse}
-use Rattle.shapes.specs.declared.Shape.{Shape}
-use Rattle.shapes.specs.declared.Shape.the-variants.{EndsWithName, AutoSize, CanRead, RcOrBorrowed, MultiArray, MaybeUninit, UninitArray, BoxOf, NeedsAsRef, ObjectOf, PointerOf, ObjectOrPointer, BuiltinCollection, RcOf, BoxDyn}
-use Rattle.shapes.specs.Asked.{shapeOf}
 use Rattle.shapes.specs.Initialization.{MaybeUninitType, ObjectType, PtrType, appliedToUninit, orThis, newUnderlying, TypeAtInitialization}
 use Rattle.shapes.specs.Shapes.{uninitCases, isFixedNumber, isNumber, isBool, EndsWithNameThatCanAcceptGenerics, IsAutoSize, CanReadWithoutClone, IsRcOrBorrowedRc, IsMultiArray, IsMaybeUninit, IsUninitArray, IsBox, NeedsAsRefForBorrow, IsObject, IsPointer, IsObjectOrPointer, IsBuiltinCollection, IsRc, IsBoxDyn}
 
@@ -49,45 +46,45 @@ box = 14 ∷ 1 ∷ 13 ∷ 0 ∷ 3 ∷ 1 ∷ 6 ∷ 7 ∷ []
 abbrev uninit : List ℕ
 uninit = 14 ∷ 1 ∷ 13 ∷ 0 ∷ 3 ∷ 1 ∷ 8 ∷ 9 ∷ 11 ∷ []
 
-unfoldable pub shapes : List (Shape × List ℕ × Bool)
+unfoldable pub shapes : List ((Ty Bytes → Bool) × List ℕ × Bool)
 shapes =
     -- (a), and without arguments: an application ends with none of its names
-    (EndsWithName, 14 ∷ 1 ∷ 12 ∷ 20 ∷ 0 ∷ [], false) ∷ (EndsWithName, 14 ∷ 0 ∷ 12 ∷ 20 ∷ [], false)
+    (EndsWithNameThatCanAcceptGenerics, 14 ∷ 1 ∷ 12 ∷ 20 ∷ 0 ∷ [], false) ∷ (EndsWithNameThatCanAcceptGenerics, 14 ∷ 0 ∷ 12 ∷ 20 ∷ [], false)
     -- (f): the base decides, and for the name the display
-    ∷ (AutoSize, 23 ∷ 0 ∷ 11 ∷ [], false) ∷ (AutoSize, 23 ∷ 11 ∷ 0 ∷ [], true)
-    ∷ (EndsWithName, 23 ∷ 0 ∷ 11 ∷ [], true) ∷ (EndsWithName, 23 ∷ 11 ∷ 0 ∷ [], false)
-    ∷ (CanRead, 23 ∷ 0 ∷ 12 ∷ 20 ∷ [], false) ∷ (RcOrBorrowed, 23 ∷ 0 ∷ (rc ++ (0 ∷ [])), true)
+    ∷ (IsAutoSize, 23 ∷ 0 ∷ 11 ∷ [], false) ∷ (IsAutoSize, 23 ∷ 11 ∷ 0 ∷ [], true)
+    ∷ (EndsWithNameThatCanAcceptGenerics, 23 ∷ 0 ∷ 11 ∷ [], true) ∷ (EndsWithNameThatCanAcceptGenerics, 23 ∷ 11 ∷ 0 ∷ [], false)
+    ∷ (CanReadWithoutClone, 23 ∷ 0 ∷ 12 ∷ 20 ∷ [], false) ∷ (IsRcOrBorrowedRc, 23 ∷ 0 ∷ (rc ++ (0 ∷ [])), true)
     -- `usize` and `bool`
-    ∷ (EndsWithName, 10 ∷ [], false) ∷ (AutoSize, 10 ∷ [], true) ∷ (AutoSize, 11 ∷ [], false) ∷ (CanRead, 11 ∷ [], true)
+    ∷ (EndsWithNameThatCanAcceptGenerics, 10 ∷ [], false) ∷ (IsAutoSize, 10 ∷ [], true) ∷ (IsAutoSize, 11 ∷ [], false) ∷ (CanReadWithoutClone, 11 ∷ [], true)
     -- the right side of an intersection
-    ∷ (EndsWithName, 21 ∷ 11 ∷ 12 ∷ 20 ∷ [], true) ∷ (EndsWithName, 21 ∷ 12 ∷ 20 ∷ 11 ∷ [], false)
+    ∷ (EndsWithNameThatCanAcceptGenerics, 21 ∷ 11 ∷ 12 ∷ 20 ∷ [], true) ∷ (EndsWithNameThatCanAcceptGenerics, 21 ∷ 12 ∷ 20 ∷ 11 ∷ [], false)
     -- nothing is opened: not a wrapper, and not one around the base name
-    ∷ (RcOf, rc ++ (0 ∷ []), true) ∷ (RcOf, 24 ∷ 0 ∷ (rc ++ (0 ∷ [])), false)
-    ∷ (RcOf, 14 ∷ 1 ∷ 24 ∷ 0 ∷ 13 ∷ 0 ∷ 3 ∷ 1 ∷ 2 ∷ 3 ∷ 0 ∷ [], false)
-    ∷ (ObjectOf, 24 ∷ 0 ∷ (object ++ (0 ∷ [])), false) ∷ (ObjectOrPointer, 24 ∷ 0 ∷ (object ++ (0 ∷ [])), true)
-    ∷ (PointerOf, pointer ++ (0 ∷ []), true) ∷ (CanRead, pointer ++ (0 ∷ []), true) ∷ (CanRead, object ++ (0 ∷ []), false)
+    ∷ (IsRc, rc ++ (0 ∷ []), true) ∷ (IsRc, 24 ∷ 0 ∷ (rc ++ (0 ∷ [])), false)
+    ∷ (IsRc, 14 ∷ 1 ∷ 24 ∷ 0 ∷ 13 ∷ 0 ∷ 3 ∷ 1 ∷ 2 ∷ 3 ∷ 0 ∷ [], false)
+    ∷ (IsObject, 24 ∷ 0 ∷ (object ++ (0 ∷ [])), false) ∷ (IsObjectOrPointer, 24 ∷ 0 ∷ (object ++ (0 ∷ [])), true)
+    ∷ (IsPointer, pointer ++ (0 ∷ []), true) ∷ (CanReadWithoutClone, pointer ++ (0 ∷ []), true) ∷ (CanReadWithoutClone, object ++ (0 ∷ []), false)
     -- the root counts
-    ∷ (RcOf, 14 ∷ 1 ∷ 13 ∷ 1 ∷ 3 ∷ 1 ∷ 2 ∷ 3 ∷ 0 ∷ [], false)
+    ∷ (IsRc, 14 ∷ 1 ∷ 13 ∷ 1 ∷ 3 ∷ 1 ∷ 2 ∷ 3 ∷ 0 ∷ [], false)
     -- of metadata the first flag alone suffices
-    ∷ (CanRead, 24 ∷ 1 ∷ 12 ∷ 20 ∷ [], true) ∷ (CanRead, 24 ∷ 2 ∷ 12 ∷ 20 ∷ [], false) ∷ (RcOrBorrowed, 24 ∷ 0 ∷ (rc ++ (0 ∷ [])), false)
+    ∷ (CanReadWithoutClone, 24 ∷ 1 ∷ 12 ∷ 20 ∷ [], true) ∷ (CanReadWithoutClone, 24 ∷ 2 ∷ 12 ∷ 20 ∷ [], false) ∷ (IsRcOrBorrowedRc, 24 ∷ 0 ∷ (rc ++ (0 ∷ [])), false)
     -- any number of shared borrows, and one
-    ∷ (RcOrBorrowed, 15 ∷ 15 ∷ (rc ++ (0 ∷ [])), true) ∷ (RcOrBorrowed, 16 ∷ (rc ++ (0 ∷ [])), false)
-    ∷ (NeedsAsRef, 15 ∷ (box ++ (0 ∷ [])), true) ∷ (NeedsAsRef, 15 ∷ 15 ∷ (rc ++ (0 ∷ [])), false)
+    ∷ (IsRcOrBorrowedRc, 15 ∷ 15 ∷ (rc ++ (0 ∷ [])), true) ∷ (IsRcOrBorrowedRc, 16 ∷ (rc ++ (0 ∷ [])), false)
+    ∷ (NeedsAsRefForBorrow, 15 ∷ (box ++ (0 ∷ [])), true) ∷ (NeedsAsRefForBorrow, 15 ∷ 15 ∷ (rc ++ (0 ∷ [])), false)
     -- boxes
-    ∷ (BoxOf, box ++ (0 ∷ []), true) ∷ (BoxDyn, box ++ (0 ∷ []), false) ∷ (BoxDyn, box ++ (18 ∷ 0 ∷ []), true)
+    ∷ (IsBox, box ++ (0 ∷ []), true) ∷ (IsBoxDyn, box ++ (0 ∷ []), false) ∷ (IsBoxDyn, box ++ (18 ∷ 0 ∷ []), true)
     -- names that begin with `Array`, and one argument
-    ∷ (MultiArray, 14 ∷ 1 ∷ 13 ∷ 0 ∷ 2 ∷ 10 ∷ 19 ∷ 0 ∷ [], true) ∷ (MultiArray, 14 ∷ 2 ∷ 13 ∷ 0 ∷ 2 ∷ 10 ∷ 16 ∷ 0 ∷ 0 ∷ [], false)
-    ∷ (MultiArray, 14 ∷ 1 ∷ 13 ∷ 0 ∷ 3 ∷ 10 ∷ 10 ∷ 16 ∷ 0 ∷ [], false)
+    ∷ (IsMultiArray, 14 ∷ 1 ∷ 13 ∷ 0 ∷ 2 ∷ 10 ∷ 19 ∷ 0 ∷ [], true) ∷ (IsMultiArray, 14 ∷ 2 ∷ 13 ∷ 0 ∷ 2 ∷ 10 ∷ 16 ∷ 0 ∷ 0 ∷ [], false)
+    ∷ (IsMultiArray, 14 ∷ 1 ∷ 13 ∷ 0 ∷ 3 ∷ 10 ∷ 10 ∷ 16 ∷ 0 ∷ [], false)
     -- collections
-    ∷ (BuiltinCollection, 14 ∷ 1 ∷ 13 ∷ 0 ∷ 2 ∷ 10 ∷ 17 ∷ 0 ∷ [], true) ∷ (BuiltinCollection, 14 ∷ 1 ∷ 13 ∷ 0 ∷ 2 ∷ 10 ∷ 18 ∷ 0 ∷ [], false)
-    ∷ (BuiltinCollection, 14 ∷ 2 ∷ 13 ∷ 0 ∷ 2 ∷ 10 ∷ 18 ∷ 0 ∷ 11 ∷ [], true)
+    ∷ (IsBuiltinCollection, 14 ∷ 1 ∷ 13 ∷ 0 ∷ 2 ∷ 10 ∷ 17 ∷ 0 ∷ [], true) ∷ (IsBuiltinCollection, 14 ∷ 1 ∷ 13 ∷ 0 ∷ 2 ∷ 10 ∷ 18 ∷ 0 ∷ [], false)
+    ∷ (IsBuiltinCollection, 14 ∷ 2 ∷ 13 ∷ 0 ∷ 2 ∷ 10 ∷ 18 ∷ 0 ∷ 11 ∷ [], true)
     -- arrays of `MaybeUninit`: without size, with one, wrapped, of a class, and with the element wrapped
-    ∷ (MaybeUninit, uninit, true) ∷ (UninitArray, object ++ (22 ∷ 0 ∷ uninit), true) ∷ (UninitArray, object ++ (22 ∷ 21 ∷ uninit), false)
-    ∷ (UninitArray, object ++ (24 ∷ 0 ∷ 22 ∷ 0 ∷ uninit), true) ∷ (UninitArray, object ++ (24 ∷ 0 ∷ (array2 ++ uninit)), true)
-    ∷ (UninitArray, object ++ (22 ∷ 0 ∷ 24 ∷ 0 ∷ uninit), false)
+    ∷ (IsMaybeUninit, uninit, true) ∷ (IsUninitArray, object ++ (22 ∷ 0 ∷ uninit), true) ∷ (IsUninitArray, object ++ (22 ∷ 21 ∷ uninit), false)
+    ∷ (IsUninitArray, object ++ (24 ∷ 0 ∷ 22 ∷ 0 ∷ uninit), true) ∷ (IsUninitArray, object ++ (24 ∷ 0 ∷ (array2 ++ uninit)), true)
+    ∷ (IsUninitArray, object ++ (22 ∷ 0 ∷ 24 ∷ 0 ∷ uninit), false)
     ∷ []
 
-pub shapes-as-said : map {B = Answer Bool} (λ e. mapAnswer (shapeOf (e .0)) (typeOf (e .1) pairs text)) shapes ≡ map (λ e. given (e .2)) shapes
+pub shapes-as-said : map {B = Answer Bool} (λ e. mapAnswer (e .0) (typeOf (e .1) pairs text)) shapes ≡ map (λ e. given (e .2)) shapes
 unfolding shapes typeOf mapAnswer unless checkTables overlong goodPairs whole readType readHead headAfter pathHead readPath readNames readBelow readWord readNode readTypes primitives rootOf pathOf sizeOf nameBytes pairBytes fixedNames ascii MSels same begins _and_ Expand count samePath std inStd dafny_runtime inRuntime RcPath ArcPath BoxPath MaybeUninitPath ObjectPath PtrPath runtimeMember onPath applied typeIn argument unsized isDyn someIs uninitCases isFixedNumber isNumber isBool EndsWithNameThatCanAcceptGenerics IsAutoSize CanReadWithoutClone IsRcOrBorrowedRc IsMultiArray IsMaybeUninit IsUninitArray IsBox NeedsAsRefForBorrow IsObject IsPointer IsObjectOrPointer IsBuiltinCollection IsRc IsBoxDyn
 shapes-as-said = refl
 

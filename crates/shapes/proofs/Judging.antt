@@ -19,7 +19,7 @@ use Rattle.encoding.proofs.TypeKinds.{primitiveKind, kind, type-kind}
 use Rattle.trees.specs.Places.{Place, place}
 use Rattle.wrappers.specs.Asked.{Judges, ExpandsAt}
 use Rattle.wrappers.proofs.TypesIn.{ref-of, mut-of, array-of, meta-of}
-use Rattle.classes.specs.declared.Class.the-variants.{Counted, Boxed, Uninit, PtrClass, ArrayClass}
+use Rattle.classes.specs.declared.Class.the-variants.{Counted, Uninit, PtrClass, ArrayClass}
 use Rattle.classes.specs.declared.Found.{Found}
 use Rattle.classes.specs.declared.Found.the-variants.{At, NoPart}
 use Rattle.classes.specs.Asked.{Finds, found, isFound}
@@ -351,6 +351,14 @@ needs-other (TMetaData d c o) h = refl
 
 -- ---- the answers, by the words
 
+-- one of two answers is yes
+module _ (f g : Ty Bytes → Bool) {x : Reading (Ty Bytes)} {b : Bool} (j : Judges f x b) where
+  pub judge-one : b ≡ true → Judges (λ t. f t or g t) x true
+  judge-one k = record { says = λ t n e. let y : f t ≡ true = sym (j .says t n e) ∙ k in rw y refl }
+
+  pub judge-other : {c : Bool} → b ≡ false → Judges g x c → Judges (λ t. f t or g t) x c
+  judge-other k l = record { says = λ t n e. let y : f t ≡ false = sym (j .says t n e) ∙ k in rw y (l .says t n e) }
+
 module _ (ws pairs : List ℕ) (text : Bytes) (at : ℕ) where
   abbrev again : ℕ → Reading (Ty Bytes)
   again = typeAt ws pairs text
@@ -361,13 +369,9 @@ module _ (ws pairs : List ℕ) (text : Bytes) (at : ℕ) where
   pub judge-auto : (r : ℕ) → ExpandsAt again at r → Judges IsAutoSize (again at) (ltb (getD ws r 0) 11)
   judge-auto r x = record { says = λ t n e. ap (λ w. ltb w 11) (sym (type-kind ws pairs text r (x .expands t n e))) ∙ auto-kind t }
 
-  pub judge-box : {b : Bool} → Judges (isOf Boxed) (again at) b → b ≡ true → Judges boxOrRc (again at) true
-  unfolding IsBox isOf inClass arity
-  judge-box j k = record { says = λ t n e. let y : isOf Boxed t ≡ true = sym (j .says t n e) ∙ k in rw y refl }
-
-  pub judge-rc : {b c : Bool} → Judges (isOf Boxed) (again at) b → b ≡ false → Judges (isOf Counted) (again at) c → Judges boxOrRc (again at) c
-  unfolding IsBox IsRc isOf inClass arity
-  judge-rc j k l = record { says = λ t n e. let y : isOf Boxed t ≡ false = sym (j .says t n e) ∙ k in rw y (l .says t n e) }
+  -- an answer about what `Expand` gives
+  pub judge-expanded : (g h : Ty Bytes → Bool) (r : ℕ) {b : Bool} → ((t : Ty Bytes) → g (Expand t) ≡ h t) → ExpandsAt again at r → Judges g (again r) b → Judges h (again at) b
+  judge-expanded g h r k x j = record { says = λ t n e. j .says (Expand t) n (x .expands t n e) ∙ k t }
 
   pub judge-needs-ref : {b : Bool} → getD ws at 0 ≡ 15 → Judges boxOrRc (again (at + 1)) b → Judges NeedsAsRefForBorrow (again at) b
   unfolding NeedsAsRefForBorrow

@@ -2,16 +2,12 @@
 use Prim.Native.Nat.{ℕ}
 use mathlib.Core.Bool.{Bool, true, false}
 use lib.Dec.{eqb, ltb}
-use Rattle.rast.specs.Bytes.{Bytes, _or_}
-use Rattle.rast.specs.Tree.{Ty}
+use Rattle.rast.specs.Bytes.{_or_}
 use Rattle.encoding.specs.declared.Check.{Check}
 use Rattle.encoding.specs.declared.Check.the-variants.{Passed, Failed}
 use Rattle.encoding.specs.Refusals.{pick, Answer, given, refused}
-use Rattle.shapes.specs.declared.Shape.{Shape}
-use Rattle.shapes.specs.declared.Shape.the-variants.{EndsWithName, AutoSize, CanRead, RcOrBorrowed, MultiArray, MaybeUninit, UninitArray, BoxOf, NeedsAsRef, ObjectOf, PointerOf, ObjectOrPointer, BuiltinCollection, RcOf, BoxDyn}
 use Rattle.shapes.specs.declared.ShapeAnswer.{ShapeAnswer}
 use Rattle.shapes.specs.declared.ShapeAnswer.the-variants.{Yes, No, Refused}
-use Rattle.shapes.specs.Shapes.{EndsWithNameThatCanAcceptGenerics, IsAutoSize, CanReadWithoutClone, IsRcOrBorrowedRc, IsMultiArray, IsMaybeUninit, IsUninitArray, IsBox, NeedsAsRefForBorrow, IsObject, IsPointer, IsObjectOrPointer, IsBuiltinCollection, IsRc, IsBoxDyn}
 
 -- how many own words stand before the type that `EndsWithNameThatCanAcceptGenerics` goes on to, by a type's kind; an intersection aside
 unfoldable pub nameStep : ℕ → ℕ
@@ -21,24 +17,6 @@ nameStep k =
 -- the kinds of which it is true outright: numbers of fixed size and names
 unfoldable pub nameKind : ℕ → Bool
 nameKind k = ltb k 10 or eqb k 12 or eqb k 13
-
--- the shape answer that a question asks for
-abbrev pub shapeOf : Shape → Ty Bytes → Bool
-shapeOf EndsWithName = EndsWithNameThatCanAcceptGenerics
-shapeOf AutoSize = IsAutoSize
-shapeOf CanRead = CanReadWithoutClone
-shapeOf RcOrBorrowed = IsRcOrBorrowedRc
-shapeOf MultiArray = IsMultiArray
-shapeOf MaybeUninit = IsMaybeUninit
-shapeOf UninitArray = IsUninitArray
-shapeOf BoxOf = IsBox
-shapeOf NeedsAsRef = NeedsAsRefForBorrow
-shapeOf ObjectOf = IsObject
-shapeOf PointerOf = IsPointer
-shapeOf ObjectOrPointer = IsObjectOrPointer
-shapeOf BuiltinCollection = IsBuiltinCollection
-shapeOf RcOf = IsRc
-shapeOf BoxDyn = IsBoxDyn
 
 -- the answer of a shape call
 abbrev pub shapeAnswer : Answer Bool → ShapeAnswer

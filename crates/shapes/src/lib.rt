@@ -3,7 +3,7 @@ ghost use mathlib.Core.Path.{_≡_};
 ghost use Prim.Native.Nat.{_≤_};
 ghost use lib.ListN.{length};
 ghost use Rattle.rast.specs.Bytes.{_or_};
-ghost use Rattle.encoding.specs.Refusals.{mapAnswer};
+ghost use Rattle.encoding.specs.Refusals.{given, mapAnswer};
 ghost use Rattle.encoding.specs.Reading.{whole};
 ghost use Rattle.encoding.specs.Tables.{Good};
 ghost use Rattle.encoding.specs.Types.{typeAt, typeOf};
@@ -11,7 +11,7 @@ ghost use Rattle.writing.specs.Written.{Readable};
 ghost use Rattle.wrappers.specs.Asked.{Judges};
 ghost use Rattle.classes.specs.Asked.{Finds};
 ghost use Rattle.classes.specs.Matches.{unsized};
-ghost use Rattle.shapes.specs.Asked.{nameStep, nameKind, shapeOf, shapeAnswer, acceptance};
+ghost use Rattle.shapes.specs.Asked.{nameStep, nameKind, shapeAnswer, acceptance};
 ghost use Rattle.shapes.specs.Parts.{removedAt, ownedAt, BoxDynUnderlying, MultiArrayUnderlying, ObjectOrPointerUnderlying, GetBuiltinCollectionElement, uninitElement, ExtractMaybeUninitArrayElement};
 ghost use Rattle.shapes.specs.Shapes.{EndsWithNameThatCanAcceptGenerics, IsAutoSize, CanReadWithoutClone, IsRcOrBorrowedRc, IsMultiArray, IsMaybeUninit, IsUninitArray, IsBox, NeedsAsRefForBorrow, IsObject, IsPointer, IsObjectOrPointer, IsBuiltinCollection, IsRc, IsBoxDyn, uninitCases};
 use classes::Class;
@@ -25,25 +25,6 @@ pub enum ShapeAnswer {
     Yes,
     No,
     Refused(Refusal),
-}
-
-// The shape answers, each named after its call.
-enum Shape {
-    EndsWithName,
-    AutoSize,
-    CanRead,
-    RcOrBorrowed,
-    MultiArray,
-    MaybeUninit,
-    UninitArray,
-    BoxOf,
-    NeedsAsRef,
-    ObjectOf,
-    PointerOf,
-    ObjectOrPointer,
-    BuiltinCollection,
-    RcOf,
-    BoxDyn,
 }
 
 // ---- on an accepted type: wrappers
@@ -314,28 +295,45 @@ fn needs_as_ref_at(words: &[u32], pairs: &[u32], text: &[u8], at: usize) -> bool
     is_box_or_rc(words, pairs, text, at)
 }
 
-// A shape answer about an accepted type.
-fn shape_at(words: &[u32], pairs: &[u32], text: &[u8], shape: Shape, at: usize) -> bool
+// `IsMultiArray`
+fn is_multi_array_at(words: &[u32], pairs: &[u32], text: &[u8], at: usize) -> bool
     requires { ⌜ Good (now pairs) (now text) × Readable (typeAt (now words) (now pairs) (now text) at) ⌝ }
-    ensures { λ r. ⌜ Judges (shapeOf shape) (typeAt (now (words .entry)) (now (pairs .entry)) (now (text .entry)) at) r ⌝ }
+    ensures { λ r. ⌜ Judges IsMultiArray (typeAt (now (words .entry)) (now (pairs .entry)) (now (text .entry)) at) r ⌝ }
 {
-    match shape {
-        Shape::EndsWithName => ends_with_name_at(words, pairs, text, at),
-        Shape::AutoSize => is_auto_size_at(words, pairs, text, at),
-        Shape::CanRead => can_read_at(words, pairs, text, at),
-        Shape::RcOrBorrowed => is_rc_or_borrowed_at(words, pairs, text, at),
-        Shape::MultiArray => classes::is_found(multi_array_part(words, pairs, text, at)),
-        Shape::MaybeUninit => classes::is_of(words, pairs, text, Class::Uninit, at),
-        Shape::UninitArray => is_uninit_array_at(words, pairs, text, at),
-        Shape::BoxOf => classes::is_of(words, pairs, text, Class::Boxed, at),
-        Shape::NeedsAsRef => needs_as_ref_at(words, pairs, text, at),
-        Shape::ObjectOf => classes::is_of(words, pairs, text, Class::ObjectClass, at),
-        Shape::PointerOf => classes::is_of(words, pairs, text, Class::PtrClass, at),
-        Shape::ObjectOrPointer => classes::is_found(object_or_pointer_part(words, pairs, text, at)),
-        Shape::BuiltinCollection => classes::is_found(collection_part(words, pairs, text, at)),
-        Shape::RcOf => classes::is_of(words, pairs, text, Class::Counted, at),
-        Shape::BoxDyn => classes::is_found(box_dyn_part(words, pairs, text, at)),
+    let place = wrappers::expand(words, pairs, text, at);
+    classes::is_of(words, pairs, text, Class::ArrayClass, place)
+}
+
+// `IsObjectOrPointer`
+fn is_object_or_pointer_at(words: &[u32], pairs: &[u32], text: &[u8], at: usize) -> bool
+    requires { ⌜ Good (now pairs) (now text) × Readable (typeAt (now words) (now pairs) (now text) at) ⌝ }
+    ensures { λ r. ⌜ Judges IsObjectOrPointer (typeAt (now (words .entry)) (now (pairs .entry)) (now (text .entry)) at) r ⌝ }
+{
+    let place = wrappers::expand(words, pairs, text, at);
+    if classes::is_of(words, pairs, text, Class::PtrClass, place) {
+        return true;
     }
+    classes::is_of(words, pairs, text, Class::ObjectClass, place)
+}
+
+// `IsBuiltinCollection`
+fn is_collection_at(words: &[u32], pairs: &[u32], text: &[u8], at: usize) -> bool
+    requires { ⌜ Good (now pairs) (now text) × Readable (typeAt (now words) (now pairs) (now text) at) ⌝ }
+    ensures { λ r. ⌜ Judges IsBuiltinCollection (typeAt (now (words .entry)) (now (pairs .entry)) (now (text .entry)) at) r ⌝ }
+{
+    let place = wrappers::expand(words, pairs, text, at);
+    if classes::is_of(words, pairs, text, Class::Collection, place) {
+        return true;
+    }
+    classes::is_of(words, pairs, text, Class::MapClass, place)
+}
+
+// `IsBoxDyn`
+fn is_box_dyn_at(words: &[u32], pairs: &[u32], text: &[u8], at: usize) -> bool
+    requires { ⌜ Good (now pairs) (now text) × Readable (typeAt (now words) (now pairs) (now text) at) ⌝ }
+    ensures { λ r. ⌜ Judges IsBoxDyn (typeAt (now (words .entry)) (now (pairs .entry)) (now (text .entry)) at) r ⌝ }
+{
+    classes::is_found(box_dyn_part(words, pairs, text, at))
 }
 
 // ---- the public calls
@@ -366,19 +364,14 @@ pub fn accept(words: &[u32], pairs: &[u32], text: &[u8]) -> Check
     }
 }
 
-// A shape answer about the type that the encoding holds.
-fn shape_in(words: &[u32], pairs: &[u32], text: &[u8], shape: Shape) -> ShapeAnswer
-    ensures { λ r. ⌜ r ≡ shapeAnswer (mapAnswer (shapeOf shape) (typeOf (now (words .entry)) (now (pairs .entry)) (now (text .entry)))) ⌝ }
+// What a call answers of an accepted type. Each call accepts and asks on its own: one function with all questions in it would have to hand everything on through memory.
+fn answer(yes: bool) -> ShapeAnswer
+    ensures { λ r. ⌜ r ≡ shapeAnswer (given yes) ⌝ }
 {
-    match accept(words, pairs, text) {
-        Check::Passed => {
-            if shape_at(words, pairs, text, shape, 0) {
-                return ShapeAnswer::Yes;
-            }
-            ShapeAnswer::No
-        }
-        Check::Failed(r) => ShapeAnswer::Refused(r),
+    if yes {
+        return ShapeAnswer::Yes;
     }
+    ShapeAnswer::No
 }
 
 // `EndsWithNameThatCanAcceptGenerics`
@@ -389,103 +382,148 @@ pub fn ends_with_name_that_can_accept_generics(
 ) -> ShapeAnswer
     ensures { λ r. ⌜ r ≡ shapeAnswer (mapAnswer EndsWithNameThatCanAcceptGenerics (typeOf (now (words .entry)) (now (pairs .entry)) (now (text .entry)))) ⌝ }
 {
-    shape_in(words, pairs, text, Shape::EndsWithName)
+    match accept(words, pairs, text) {
+        Check::Passed => answer(ends_with_name_at(words, pairs, text, 0)),
+        Check::Failed(r) => ShapeAnswer::Refused(r),
+    }
 }
 
 // `IsAutoSize`
 pub fn is_auto_size(words: &[u32], pairs: &[u32], text: &[u8]) -> ShapeAnswer
     ensures { λ r. ⌜ r ≡ shapeAnswer (mapAnswer IsAutoSize (typeOf (now (words .entry)) (now (pairs .entry)) (now (text .entry)))) ⌝ }
 {
-    shape_in(words, pairs, text, Shape::AutoSize)
+    match accept(words, pairs, text) {
+        Check::Passed => answer(is_auto_size_at(words, pairs, text, 0)),
+        Check::Failed(r) => ShapeAnswer::Refused(r),
+    }
 }
 
 // `CanReadWithoutClone`
 pub fn can_read_without_clone(words: &[u32], pairs: &[u32], text: &[u8]) -> ShapeAnswer
     ensures { λ r. ⌜ r ≡ shapeAnswer (mapAnswer CanReadWithoutClone (typeOf (now (words .entry)) (now (pairs .entry)) (now (text .entry)))) ⌝ }
 {
-    shape_in(words, pairs, text, Shape::CanRead)
+    match accept(words, pairs, text) {
+        Check::Passed => answer(can_read_at(words, pairs, text, 0)),
+        Check::Failed(r) => ShapeAnswer::Refused(r),
+    }
 }
 
 // `IsRcOrBorrowedRc`
 pub fn is_rc_or_borrowed_rc(words: &[u32], pairs: &[u32], text: &[u8]) -> ShapeAnswer
     ensures { λ r. ⌜ r ≡ shapeAnswer (mapAnswer IsRcOrBorrowedRc (typeOf (now (words .entry)) (now (pairs .entry)) (now (text .entry)))) ⌝ }
 {
-    shape_in(words, pairs, text, Shape::RcOrBorrowed)
+    match accept(words, pairs, text) {
+        Check::Passed => answer(is_rc_or_borrowed_at(words, pairs, text, 0)),
+        Check::Failed(r) => ShapeAnswer::Refused(r),
+    }
 }
 
 // `IsMultiArray`
 pub fn is_multi_array(words: &[u32], pairs: &[u32], text: &[u8]) -> ShapeAnswer
     ensures { λ r. ⌜ r ≡ shapeAnswer (mapAnswer IsMultiArray (typeOf (now (words .entry)) (now (pairs .entry)) (now (text .entry)))) ⌝ }
 {
-    shape_in(words, pairs, text, Shape::MultiArray)
+    match accept(words, pairs, text) {
+        Check::Passed => answer(is_multi_array_at(words, pairs, text, 0)),
+        Check::Failed(r) => ShapeAnswer::Refused(r),
+    }
 }
 
 // `IsMaybeUninit`
 pub fn is_maybe_uninit(words: &[u32], pairs: &[u32], text: &[u8]) -> ShapeAnswer
     ensures { λ r. ⌜ r ≡ shapeAnswer (mapAnswer IsMaybeUninit (typeOf (now (words .entry)) (now (pairs .entry)) (now (text .entry)))) ⌝ }
 {
-    shape_in(words, pairs, text, Shape::MaybeUninit)
+    match accept(words, pairs, text) {
+        Check::Passed => answer(classes::is_of(words, pairs, text, Class::Uninit, 0)),
+        Check::Failed(r) => ShapeAnswer::Refused(r),
+    }
 }
 
 // `IsUninitArray`
 pub fn is_uninit_array(words: &[u32], pairs: &[u32], text: &[u8]) -> ShapeAnswer
     ensures { λ r. ⌜ r ≡ shapeAnswer (mapAnswer IsUninitArray (typeOf (now (words .entry)) (now (pairs .entry)) (now (text .entry)))) ⌝ }
 {
-    shape_in(words, pairs, text, Shape::UninitArray)
+    match accept(words, pairs, text) {
+        Check::Passed => answer(is_uninit_array_at(words, pairs, text, 0)),
+        Check::Failed(r) => ShapeAnswer::Refused(r),
+    }
 }
 
 // `IsBox`
 pub fn is_box(words: &[u32], pairs: &[u32], text: &[u8]) -> ShapeAnswer
     ensures { λ r. ⌜ r ≡ shapeAnswer (mapAnswer IsBox (typeOf (now (words .entry)) (now (pairs .entry)) (now (text .entry)))) ⌝ }
 {
-    shape_in(words, pairs, text, Shape::BoxOf)
+    match accept(words, pairs, text) {
+        Check::Passed => answer(classes::is_of(words, pairs, text, Class::Boxed, 0)),
+        Check::Failed(r) => ShapeAnswer::Refused(r),
+    }
 }
 
 // `NeedsAsRefForBorrow`
 pub fn needs_as_ref_for_borrow(words: &[u32], pairs: &[u32], text: &[u8]) -> ShapeAnswer
     ensures { λ r. ⌜ r ≡ shapeAnswer (mapAnswer NeedsAsRefForBorrow (typeOf (now (words .entry)) (now (pairs .entry)) (now (text .entry)))) ⌝ }
 {
-    shape_in(words, pairs, text, Shape::NeedsAsRef)
+    match accept(words, pairs, text) {
+        Check::Passed => answer(needs_as_ref_at(words, pairs, text, 0)),
+        Check::Failed(r) => ShapeAnswer::Refused(r),
+    }
 }
 
 // `IsObject`
 pub fn is_object(words: &[u32], pairs: &[u32], text: &[u8]) -> ShapeAnswer
     ensures { λ r. ⌜ r ≡ shapeAnswer (mapAnswer IsObject (typeOf (now (words .entry)) (now (pairs .entry)) (now (text .entry)))) ⌝ }
 {
-    shape_in(words, pairs, text, Shape::ObjectOf)
+    match accept(words, pairs, text) {
+        Check::Passed => answer(classes::is_of(words, pairs, text, Class::ObjectClass, 0)),
+        Check::Failed(r) => ShapeAnswer::Refused(r),
+    }
 }
 
 // `IsPointer`
 pub fn is_pointer(words: &[u32], pairs: &[u32], text: &[u8]) -> ShapeAnswer
     ensures { λ r. ⌜ r ≡ shapeAnswer (mapAnswer IsPointer (typeOf (now (words .entry)) (now (pairs .entry)) (now (text .entry)))) ⌝ }
 {
-    shape_in(words, pairs, text, Shape::PointerOf)
+    match accept(words, pairs, text) {
+        Check::Passed => answer(classes::is_of(words, pairs, text, Class::PtrClass, 0)),
+        Check::Failed(r) => ShapeAnswer::Refused(r),
+    }
 }
 
 // `IsObjectOrPointer`
 pub fn is_object_or_pointer(words: &[u32], pairs: &[u32], text: &[u8]) -> ShapeAnswer
     ensures { λ r. ⌜ r ≡ shapeAnswer (mapAnswer IsObjectOrPointer (typeOf (now (words .entry)) (now (pairs .entry)) (now (text .entry)))) ⌝ }
 {
-    shape_in(words, pairs, text, Shape::ObjectOrPointer)
+    match accept(words, pairs, text) {
+        Check::Passed => answer(is_object_or_pointer_at(words, pairs, text, 0)),
+        Check::Failed(r) => ShapeAnswer::Refused(r),
+    }
 }
 
 // `IsBuiltinCollection`
 pub fn is_builtin_collection(words: &[u32], pairs: &[u32], text: &[u8]) -> ShapeAnswer
     ensures { λ r. ⌜ r ≡ shapeAnswer (mapAnswer IsBuiltinCollection (typeOf (now (words .entry)) (now (pairs .entry)) (now (text .entry)))) ⌝ }
 {
-    shape_in(words, pairs, text, Shape::BuiltinCollection)
+    match accept(words, pairs, text) {
+        Check::Passed => answer(is_collection_at(words, pairs, text, 0)),
+        Check::Failed(r) => ShapeAnswer::Refused(r),
+    }
 }
 
 // `IsRc`
 pub fn is_rc(words: &[u32], pairs: &[u32], text: &[u8]) -> ShapeAnswer
     ensures { λ r. ⌜ r ≡ shapeAnswer (mapAnswer IsRc (typeOf (now (words .entry)) (now (pairs .entry)) (now (text .entry)))) ⌝ }
 {
-    shape_in(words, pairs, text, Shape::RcOf)
+    match accept(words, pairs, text) {
+        Check::Passed => answer(classes::is_of(words, pairs, text, Class::Counted, 0)),
+        Check::Failed(r) => ShapeAnswer::Refused(r),
+    }
 }
 
 // `IsBoxDyn`
 pub fn is_box_dyn(words: &[u32], pairs: &[u32], text: &[u8]) -> ShapeAnswer
     ensures { λ r. ⌜ r ≡ shapeAnswer (mapAnswer IsBoxDyn (typeOf (now (words .entry)) (now (pairs .entry)) (now (text .entry)))) ⌝ }
 {
-    shape_in(words, pairs, text, Shape::BoxDyn)
+    match accept(words, pairs, text) {
+        Check::Passed => answer(is_box_dyn_at(words, pairs, text, 0)),
+        Check::Failed(r) => ShapeAnswer::Refused(r),
+    }
 }

@@ -1,6 +1,6 @@
 -- From what was read and laid down to a call's answer and buffer.
 use Prim.Native.Nat.{ℕ, _≤_, _<_}
-use mathlib.Core.Path.{_≡_, ap, sym, _∙_, subst}
+use mathlib.Core.Path.{_≡_, ap, sym, _∙_}
 use mathlib.Core.List.{List, append-nil}
 use native.Mathlib.Omega.{arith}
 use lib.ListN.{length}
@@ -9,28 +9,18 @@ use Rattle.rast.specs.Tree.{nil, cons}
 use Rattle.output.proofs.Laws.{wrote-as}
 use Rattle.encoding.specs.declared.Refusal.{Refusal}
 use Rattle.encoding.specs.declared.Refusal.the-variants.{LeftOver, BufferTooShort}
-use Rattle.encoding.specs.declared.Scan.{Scan}
-use Rattle.encoding.specs.declared.Scan.the-variants.{At, Refused as Halted}
-use Rattle.encoding.specs.Reading.{got}
-use Rattle.encoding.specs.Scans.{ended}
+use Rattle.encoding.specs.Reading.{got, stop}
 use Rattle.encoding.specs.Types.{readTypes, typeAt}
-use Rattle.encoding.specs.Declarations.{declarationAt}
 use Rattle.encoding.proofs.Answers.{filled-stop, filled-left, filled-short, filled-done}
-use Rattle.encoding.proofs.Reading.{scan-stop}
 use Rattle.encoding.proofs.Types.{type-lies}
-use Rattle.measure.specs.declared.Measure.{Measure}
-use Rattle.measure.specs.declared.Measure.the-variants.{Measured, Stopped}
-use Rattle.measure.specs.Lengths.{measureOf}
-use Rattle.measure.proofs.Measured.{measured-got, measured-stop}
 use Rattle.writing.specs.declared.Spot.{Spot}
 use Rattle.writing.specs.Written.{Readable}
-use Rattle.pieces.proofs.Scans.{end-got}
 use Rattle.visits.specs.declared.VisitAnswer.{VisitAnswer}
 use Rattle.visits.specs.declared.VisitAnswer.the-variants.{Count, Refused}
 use Rattle.pieces.specs.declared.Whole.{Whole}
-use Rattle.pieces.specs.declared.Whole.the-variants.{AType, ADeclaration}
+use Rattle.pieces.specs.declared.Whole.the-variants.{AType}
 use Rattle.visits.specs.Visited.{visited, visitedFrom, positions}
-use Rattle.visits.specs.Calls.{filled, Due, Visited, heldVisits, AllVisited, wholeVisits}
+use Rattle.visits.specs.Calls.{filled, Due, Visited, heldVisits, Fills, AllVisited, wholeVisits}
 use Rattle.pieces.specs.Ends.{Held, heldAt}
 use Rattle.visits.proofs.Lists.{listOf}
 
@@ -68,25 +58,29 @@ module _ (ws pairs : List ℕ) (text : Bytes) where
       let e : v .value ≡ w .value = cc (v .reads, w .reads) in
       omega (arith, v .wrote .next, w .wrote .next, ap (λ (x : Held what). length (heldVisits what x)) e)
 
-  module _ (what : Whole) (o : List ℕ) {r : Scan} (e : r ≡ ended (heldAt what ws pairs text)) where
-    pub visits-stop : {k : Refusal} → r ≡ Halted k → _≡_ {A = VisitAnswer × List ℕ} (Refused k, o) (filled o (wholeVisits what ws pairs text))
-    visits-stop d = filled-stop Count Refused o (heldVisits what) (length ws) (heldAt what ws pairs text) (scan-stop (heldAt what ws pairs text) e d)
+  module _ (what : Whole) (o : List ℕ) where
+    pub visits-stop : {k : Refusal} → heldAt what ws pairs text ≡ stop k → _≡_ {A = VisitAnswer × List ℕ} (Refused k, o) (filled o (wholeVisits what ws pairs text))
+    visits-stop e = filled-stop Count Refused o (heldVisits what) (length ws) (heldAt what ws pairs text) e
 
-    module _ {n : ℕ} (d : r ≡ At n) where
-      pub visits-left : (n ≡ length ws → ⊥) → _≡_ {A = VisitAnswer × List ℕ} (Refused LeftOver, o) (filled o (wholeVisits what ws pairs text))
-      visits-left h = filled-left Count Refused o (heldVisits what) (length ws) (heldAt what ws pairs text) (end-got (heldAt what ws pairs text) e d .reads) h
+    pub visits-left : {v : Held what} {n : ℕ} → heldAt what ws pairs text ≡ got v n → (n ≡ length ws → ⊥) → _≡_ {A = VisitAnswer × List ℕ} (Refused LeftOver, o) (filled o (wholeVisits what ws pairs text))
+    visits-left e h = filled-left Count Refused o (heldVisits what) (length ws) (heldAt what ws pairs text) e h
 
-      pub visits-read : Readable (heldAt what ws pairs text)
-      visits-read = let m = end-got (heldAt what ws pairs text) e d in record { value = m .value; end = n; reads = m .reads }
+    module _ (f : Fills what ws pairs text) where
+      whole-read : {o₁ o₂ : List ℕ} {p : ℕ} (v : AllVisited what ws pairs text o₁ o₂ p) → v .end ≡ length ws
+      whole-read v = let m : length ws ≡ v .end = cc (f .reads, v .reads) in sym m
 
-      module _ (h : n ≡ length ws) where
-        whole-read : {o₁ o₂ : List ℕ} {p : ℕ} (v : AllVisited what ws pairs text o₁ o₂ p) → v .end ≡ length ws
-        whole-read v = let m : n ≡ v .end = cc (end-got (heldAt what ws pairs text) e d .reads, v .reads) in sym m ∙ h
+      pub visits-short : {o₁ o₂ : List ℕ} {p : ℕ} → AllVisited what ws pairs text o₁ o₂ p → length o < p → _≡_ {A = VisitAnswer × List ℕ} (Refused BufferTooShort, o) (filled o (wholeVisits what ws pairs text))
+      visits-short v l = filled-short Count Refused o (heldVisits what) (length ws) (heldAt what ws pairs text) (v .reads) (whole-read v) (omega (arith, v .wrote .next, l))
 
-        pub visits-short : {o₁ o₂ : List ℕ} {p : ℕ} → AllVisited what ws pairs text o₁ o₂ p → length o < p → _≡_ {A = VisitAnswer × List ℕ} (Refused BufferTooShort, o) (filled o (wholeVisits what ws pairs text))
-        visits-short v l = filled-short Count Refused o (heldVisits what) (length ws) (heldAt what ws pairs text) (v .reads) (whole-read v) (omega (arith, v .wrote .next, l))
+      pub visits-done : {o′ : List ℕ} {p : ℕ} → AllVisited what ws pairs text o o′ p → p ≤ length o → _≡_ {A = VisitAnswer × List ℕ} (Count p, o′) (filled o (wholeVisits what ws pairs text))
+      visits-done {p = p} v l =
+          filled-done Count Refused o (heldVisits what) (length ws) (heldAt what ws pairs text) p (v .reads) (whole-read v)
+          (omega (arith, v .wrote .next, l)) (omega (arith, v .wrote .next)) (v .wrote .bytes)
 
-        pub visits-done : {o′ : List ℕ} {p : ℕ} → AllVisited what ws pairs text o o′ p → p ≤ length o → _≡_ {A = VisitAnswer × List ℕ} (Count p, o′) (filled o (wholeVisits what ws pairs text))
-        visits-done {p = p} v l =
-            filled-done Count Refused o (heldVisits what) (length ws) (heldAt what ws pairs text) p (v .reads) (whole-read v)
-            (omega (arith, v .wrote .next, l)) (omega (arith, v .wrote .next)) (v .wrote .bytes)
+  -- a tree that ends where the words do
+  module _ (what : Whole) {v : Held what} {n : ℕ} (e : heldAt what ws pairs text ≡ got v n) (h : n ≡ length ws) where
+    pub fills : Fills what ws pairs text
+    fills = record { value = v; reads = e ∙ ap (got v) h }
+
+  pub fills-readable : {what : Whole} → Fills what ws pairs text → Readable (heldAt what ws pairs text)
+  fills-readable f = record { value = f .value; end = length ws; reads = f .reads }

@@ -1,21 +1,22 @@
 // Visit lists: the positions of the types that `Type.Fold` and the visitor of declarations go through, in their order.
 ghost use mathlib.Core.Path.{_≡_};
 ghost use mathlib.Core.List.{[], _∷_};
-ghost use Prim.Native.Nat.{_≤_, _<_, _^_};
+ghost use mathlib.Core.Bool.{true};
+ghost use Prim.Native.Nat.{_+_, _-_, _≤_, _<_, _^_};
 ghost use lib.ListN.{length};
 ghost use Rattle.output.specs.Wrote.{Wrote};
-ghost use Rattle.encoding.specs.Refusals.{unless};
-ghost use Rattle.encoding.specs.Tables.{Good, checkTables, nameCount};
-ghost use Rattle.encoding.specs.Scans.{ended};
+ghost use Rattle.encoding.specs.Tables.{Good, nameCount};
+ghost use Rattle.encoding.specs.Heads.{HeadHere, typesBelow, ownEnd};
 ghost use Rattle.encoding.specs.Declarations.{declarationAt};
 ghost use Rattle.writing.specs.Written.{Readable};
 ghost use Rattle.visits.specs.Visited.{typeVisits, declarationVisits};
-ghost use Rattle.visits.specs.Calls.{filled, Due, Visited, enteredAfter, enteredWalk, Ahead, Entered, AllVisited, wholeVisits};
+ghost use Rattle.visits.specs.Calls.{filled, Due, Visited, enteredAfter, enteredWalk, FieldNext, fieldType, pastField, Ahead, Entered, AllVisited, Fills, wholeVisits};
 ghost use Rattle.pieces.specs.Ends.{heldAt};
-ghost use Rattle.pieces.specs.declared.Whole.the-variants.{ADeclaration};
+ghost use Rattle.pieces.specs.declared.Whole.the-variants.{AType, ADeclaration};
 use encoding::Check;
 use encoding::Refusal;
 use encoding::Scan;
+use measure::Measure;
 use pieces::After;
 use pieces::Next;
 use pieces::Start;
@@ -44,6 +45,41 @@ fn put_place(place: usize, out: &mut [u32], pos: usize) -> usize
     pos + 1
 }
 
+// Behind a head: where its own words end, and how many types are due there.
+struct Onward {
+    next: usize,
+    due: usize,
+}
+
+fn go_on(next: usize, due: usize) -> Onward
+    ensures { λ r. ⌜ (r .next ≡ next) × (r .due ≡ due) ⌝ }
+{
+    Onward { next, due }
+}
+
+// The first of `due` types has its head at `at`. One match says both what `types_below` and what `own_end` say.
+fn pass_head(words: &[u32], at: usize, due: usize) -> Onward
+    requires { ⌜ HeadHere (now words) at × (0 < due) × (due - 1 + typesBelow (now words) at < 2 ^ 63) ⌝ }
+    ensures { λ r. ⌜ (r .next ≡ ownEnd (now (words .entry)) at) × (r .due ≡ due - 1 + typesBelow (now (words .entry)) at) ⌝ }
+{
+    let w = words[at];
+    if w < 12 {
+        return go_on(at + 1, due - 1);
+    }
+    match w {
+        12 => go_on(at + 2, due - 1),
+        13 => go_on(at + 3 + words[at + 2] as usize, due - 1),
+        14 => go_on(at + 2, due + words[at + 1] as usize),
+        19 => go_on(at + 2, due - 1 + words[at + 1] as usize),
+        20 => go_on(at + 2, due + words[at + 1] as usize),
+        21 => go_on(at + 1, due + 1),
+        22 => go_on(at + 2, due),
+        23 => go_on(at + 1, due + 1),
+        24 => go_on(at + 2, due),
+        _ => go_on(at + 1, due),
+    }
+}
+
 // The `due` types at `at`, which were accepted. Each head leaves as many types due as follow it, but for a synonym's base: that is passed over.
 fn visit_types(
     words: &[u32],
@@ -69,8 +105,9 @@ fn visit_types(
             p = shown.pos;
             continue;
         }
-        left = left - 1 + encoding::types_below(words, place);
-        place = encoding::own_end(words, place);
+        let onward = pass_head(words, place, left);
+        left = onward.due;
+        place = onward.next;
     }
     Spot {
         next: place,
@@ -109,7 +146,57 @@ fn entered_walk(walk: Walk) -> Walk
     }
 }
 
-// The types that a walk comes to, which were accepted. The answer is how many positions there are.
+// Whether a field comes next.
+fn is_field_next(walk: Walk) -> bool
+    ensures { λ r. ⌜ (r ≡ true → FieldNext walk) ⌝ }
+{
+    let after = walk.after;
+    if walk.fields == 0 {
+        return false;
+    }
+    if walk.types != 0 {
+        return false;
+    }
+    if walk.parameters != 0 {
+        return false;
+    }
+    match after {
+        After::FieldList => false,
+        After::CaseList => false,
+        After::OneType => false,
+        After::NoMore => true,
+    }
+}
+
+// Where the type of the next field stands: behind its visibility, and behind its name if fields have names.
+fn field_type(walk: Walk) -> usize
+    requires { ⌜ walk .place ≤ 8192 ⌝ }
+    ensures { λ r. ⌜ r ≡ fieldType walk ⌝ }
+{
+    if walk.kind == 0 {
+        return walk.place + 2;
+    }
+    walk.place + 1
+}
+
+// The walk behind the next field, which ends at `place`.
+fn past_field(walk: Walk, place: usize) -> Walk
+    requires { ⌜ 0 < walk .fields ⌝ }
+    ensures { λ r. ⌜ r ≡ pastField walk place ⌝ }
+{
+    Walk {
+        place,
+        types: 0,
+        parameters: 0,
+        after: After::NoMore,
+        kind: walk.kind,
+        fields: walk.fields - 1,
+        cases: walk.cases,
+    }
+}
+
+// The types that a walk comes to, which were accepted. The answer is how many positions there are. Most steps of a long enum are fields: these are taken whole, since a
+// single step hands the walk over in memory.
 fn visit_walk(
     words: &[u32],
     pairs: &[u32],
@@ -124,6 +211,12 @@ fn visit_walk(
     let mut w = walk;
     let mut p = 0;
     loop {
+        if is_field_next(w) {
+            let spot = visit_types(words, pairs, text, field_type(w), 1, out, p);
+            w = past_field(w, spot.next);
+            p = spot.pos;
+            continue;
+        }
         match pieces::next_piece(words, bound, w) {
             Next::OwnWords(next) => {
                 w = next;
@@ -172,38 +265,61 @@ fn visit_whole(what: Whole, words: &[u32], pairs: &[u32], text: &[u8], out: &mut
     }
 }
 
-// A tree is accepted, and its list counted, before a position is written, since a refusal leaves the buffer unchanged.
-fn fill(what: Whole, words: &[u32], pairs: &[u32], text: &[u8], out: &mut [u32]) -> VisitAnswer
-    requires { ⌜ Good (now pairs) (now text) × (length (now words) ≤ 8192) ⌝ }
+// A tree is accepted, and its list counted, before a position is written, since a refusal leaves the buffer unchanged. There are no more positions than words: only a
+// shorter buffer needs a count first.
+fn fill_short(
+    what: Whole,
+    words: &[u32],
+    pairs: &[u32],
+    text: &[u8],
+    out: &mut [u32],
+) -> VisitAnswer
+    requires { ⌜ (length (now words) ≤ 8192) × Fills what (now words) (now pairs) (now text) ⌝ }
     ensures { λ r. ⌜ (r, now (out .exit)) ≡ filled (now (out .entry)) (wholeVisits what (now (words .entry)) (now (pairs .entry)) (now (text .entry))) ⌝ }
 {
-    match pieces::accept(what, words, pairs, text) {
+    let mut none = [0u32; 0];
+    if out.len() < visit_whole(what, words, pairs, text, &mut none) {
+        return VisitAnswer::Refused(Refusal::BufferTooShort);
+    }
+    VisitAnswer::Count(visit_whole(what, words, pairs, text, out))
+}
+
+// The list of the type that fills the words.
+fn fill_type(words: &[u32], pairs: &[u32], text: &[u8], out: &mut [u32]) -> VisitAnswer
+    requires { ⌜ Good (now pairs) (now text) × (length (now words) ≤ 8192) ⌝ }
+    ensures { λ r. ⌜ (r, now (out .exit)) ≡ filled (now (out .entry)) (wholeVisits AType (now (words .entry)) (now (pairs .entry)) (now (text .entry))) ⌝ }
+{
+    match measure::measure_type(words, pairs, text, 0) {
+        Measure::Measured { next, bytes: _ } => {
+            if next != words.len() {
+                return VisitAnswer::Refused(Refusal::LeftOver);
+            }
+            if out.len() < words.len() {
+                return fill_short(Whole::AType, words, pairs, text, out);
+            }
+            let all = visit_types(words, pairs, text, 0, 1, out, 0);
+            VisitAnswer::Count(all.pos)
+        }
+        Measure::Stopped(r) => VisitAnswer::Refused(r),
+    }
+}
+
+// The list of the declaration that fills the words.
+fn fill_declaration(words: &[u32], pairs: &[u32], text: &[u8], out: &mut [u32]) -> VisitAnswer
+    requires { ⌜ Good (now pairs) (now text) × (length (now words) ≤ 8192) ⌝ }
+    ensures { λ r. ⌜ (r, now (out .exit)) ≡ filled (now (out .entry)) (wholeVisits ADeclaration (now (words .entry)) (now (pairs .entry)) (now (text .entry))) ⌝ }
+{
+    match pieces::accept_declaration(words, pairs, text) {
         Scan::At(end) => {
             if end != words.len() {
                 return VisitAnswer::Refused(Refusal::LeftOver);
             }
-            // There are no more positions than words: only a shorter buffer needs a count first.
-            if words.len() <= out.len() {
-                return VisitAnswer::Count(visit_whole(what, words, pairs, text, out));
+            if out.len() < words.len() {
+                return fill_short(Whole::ADeclaration, words, pairs, text, out);
             }
-            let mut none = [0u32; 0];
-            if out.len() < visit_whole(what, words, pairs, text, &mut none) {
-                return VisitAnswer::Refused(Refusal::BufferTooShort);
-            }
-            VisitAnswer::Count(visit_whole(what, words, pairs, text, out))
+            VisitAnswer::Count(visit_declaration(words, pairs, text, out))
         }
         Scan::Refused(r) => VisitAnswer::Refused(r),
-    }
-}
-
-// The tables are tested first.
-fn visit_by(what: Whole, words: &[u32], pairs: &[u32], text: &[u8], out: &mut [u32]) -> VisitAnswer
-    ensures { λ r. ⌜ (r, now (out .exit)) ≡ filled (now (out .entry))
-        (unless (checkTables (now (words .entry)) (now (pairs .entry)) (now (text .entry))) (wholeVisits what (now (words .entry)) (now (pairs .entry)) (now (text .entry)))) ⌝ }
-{
-    match encoding::check_tables(words, pairs, text) {
-        Check::Passed => fill(what, words, pairs, text, out),
-        Check::Failed(r) => VisitAnswer::Refused(r),
     }
 }
 
@@ -211,12 +327,18 @@ fn visit_by(what: Whole, words: &[u32], pairs: &[u32], text: &[u8], out: &mut [u
 pub fn type_visit(words: &[u32], pairs: &[u32], text: &[u8], out: &mut [u32]) -> VisitAnswer
     ensures { λ r. ⌜ (r, now (out .exit)) ≡ filled (now (out .entry)) (typeVisits (now (words .entry)) (now (pairs .entry)) (now (text .entry))) ⌝ }
 {
-    visit_by(Whole::AType, words, pairs, text, out)
+    match encoding::check_tables(words, pairs, text) {
+        Check::Passed => fill_type(words, pairs, text, out),
+        Check::Failed(r) => VisitAnswer::Refused(r),
+    }
 }
 
 // The visit list of the declaration that an encoding holds, in the front of `out`.
 pub fn declaration_visit(words: &[u32], pairs: &[u32], text: &[u8], out: &mut [u32]) -> VisitAnswer
     ensures { λ r. ⌜ (r, now (out .exit)) ≡ filled (now (out .entry)) (declarationVisits (now (words .entry)) (now (pairs .entry)) (now (text .entry))) ⌝ }
 {
-    visit_by(Whole::ADeclaration, words, pairs, text, out)
+    match encoding::check_tables(words, pairs, text) {
+        Check::Passed => fill_declaration(words, pairs, text, out),
+        Check::Failed(r) => VisitAnswer::Refused(r),
+    }
 }

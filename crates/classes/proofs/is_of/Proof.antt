@@ -1,23 +1,134 @@
-use Rattle.classes.proofs.Finding.{judge-class}
+use Rattle.classes.proofs.Worded.{base-here, base-word-other, count-here, count-other, path-here, path-word, word-here, word-other}
+use native.Mathlib.Omega.{arith}
 use Rattle.classes.proofs.is_of.Statement.{statement}
 use borrow.Author.Needs.{needs}
 use Rattle.classes.proofs.is_of.Tie as tie
 
-first-argument-requires : tie.Need-first-argument-requires
-first-argument-requires c κs = search needs
+mul-if1 : tie.Need-mul-if1
+mul-if1 c =
+    let a = c .before .before .before .args in
+    let h = word-here (a .words .now) (a .pairs .now) (a .text .now) (a .at) (c .before .before .before .pre .1) in search needs
 
-is-found-requires : tie.Need-is-found-requires
-is-found-requires c κs = search needs
+shared-slice-read-if1 : tie.Need-shared-slice-read-if1
+shared-slice-read-if1 c =
+    let a = c .before .before .before .before .args in
+    word-here (a .words .now) (a .pairs .now) (a .text .now) (a .at) (c .before .before .before .before .pre .1)
 
 returns : tie.Need-returns
 returns c =
     let a = c .before .before .before .before .before .args in
-    judge-class (a .words .now) (a .pairs .now) (a .text .now) (a .at) (a .class) (c .before .first-argument .ensures) (c .is-found .ensures)
+    word-other (a .words .now) (a .pairs .now) (a .text .now) (a .at) (a .class) (c .if1 .taken)
+
+add-if2 : tie.Need-add-if2
+add-if2 c =
+    let a = c .before .before .before .before .before .args in
+    let h = count-here (a .words .now) (a .pairs .now) (a .text .now) (a .at) (c .before .before .before .before .before .pre .1) (c .if1 .left) in search needs
+
+mul-if2 : tie.Need-mul-if2
+mul-if2 c =
+    let a = c .before .before .before .before .before .args in
+    let h = count-here (a .words .now) (a .pairs .now) (a .text .now) (a .at) (c .before .before .before .before .before .pre .1) (c .if1 .left) in search needs
+
+shared-slice-read-if2 : tie.Need-shared-slice-read-if2
+shared-slice-read-if2 c =
+    let a = c .before .before .before .before .before .before .args in
+    count-here (a .words .now) (a .pairs .now) (a .text .now) (a .at) (c .before .before .before .before .before .before .pre .1) (c .before .if1 .left)
+
+arity-of-requires : tie.Need-arity-of-requires
+arity-of-requires c κs = search needs
+
+returns-2 : tie.Need-returns-2
+returns-2 c =
+    let a = c .before .before .before .before .before .before .before .before .args in
+    count-other (a .words .now) (a .pairs .now) (a .text .now) (a .at) (a .class) (c .before .before .before .if1 .left) (c .before .arity-of .ensures) (c .if2 .taken)
+
+add-base : tie.Need-add-base
+add-base c =
+    let a = c .before .before .before .before .before .before .before .before .args in
+    let h = base-here (a .words .now) (a .pairs .now) (a .text .now) (a .at) (c .before .before .before .before .before .before .before .before .pre .1) (c .before .before .before .if1 .left) in search needs
+
+mul-if3 : tie.Need-mul-if3
+mul-if3 c =
+    let a = c .before .before .before .before .before .before .before .before .args in
+    let h = base-here (a .words .now) (a .pairs .now) (a .text .now) (a .at) (c .before .before .before .before .before .before .before .before .pre .1) (c .before .before .before .if1 .left) in search needs
+
+shared-slice-read-if3 : tie.Need-shared-slice-read-if3
+shared-slice-read-if3 c =
+    let a = c .before .before .before .before .before .before .before .before .before .args in
+    base-here (a .words .now) (a .pairs .now) (a .text .now) (a .at) (c .before .before .before .before .before .before .before .before .before .pre .1) (c .before .before .before .before .if1 .left)
+
+returns-3 : tie.Need-returns-3
+returns-3 c =
+    let a = c .before .before .before .before .before .before .before .before .before .before .args in
+    base-word-other (a .words .now) (a .pairs .now) (a .text .now) (a .at) (a .class) (c .before .before .before .before .before .if1 .left) (c .if3 .taken)
+
+add-t12 : tie.Need-add-t12
+add-t12 c =
+    let a = c .before .before .before .before .before .before .before .before .before .before .args in
+    let h = path-here (a .words .now) (a .pairs .now) (a .text .now) (a .at) (c .before .before .before .before .before .before .before .before .before .before .pre .1) (c .before .before .before .before .before .if1 .left) (c .if3 .left) .inside in search needs
+
+mul-t8 : tie.Need-mul-t8
+mul-t8 c =
+    let a = c .before .before .before .before .before .before .before .before .before .before .args in
+    let h = path-here (a .words .now) (a .pairs .now) (a .text .now) (a .at) (c .before .before .before .before .before .before .before .before .before .before .pre .1) (c .before .before .before .before .before .if1 .left) (c .if3 .left) .inside in search needs
+
+shared-slice-read-t14 : tie.Need-shared-slice-read-t14
+shared-slice-read-t14 c =
+    let a = c .before .before .before .before .before .before .before .before .before .before .before .args in
+    omega (arith, path-here (a .words .now) (a .pairs .now) (a .text .now) (a .at) (c .before .before .before .before .before .before .before .before .before .before .before .pre .1) (c .before .before .before .before .before .before .if1 .left) (c .before .if3 .left) .inside)
+
+add-t17 : tie.Need-add-t17
+add-t17 c =
+    let a = c .before .before .before .before .before .before .before .before .before .before .before .args in
+    let h = path-here (a .words .now) (a .pairs .now) (a .text .now) (a .at) (c .before .before .before .before .before .before .before .before .before .before .before .pre .1) (c .before .before .before .before .before .before .if1 .left) (c .before .if3 .left) .inside in search needs
+
+add-t18 : tie.Need-add-t18
+add-t18 c =
+    let a = c .before .before .before .before .before .before .before .before .before .before .before .args in
+    let h = path-here (a .words .now) (a .pairs .now) (a .text .now) (a .at) (c .before .before .before .before .before .before .before .before .before .before .before .pre .1) (c .before .before .before .before .before .before .if1 .left) (c .before .if3 .left) .inside in search needs
+
+mul-t19 : tie.Need-mul-t19
+mul-t19 c =
+    let a = c .before .before .before .before .before .before .before .before .before .before .before .args in
+    let h = path-here (a .words .now) (a .pairs .now) (a .text .now) (a .at) (c .before .before .before .before .before .before .before .before .before .before .before .pre .1) (c .before .before .before .before .before .before .if1 .left) (c .before .if3 .left) .inside in search needs
+
+shared-slice-read-t10 : tie.Need-shared-slice-read-t10
+shared-slice-read-t10 c =
+    let a = c .before .before .before .before .before .before .before .before .before .before .before .before .args in
+    path-here (a .words .now) (a .pairs .now) (a .text .now) (a .at) (c .before .before .before .before .before .before .before .before .before .before .before .before .pre .1) (c .before .before .before .before .before .before .before .if1 .left) (c .before .before .if3 .left) .inside
+
+is-in-class-requires : tie.Need-is-in-class-requires
+is-in-class-requires c κs =
+    let a = c .before .before .before .before .before .before .before .before .before .before .before .before .args in
+    (path-here (a .words .now) (a .pairs .now) (a .text .now) (a .at) (c .before .before .before .before .before .before .before .before .before .before .before .before .pre .1) (c .before .before .before .before .before .before .before .if1 .left) (c .before .before .if3 .left) .own, c .before .before .before .before .before .before .before .before .before .before .before .before .pre .0)
+
+returns-4 : tie.Need-returns-4
+returns-4 c =
+    let a = c .before .before .before .before .before .before .before .before .before .before .before .before .before .args in
+    path-word (a .words .now) (a .pairs .now) (a .text .now) (a .at) (a .class) (c .before .before .before .before .before .before .before .before .if1 .left) (c .before .before .before .before .before .before .arity-of .ensures) (c .before .before .before .before .before .if2 .left) (c .before .before .before .if3 .left) (c .is-in-class .ensures)
 
 pub is-of-spec : {M : Type 1} → statement M
 is-of-spec =
     tie.close
     (tie.spec
-    first-argument-requires
-    is-found-requires
-    returns)
+    mul-if1
+    shared-slice-read-if1
+    returns
+    add-if2
+    mul-if2
+    shared-slice-read-if2
+    arity-of-requires
+    returns-2
+    add-base
+    mul-if3
+    shared-slice-read-if3
+    returns-3
+    add-t12
+    mul-t8
+    shared-slice-read-t14
+    add-t17
+    add-t18
+    mul-t19
+    shared-slice-read-t10
+    is-in-class-requires
+    returns-4)

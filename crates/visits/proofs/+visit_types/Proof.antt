@@ -8,8 +8,7 @@ use borrow.Fn.PlainCycle.{Measures, is, falls, and}
 use Rattle.visits.proofs.visit_types.Reads as visit-types
 use Rattle.visits.proofs.visit_types.Kinds as visit-types-kinds
 use Rattle.visits.proofs.+visit_types.Lts-visit_types as visit-types-lts
-use Rattle.encoding.proofs.own_end.Reads as own-end-reads
-use Rattle.encoding.proofs.types_below.Reads as types-below-reads
+use Rattle.visits.proofs.pass_head.Reads as pass-head-reads
 use Rattle.visits.proofs.put_place.Reads as put-place-reads
 use Rattle.writing.proofs.skip_type.Reads as skip-type-reads
 use Rattle.visits.proofs.+visit_types.{statement}
@@ -41,10 +40,8 @@ visit-types-calls t = (
   visit-types.Post,
   skip-type-reads.Asked,
   skip-type-reads.Learnt,
-  types-below-reads.Asked,
-  types-below-reads.Learnt,
-  own-end-reads.Asked,
-  own-end-reads.Learnt,
+  pass-head-reads.Asked,
+  pass-head-reads.Learnt,
 )
 
 visit-types-loop-holds : (t : ℕ) → visit-types-lts.Need-loop-holds (visit-types-calls t) (visit-types-at t) visit-types.Post visit-types-Inv-loop visit-types-μ-loop
@@ -98,36 +95,23 @@ visit-types-loop-again t c =
     let s = visit-past (i .before .loop .inv) (i .loop-test .taken) (c .before .before .before .before .before .before .before .before .before .put-place .ensures) (c .before .before .before .before .before .if1 .taken) (c .before .before .before .visit-types .ensures) (c .skip-type .ensures) in
     s .next
 
-visit-types-sub-left-2 : (t : ℕ) → visit-types-lts.Need-sub-left-2 (visit-types-calls t) (visit-types-at t) visit-types.Post visit-types-Inv-loop visit-types-μ-loop
-visit-types-sub-left-2 t c = search needs
-
-visit-types-types-below-requires : (t : ℕ) → visit-types-lts.Need-types-below-requires (visit-types-calls t) (visit-types-at t) visit-types.Post visit-types-Inv-loop visit-types-μ-loop
-visit-types-types-below-requires t c κs =
+visit-types-pass-head-requires : (t : ℕ) → visit-types-lts.Need-pass-head-requires (visit-types-calls t) (visit-types-at t) visit-types.Post visit-types-Inv-loop visit-types-μ-loop
+visit-types-pass-head-requires t c κs =
     let i = c .before .before .before .before .before .before in
-    head-due (i .before .loop .inv) (i .loop-test .taken)
-
-visit-types-add-left : (t : ℕ) → visit-types-lts.Need-add-left (visit-types-calls t) (visit-types-at t) visit-types.Post visit-types-Inv-loop visit-types-μ-loop
-visit-types-add-left t c =
-    let i = c .before .before .before .before .before .before .before in
-    let s = visit-words (i .before .loop .inv) (i .loop-test .taken) (c .before .before .before .before .before .put-place .ensures) (c .before .if1 .left) in
-    omega (arith, c .types-below .ensures, s .few)
-
-visit-types-own-end-requires : (t : ℕ) → visit-types-lts.Need-own-end-requires (visit-types-calls t) (visit-types-at t) visit-types.Post visit-types-Inv-loop visit-types-μ-loop
-visit-types-own-end-requires t c κs =
-    let i = c .before .before .before .before .before .before .before in
-    head-due (i .before .loop .inv) (i .loop-test .taken)
+    let s = visit-words (i .before .loop .inv) (i .loop-test .taken) (c .before .before .before .before .put-place .ensures) (c .if1 .left) in
+    (head-due (i .before .loop .inv) (i .loop-test .taken), i .loop-test .taken, omega (arith, s .few, i .before .loop .inv .few))
 
 visit-types-loop-less-2 : (t : ℕ) → visit-types-lts.Need-loop-less-2 (visit-types-calls t) (visit-types-at t) visit-types.Post visit-types-Inv-loop visit-types-μ-loop
 visit-types-loop-less-2 t c =
-    let i = c .before .before .before .before .before .before .before .before in
-    let s = visit-words (i .before .loop .inv) (i .loop-test .taken) (c .before .before .before .before .before .before .put-place .ensures) (c .before .before .if1 .left) in
-    omega (arith, c .own-end .ensures, s .ahead, s .next .inside)
+    let i = c .before .before .before .before .before .before .before in
+    let s = visit-words (i .before .loop .inv) (i .loop-test .taken) (c .before .before .before .before .before .put-place .ensures) (c .before .if1 .left) in
+    omega (arith, c .pass-head .ensures .0, s .ahead, s .next .inside)
 
 visit-types-loop-again-2 : (t : ℕ) → visit-types-lts.Need-loop-again-2 (visit-types-calls t) (visit-types-at t) visit-types.Post visit-types-Inv-loop visit-types-μ-loop
 visit-types-loop-again-2 t c =
-    let i = c .before .before .before .before .before .before .before .before in
-    let s = visit-words (i .before .loop .inv) (i .loop-test .taken) (c .before .before .before .before .before .before .put-place .ensures) (c .before .before .if1 .left) in
-    rw (c .own-end .ensures, c .before .types-below .ensures) (s .next)
+    let i = c .before .before .before .before .before .before .before in
+    let s = visit-words (i .before .loop .inv) (i .loop-test .taken) (c .before .before .before .before .before .put-place .ensures) (c .before .if1 .left) in
+    rw (c .pass-head .ensures .0, c .pass-head .ensures .1) (s .next)
 
 visit-types-same-length : (t : ℕ) → visit-types-lts.Need-same-length (visit-types-calls t) (visit-types-at t) visit-types.Post visit-types-Inv-loop visit-types-μ-loop
 visit-types-same-length t c = search needs
@@ -151,10 +135,7 @@ pub +visit-types-spec : {M : Type 1} → statement M
     (visit-types-sub-left t)
     (visit-types-loop-less t)
     (visit-types-loop-again t)
-    (visit-types-sub-left-2 t)
-    (visit-types-types-below-requires t)
-    (visit-types-add-left t)
-    (visit-types-own-end-requires t)
+    (visit-types-pass-head-requires t)
     (visit-types-loop-less-2 t)
     (visit-types-loop-again-2 t)
     (visit-types-same-length t)
