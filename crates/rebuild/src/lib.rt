@@ -1,7 +1,7 @@
 // Rebuilding a type by rules: words are laid down in a buffer, and a finished type that equals a rule's from gives way to its to.
 ghost use mathlib.Core.Path.{_≡_};
 ghost use Prim.Native.Nat.{min, _+_, _-_, _*_, _≤_, _<_};
-ghost use lib.ListN.{length, take, drop};
+ghost use lib.ListN.{length, getD, take, drop};
 ghost use lib.Seq.{sets};
 ghost use Rattle.encoding.specs.Refusals.{given};
 ghost use Rattle.encoding.specs.Tables.{Good, nameBytes};
@@ -9,6 +9,7 @@ ghost use Rattle.encoding.specs.Types.{readTypes};
 ghost use Rattle.trees.specs.Numbered.{treeAt};
 ghost use Rattle.writing.specs.Written.{Readable};
 ghost use Rattle.rules.specs.Table.{Fits, foundFrom};
+ghost use Rattle.rules.specs.Scans.{Spans};
 ghost use Rattle.rebuild.specs.Laid.{Lays, GivesTo, Settles, Ruled, mapping, TypeRebuilds, TypesRebuild};
 ghost use Rattle.rebuild.specs.Calls.{sameWords, zeros, laidDown};
 use encoding::Refusal;
@@ -84,6 +85,7 @@ enum Settling {
 // What lies from `start` on gives way to the to of rule `i`.
 fn give_way(
     rules: &[u32],
+    pairs: &[u32],
     table: &[usize; 160],
     k: usize,
     i: usize,
@@ -91,14 +93,17 @@ fn give_way(
     start: usize,
     limit: usize,
 ) -> Settling
-    requires { ⌜ Fits (now rules) (now table) k × (i < k) × (start ≤ limit) × (limit ≤ length (now out)) ⌝ }
-    ensures { λ r. ⌜ GivesTo (now (rules .entry)) (now (table .entry)) i limit (now (out .entry)) start (now (out .exit)) r ⌝ }
+    requires { ⌜ Fits (now rules) (now table) k × (i < k) × Spans (treeAt (now rules) (now pairs) (getD (now table) (4 * i + 1) 0)) (getD (now table) (4 * i + 2) 0)
+        × (start ≤ limit) × (limit ≤ length (now out)) ⌝ }
+    ensures { λ r. ⌜ GivesTo (now (rules .entry)) (now (pairs .entry)) (now (table .entry)) i limit (now (out .entry)) start (now (out .exit)) r ⌝ }
 {
     let to = table[4 * i + 1];
     let count = table[4 * i + 2] - to;
-    let depth = table[4 * i + 3];
     match lay(rules, to, count, out, start, limit) {
-        Laying::To(pos) => Settling::Settled { pos, depth },
+        Laying::To(pos) => {
+            let depth = rules::depth_in(rules, pairs, to, count);
+            Settling::Settled { pos, depth }
+        }
         Laying::Over => Settling::Overfull,
     }
 }
@@ -116,13 +121,13 @@ fn settle(
     depth: usize,
     limit: usize,
 ) -> Settling
-    requires { ⌜ Good (now pairs) (now text) × Fits (now rules) (now table) k × (start < end) × (end ≤ limit) × (limit ≤ length (now out)) ⌝ }
-    ensures { λ r. ⌜ Settles (now (rules .entry)) (now (table .entry))
+    requires { ⌜ Good (now pairs) (now text) × Ruled (now rules) (now pairs) (now text) (now table) k × (start < end) × (end ≤ limit) × (limit ≤ length (now out)) ⌝ }
+    ensures { λ r. ⌜ Settles (now (rules .entry)) (now (pairs .entry)) (now (table .entry))
         (foundFrom (nameBytes (now (pairs .entry)) (now (text .entry))) (now (rules .entry)) (now (table .entry)) 0 k (take (end - start) (drop start (now (out .entry)))))
         limit (now (out .entry)) start end depth (now (out .exit)) r ⌝ }
 {
     match rules::find_rule(rules, pairs, text, table, k, out, start, end - start) {
-        Found::At(i) => give_way(rules, table, k, i, out, start, limit),
+        Found::At(i) => give_way(rules, pairs, table, k, i, out, start, limit),
         Found::Nothing => Settling::Settled { pos: end, depth },
     }
 }

@@ -133,7 +133,7 @@ rebuild-type-settle-requires t c κs =
     let m = mapping (a .rules .now) (a .pairs .now) (a .text .now) in
     let l = lays-to (c .before .before .before .before .before .before .before .before .before .before .before .before .before .before .lay .ensures) (c .before .before .before .before .before .before .before .before .before .before .p .given .1) in
     let g = finished (a .words .now) (a .pairs .now) (a .at) m (s .pre .1 .2 .reads) (c .before .before .before .before .before .before .before .before .before .before .before .before .before .before .before .before .own-end .ensures) (c .before .before .before .before .before .before .before .before .types-below .ensures) (l .1) (c .before .before .before .before .before .before .rebuild-types .ensures) (c .before .before .end .given .1) in
-    (s .pre .1 .0, s .pre .1 .1 .fits, g .some, g .within, omega (arith, g .grown .kept, s .pre .1 .4))
+    (s .pre .1 .0, s .pre .1 .1, g .some, g .within, omega (arith, g .grown .kept, s .pre .1 .4))
 
 rebuild-type-enum-known-last : (t : ℕ) → rebuild-type-lts.Need-enum-known-last (rebuild-type-calls t) (rebuild-type-at t) rebuild-type.Post
 rebuild-type-enum-known-last t c = search needs
