@@ -314,3 +314,35 @@ module _ (ws pairs : List ℕ) (m : Ty ℕ → Ty ℕ) (at k limit : ℕ) (o : L
         let j : n′ ≡ next-type .middle = (let x = next-type .first in let y = b .reads in cc) in
         let v = tree-run ws pairs place (r .inside) (next-type .first) in
         omega (arith, j, v .1, words-some (next-type .type))
+
+encode-one : (t : Ty ℕ) → encodeAll (cons t nil) ≡ encode t
+unfolding encodeAll tokensAll
+encode-one t = encode-cons t nil ∙ append-nil (encode t)
+
+-- one type, as a list of one
+pub one-rebuilt : (ws pairs : List ℕ) (m : Ty ℕ → Ty ℕ) (at : ℕ) {limit p : ℕ} {o o′ : List ℕ} {r : Rebuilt} → Readable (treeAt ws pairs at)
+    → TypesRebuild m limit o p (readTypes (treeAt ws pairs) 1 at) o′ r → TypeRebuilds m limit o p (treeAt ws pairs at) o′ r
+unfolding readTypes Replaces peaks deepest
+one-rebuilt ws pairs m at {limit} {p} {o} {o′} v w = go w
+  where
+    t : Ty ℕ
+    t = v .value
+
+    whole : readTypes (treeAt ws pairs) 1 at ≡ got (cons t nil) (v .end)
+    whole = rw (v .reads) refl
+
+    code : encodeAll (Replaces m (cons t nil)) ≡ encode (Replace m t)
+    code = encode-one (Replace m t)
+
+    go : {r : Rebuilt} → TypesRebuild m limit o p (readTypes (treeAt ws pairs) 1 at) o′ r → TypeRebuilds m limit o p (treeAt ws pairs at) o′ r
+    go (rebuilt {a = ts} {n} {q} {d} x top within grown deep) =
+        let i : ts ≡ cons t nil = (let y = whole in cc) in
+        let j : n ≡ v .end = (let y = whole in cc) in
+        let g : Grown o p (encode (Replace m t)) o′ q = rw (ap (λ us. encodeAll (Replaces m us)) i ∙ code) at grown in
+        let h : p + peak m t ≤ limit = omega (arith, top, ap (peaks m) i) in
+        let e : d ≡ depth (Replace m t) = omega (arith, deep, ap (λ us. deepest (Replaces m us)) i) in
+        rebuilt (v .reads ∙ ap (got t) (sym j)) h within g e
+    go (full {a = ts} x over kept) =
+        let i : ts ≡ cons t nil = (let y = whole in cc) in
+        let h : limit < p + peak m t = omega (arith, over, ap (peaks m) i, peak-least m t, encode-words (Replace m t)) in
+        full (v .reads) h kept

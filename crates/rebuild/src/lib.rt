@@ -143,7 +143,7 @@ pub enum Rebuilt {
 }
 
 // The accepted type at `at`, rebuilt: its own words, the types below it, and then the rules.
-pub fn rebuild_type(
+fn rebuild_next(
     words: &[u32],
     pairs: &[u32],
     text: &[u8],
@@ -165,7 +165,7 @@ pub fn rebuild_type(
         return Rebuilt::Full;
     };
     let kids = encoding::types_below(words, at);
-    match rebuild_types(
+    match rebuild_below(
         words,
         pairs,
         text,
@@ -194,6 +194,35 @@ pub fn rebuild_type(
     }
 }
 
+// The types below a head; most heads have none, and those need no call.
+fn rebuild_below(
+    words: &[u32],
+    pairs: &[u32],
+    text: &[u8],
+    rules: &[u32],
+    table: &[usize; 160],
+    k: usize,
+    at: usize,
+    n: usize,
+    out: &mut [u32],
+    pos: usize,
+    limit: usize,
+) -> Rebuilt
+    requires { ⌜ Good (now pairs) (now text) × Ruled (now rules) (now pairs) (now text) (now table) k × (at ≤ length (now words))
+        × Readable (readTypes (treeAt (now words) (now pairs)) n at) × (pos ≤ limit) × (limit ≤ length (now out)) ⌝ }
+    ensures { λ r. ⌜ TypesRebuild (mapping (now (rules .entry)) (now (pairs .entry)) (now (text .entry))) limit (now (out .entry)) pos
+        (readTypes (treeAt (now (words .entry)) (now (pairs .entry))) n at) (now (out .exit)) r ⌝ }
+{
+    if n == 0 {
+        return Rebuilt::Done {
+            next: at,
+            pos,
+            depth: 0,
+        };
+    }
+    rebuild_types(words, pairs, text, rules, table, k, at, n, out, pos, limit)
+}
+
 // `n` accepted types, rebuilt one after the other.
 fn rebuild_types(
     words: &[u32],
@@ -218,7 +247,7 @@ fn rebuild_types(
     let mut deepest = 0;
     let mut left = n;
     while 0 < left {
-        match rebuild_type(words, pairs, text, rules, table, k, place, out, p, limit) {
+        match rebuild_next(words, pairs, text, rules, table, k, place, out, p, limit) {
             Rebuilt::Done {
                 next,
                 pos: q,
@@ -239,6 +268,27 @@ fn rebuild_types(
         pos: p,
         depth: deepest,
     }
+}
+
+// The accepted type at `at`, rebuilt. The cycle is entered by a list of one type: then one function of it calls itself.
+pub fn rebuild_type(
+    words: &[u32],
+    pairs: &[u32],
+    text: &[u8],
+    rules: &[u32],
+    table: &[usize; 160],
+    k: usize,
+    at: usize,
+    out: &mut [u32],
+    pos: usize,
+    limit: usize,
+) -> Rebuilt
+    requires { ⌜ Good (now pairs) (now text) × Ruled (now rules) (now pairs) (now text) (now table) k × Readable (treeAt (now words) (now pairs) at)
+        × (pos ≤ limit) × (limit ≤ length (now out)) ⌝ }
+    ensures { λ r. ⌜ TypeRebuilds (mapping (now (rules .entry)) (now (pairs .entry)) (now (text .entry))) limit (now (out .entry)) pos
+        (treeAt (now (words .entry)) (now (pairs .entry)) at) (now (out .exit)) r ⌝ }
+{
+    rebuild_types(words, pairs, text, rules, table, k, at, 1, out, pos, limit)
 }
 
 // ---- the call
