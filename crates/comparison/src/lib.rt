@@ -1,11 +1,13 @@
 // Comparing two types by their words: no tree is built, and nothing recurses.
 ghost use mathlib.Core.Path.{_≡_};
+ghost use mathlib.Core.Bool.{true};
 ghost use mathlib.Core.List.{[]};
 ghost use Prim.Native.Nat.{_+_, _≤_, _<_};
-ghost use lib.ListN.{length, getD, take, drop};
+ghost use lib.ListN.{length, take, drop};
 ghost use Rattle.rast.specs.Bytes.{same};
-ghost use Rattle.encoding.specs.Tables.{Good, fixedNames, nameBytes};
+ghost use Rattle.encoding.specs.Tables.{Good, nameBytes};
 ghost use Rattle.comparison.specs.Runs.{after, afterKind, agrees, sameRuns};
+ghost use Rattle.comparison.specs.Looks.{apart, alike, looks, toldApart};
 
 // What the next word of a type is: a kind, a word compared as it is, an array's size, a path's root, its count, or the first of some names.
 pub enum Due {
@@ -67,11 +69,14 @@ fn other_bytes<'a>(pairs: &[u32], text: &'a [u8], name: u32) -> &'a [u8]
     encoding::pair_bytes(pairs, text, name)
 }
 
-// Whether some bytes are those of the fixed name `k`.
+// Whether some bytes are those of the fixed name `k`. Lengths are compared first.
 fn are_fixed(pairs: &[u32], text: &[u8], k: u32, bytes: &[u8]) -> bool
     requires { ⌜ (k < 16) × Good (now pairs) (now text) ⌝ }
     ensures { λ r. ⌜ r ≡ same (nameBytes (now (pairs .entry)) (now (text .entry)) k) (now (bytes .entry)) ⌝ }
 {
+    if encoding::name_length(pairs, k) != bytes.len() {
+        return false;
+    }
     let mut name = [0u8; 13];
     let n = encoding::put_name(pairs, text, k, &mut name, 0);
     encoding::same_bytes(encoding::part(&name, 0, n), bytes)
@@ -127,8 +132,83 @@ fn words_agree(pairs: &[u32], text: &[u8], due: Due, x: u32, y: u32) -> bool
     }
 }
 
-// Whether `count` words of `a` and of `b` are the same type's.
-pub fn same_words(
+// What the words as they are tell of two types: they are the same, they are not, or names must be compared.
+pub enum Look {
+    Same,
+    Apart,
+    Unclear,
+}
+
+// Whether two words never agree, whatever is due: below 16 there are fixed names, of which no two have the same bytes.
+fn never_agree(x: u32, y: u32) -> bool
+    ensures { λ r. ⌜ r ≡ apart x y ⌝ }
+{
+    if x == y {
+        return false;
+    }
+    if x < 16 {
+        return y < 16;
+    }
+    false
+}
+
+// Whether all words so far are equal, and these two.
+fn still_equal(equal: bool, x: u32, y: u32) -> bool
+    ensures { λ r. ⌜ r ≡ alike equal x y ⌝ }
+{
+    if x == y {
+        return equal;
+    }
+    false
+}
+
+// What a run of equal or of differing words tells.
+fn look_of(equal: bool) -> Look
+    ensures { λ r. ⌜ r ≡ looks equal [] [] ⌝ }
+{
+    if equal {
+        return Look::Same;
+    }
+    Look::Unclear
+}
+
+// A look at `count` words of `a` and of `b`: most types that differ are told apart by it.
+fn look_at_words(a: &[u32], start: usize, b: &[u32], from: usize, count: usize) -> Look
+    requires { ⌜ (start + count ≤ length (now a)) × (from + count ≤ length (now b)) ⌝ }
+    ensures { λ r. ⌜ r ≡ looks true (take count (drop start (now (a .entry)))) (take count (drop from (now (b .entry)))) ⌝ }
+{
+    let mut equal = true;
+    let mut i = start;
+    let mut j = from;
+    let mut left = count;
+    while 0 < left {
+        let x = a[i];
+        let y = b[j];
+        if never_agree(x, y) {
+            return Look::Apart;
+        }
+        equal = still_equal(equal, x, y);
+        i += 1;
+        j += 1;
+        left -= 1;
+    }
+    look_of(equal)
+}
+
+// Whether a look tells them apart. This is small enough for the compiler to put it in place of its calls.
+pub fn are_apart(a: &[u32], start: usize, b: &[u32], from: usize, count: usize) -> bool
+    requires { ⌜ (start + count ≤ length (now a)) × (from + count ≤ length (now b)) ⌝ }
+    ensures { λ r. ⌜ r ≡ toldApart (looks true (take count (drop start (now (a .entry)))) (take count (drop from (now (b .entry))))) ⌝ }
+{
+    match look_at_words(a, start, b, from, count) {
+        Look::Same => false,
+        Look::Apart => true,
+        Look::Unclear => false,
+    }
+}
+
+// Whether `count` words of `a` and of `b` are the same type's, by what is due.
+fn same_types(
     pairs: &[u32],
     text: &[u8],
     a: &[u32],
@@ -156,4 +236,25 @@ pub fn same_words(
         left -= 1;
     }
     true
+}
+
+// Whether `count` words of `a` and of `b` are the same type's. A look comes first.
+pub fn same_words(
+    pairs: &[u32],
+    text: &[u8],
+    a: &[u32],
+    start: usize,
+    b: &[u32],
+    from: usize,
+    count: usize,
+) -> bool
+    requires { ⌜ Good (now pairs) (now text) × (start + count ≤ length (now a)) × (from + count ≤ length (now b)) ⌝ }
+    ensures { λ r. ⌜ r ≡ sameRuns (nameBytes (now (pairs .entry)) (now (text .entry))) Due.Kind
+        (take count (drop start (now (a .entry)))) (take count (drop from (now (b .entry)))) ⌝ }
+{
+    match look_at_words(a, start, b, from, count) {
+        Look::Same => true,
+        Look::Apart => false,
+        Look::Unclear => same_types(pairs, text, a, start, b, from, count),
+    }
 }

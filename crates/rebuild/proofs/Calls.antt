@@ -121,9 +121,9 @@ unfolding ruleList
 ruled-of {rules} {pairs} {text} {table} {k = k} a e = go a e
   where
     go : {r : RulesAnswer} → RulesRead rules pairs text table r → r ≡ Rules k → Ruled rules pairs text table k
-    go (read {rs = rs} c t f) e =
+    go (read {rs = rs} c t f l) e =
         let n : length rs ≡ k = cc in
-        record { tabled = rw c t; many = rw c n; fits = rw n at f }
+        record { tabled = rw c t; many = rw c n; fits = rw n at f; links = rw n at l }
     go (unread c) e = impossible (cc)
 
 pub rules-given : {rules pairs : List ℕ} {text : Bytes} {table : List ℕ} {r : RulesAnswer} {k : ℕ} → RulesRead rules pairs text table r → r ≡ Rules k → rulesOf rules pairs text ≡ given (ruleList (rulesOf rules pairs text))
@@ -131,14 +131,14 @@ unfolding ruleList
 rules-given {rules} {pairs} {text} {table} {k = k} a e = go a e
   where
     go : {r : RulesAnswer} → RulesRead rules pairs text table r → r ≡ Rules k → rulesOf rules pairs text ≡ given (ruleList (rulesOf rules pairs text))
-    go (read c t f) e = rw c refl
+    go (read c t f l) e = rw c refl
     go (unread c) e = impossible (cc)
 
 pub rules-refused : {rules pairs : List ℕ} {text : Bytes} {table : List ℕ} {r : RulesAnswer} {k : Refusal} → RulesRead rules pairs text table r → r ≡ NoRules k → rulesOf rules pairs text ≡ refused k
 rules-refused {rules} {pairs} {text} {table} {k = k} a e = go a e
   where
     go : {r : RulesAnswer} → RulesRead rules pairs text table r → r ≡ NoRules k → rulesOf rules pairs text ≡ refused k
-    go (read c t f) e = impossible (cc)
+    go (read c t f l) e = impossible (cc)
     go (unread c) e = c ∙ cc
 
 module _ {A : Type 0} (f : List Rule → A → Laid) (o : List ℕ) (size : ℕ) (x : Reading A) (y : Answer (List Rule)) where

@@ -8,6 +8,8 @@ use lib.ListN.{length, take, drop, getD, set, replicate, length-append, length-d
 use lib.Seq.{sets, sets-eq, length-sets, take-suc, take-at, drop-at, take-take, take-add, length-take-le, getD-drop}
 use Rattle.output.proofs.Laws.{part-length}
 use Rattle.rules.specs.Table.{toWords}
+use Rattle.rules.specs.Scans.{depthOf}
+use Rattle.trees.specs.Numbered.{treeAt}
 use Rattle.rebuild.specs.declared.Laying.{Laying}
 use Rattle.rebuild.specs.declared.Laying.the-variants.{To, Over}
 use Rattle.rebuild.specs.declared.Settling.the-variants.{Settled, Overfull}
@@ -123,12 +125,12 @@ take-set (y ∷ l) (suc i) x h = ap (λ k. y ∷ k) (take-set l i x (omega arith
 
 -- ---- the to of a rule in place of a finished type
 
-module _ {rules table : List ℕ} {limit start i : ℕ} {o o′ : List ℕ} {r : Laying}
+module _ {rules pairs table : List ℕ} {limit start i : ℕ} {o o′ : List ℕ} {r : Laying}
     (l : Lays limit o start (take (getD table (4 * i + 2) 0 - getD table (4 * i + 1) 0) (drop (getD table (4 * i + 1) 0) rules)) o′ r) where
-  pub gives-to : {q : ℕ} → r ≡ To q → GivesTo rules table i limit o start o′ (Settled q (getD table (4 * i + 3) 0))
+  pub gives-to : {q d : ℕ} → r ≡ To q → d ≡ depthOf (treeAt rules pairs (getD table (4 * i + 1) 0)) → GivesTo rules pairs table i limit o start o′ (Settled q d)
   unfolding toWords
-  gives-to d = let k = lays-to l d in given (k .0) (k .1)
+  gives-to d e = let k = lays-to l d in given (k .0) (k .1) e
 
-  pub gives-over : r ≡ Over → GivesTo rules table i limit o start o′ Overfull
+  pub gives-over : r ≡ Over → GivesTo rules pairs table i limit o start o′ Overfull
   unfolding toWords
   gives-over d = let k = lays-over l d in tooLong (k .0) (k .1)

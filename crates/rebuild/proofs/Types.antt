@@ -1,9 +1,9 @@
 -- Rebuilding on words is replacement in trees: a head's own words, the types below it, and then the rules.
-use Prim.Native.Nat.{ℕ, _+_, _-_, _≤_, _<_, max}
+use Prim.Native.Nat.{ℕ, _+_, _-_, _≤_, _<_, max, _*_}
 use mathlib.Core.Path.{_≡_, refl, ap, sym, _∙_, subst}
 use mathlib.Core.List.{List, [], _++_, append-assoc, append-nil}
 use native.Mathlib.Omega.{arith}
-use lib.ListN.{length, take, drop, length-append}
+use lib.ListN.{length, getD, take, drop, length-append}
 use Rattle.rast.specs.Bytes.{Bytes}
 use Rattle.rast.specs.Tree.{Ty, Tys, nil, cons}
 use Rattle.encoding.specs.Reading.{Reading, got}
@@ -27,7 +27,8 @@ use Rattle.replace.specs.Rules.{Rule, rulesOf, mappingOf}
 use Rattle.replace.proofs.Nodes.{replaces-count, replace-node, peak-node, depth-node, peak-least, depth-words}
 use Rattle.rules.specs.declared.Found.{Found}
 use Rattle.rules.specs.Table.{toWords, foundFrom, RuleAt}
-use Rattle.rules.proofs.Tables.{to-encoded, GivesWay, ways, stays as keeps, found-trees}
+use Rattle.rules.specs.Scans.{Spans, depthOf}
+use Rattle.rules.proofs.Tables.{rule-at, to-encoded, GivesWay, ways, stays as keeps, found-trees}
 use Rattle.rebuild.specs.declared.Settling.{Settling}
 use Rattle.rebuild.specs.declared.Settling.the-variants.{Settled, Overfull}
 use Rattle.rebuild.specs.declared.Rebuilt.{Rebuilt}
@@ -43,31 +44,38 @@ pub data Ends (u : Ty ℕ) (limit : ℕ) (o : List ℕ) (start : ℕ) (o′ : Li
   overfull : limit < start + length (encode u) → length o′ ≡ length o → Ends u limit o start o′ Overfull
 
 module _ (rules pairs : List ℕ) (text : Bytes) (table : List ℕ) (k : ℕ) (t : Ruled rules pairs text table k) where
-  found-tree : (u : Ty ℕ) → GivesWay (nameBytes pairs text) rules table k u (mapping rules pairs text u) (foundFrom (nameBytes pairs text) rules table 0 k (encode u))
+  found-tree : (u : Ty ℕ) → GivesWay (nameBytes pairs text) rules pairs table k u (mapping rules pairs text u) (foundFrom (nameBytes pairs text) rules table 0 k (encode u))
   unfolding mapping mappingOf
   found-tree u =
       let z : 0 + length (ruleList (rulesOf rules pairs text)) ≡ k = omega (arith, t .many) in
-      subst (λ n. GivesWay (nameBytes pairs text) rules table n u (ruled (sameBy (nameBytes pairs text)) (ruleList (rulesOf rules pairs text)) u) (foundFrom (nameBytes pairs text) rules table 0 k (encode u))) z
-      (subst (λ n. GivesWay (nameBytes pairs text) rules table (0 + length (ruleList (rulesOf rules pairs text))) u (ruled (sameBy (nameBytes pairs text)) (ruleList (rulesOf rules pairs text)) u) (foundFrom (nameBytes pairs text) rules table 0 n (encode u))) (t .many)
-      (found-trees (nameBytes pairs text) rules table 0 u (ruleList (rulesOf rules pairs text)) (t .tabled)))
+      subst (λ n. GivesWay (nameBytes pairs text) rules pairs table n u (ruled (sameBy (nameBytes pairs text)) (ruleList (rulesOf rules pairs text)) u) (foundFrom (nameBytes pairs text) rules table 0 k (encode u))) z
+      (subst (λ n. GivesWay (nameBytes pairs text) rules pairs table (0 + length (ruleList (rulesOf rules pairs text))) u (ruled (sameBy (nameBytes pairs text)) (ruleList (rulesOf rules pairs text)) u) (foundFrom (nameBytes pairs text) rules table 0 n (encode u))) (t .many)
+      (found-trees (nameBytes pairs text) rules pairs table 0 u (ruleList (rulesOf rules pairs text)) (t .tabled)))
+
+  -- where the to of a rule stands
+  pub to-spans : (i : ℕ) → i < k → Spans (treeAt rules pairs (getD table (4 * i + 1) 0)) (getD table (4 * i + 2) 0)
+  to-spans i h =
+      let a = rule-at rules pairs table 0 (ruleList (rulesOf rules pairs text)) (t .tabled) i (omega arith) (omega (arith, t .many)) in
+      record { tree = a .0 .1; reads = a .1 .reads }
 
   -- the finished type u was laid down in o₀ from `start` on, and o is what the buffer holds then
   pub settle-ends : (u : Ty ℕ) {limit start end deep : ℕ} {o₀ o o′ : List ℕ} {r : Settling} → end ≤ limit → Grown o₀ start (encode u) o end → deep ≡ depth u
-      → Settles rules table (foundFrom (nameBytes pairs text) rules table 0 k (take (end - start) (drop start o))) limit o start end deep o′ r
+      → Settles rules pairs table (foundFrom (nameBytes pairs text) rules table 0 k (take (end - start) (drop start o))) limit o start end deep o′ r
       → Ends (mapping rules pairs text u) limit o₀ start o′ r
+  unfolding depthOf
   settle-ends u {limit} {start} {end} {deep} {o₀} {o} {o′} {r} h g d s =
-      go (found-tree u) (subst (λ b. Settles rules table (foundFrom (nameBytes pairs text) rules table 0 k b) limit o start end deep o′ r) (grown-words g) s)
+      go (found-tree u) (subst (λ b. Settles rules pairs table (foundFrom (nameBytes pairs text) rules table 0 k b) limit o start end deep o′ r) (grown-words g) s)
     where
-      go : {f : Found} {s : Settling} → GivesWay (nameBytes pairs text) rules table k u (mapping rules pairs text u) f → Settles rules table f limit o start end deep o′ s → Ends (mapping rules pairs text u) limit o₀ start o′ s
+      go : {f : Found} {s : Settling} → GivesWay (nameBytes pairs text) rules pairs table k u (mapping rules pairs text u) f → Settles rules pairs table f limit o start end deep o′ s → Ends (mapping rules pairs text u) limit o₀ start o′ s
       go (keeps e) (stays c b) = settled h (rw (e, b) g) (d ∙ ap depth (sym e))
       go (keeps e) (gives c m) = impossible (cc)
       go (ways l a e) (stays c b) = impossible (cc)
-      go (ways {j = j} l a e) (gives {i = i} {r = s} c m) = let z : j ≡ i = cc in given-ends a e (subst (λ x. GivesTo rules table x limit o start o′ s) (sym z) m)
+      go (ways {j = j} l a e) (gives {i = i} {r = s} c m) = let z : j ≡ i = cc in given-ends a e (subst (λ x. GivesTo rules pairs table x limit o start o′ s) (sym z) m)
         where
-          given-ends : {j : ℕ} {r : Rule} {s : Settling} → RuleAt rules table j r → mapping rules pairs text u ≡ r .1 → GivesTo rules table j limit o start o′ s → Ends (mapping rules pairs text u) limit o₀ start o′ s
-          given-ends {j} a e (givenTo n m) = settled n (rw e (grown-over g (rw (to-encoded rules table j a) at m))) (a .deep ∙ ap depth (sym e))
+          given-ends : {j : ℕ} {r : Rule} {s : Settling} → RuleAt rules pairs table j r → mapping rules pairs text u ≡ r .1 → GivesTo rules pairs table j limit o start o′ s → Ends (mapping rules pairs text u) limit o₀ start o′ s
+          given-ends {j} a e (givenTo n m d) = settled n (rw e (grown-over g (rw (to-encoded rules pairs table j a) at m))) (d ∙ ap depthOf (a .reads) ∙ ap depth (sym e))
           given-ends {j} a e (tooLong n m) =
-              let b : toWords rules table j ≡ encode (mapping rules pairs text u) = to-encoded rules table j a ∙ ap encode (sym e) in
+              let b : toWords rules table j ≡ encode (mapping rules pairs text u) = to-encoded rules pairs table j a ∙ ap encode (sym e) in
               overfull (rw b at n) (m ∙ g .kept)
 
 -- ---- what the answers say
@@ -306,3 +314,35 @@ module _ (ws pairs : List ℕ) (m : Ty ℕ → Ty ℕ) (at k limit : ℕ) (o : L
         let j : n′ ≡ next-type .middle = (let x = next-type .first in let y = b .reads in cc) in
         let v = tree-run ws pairs place (r .inside) (next-type .first) in
         omega (arith, j, v .1, words-some (next-type .type))
+
+encode-one : (t : Ty ℕ) → encodeAll (cons t nil) ≡ encode t
+unfolding encodeAll tokensAll
+encode-one t = encode-cons t nil ∙ append-nil (encode t)
+
+-- one type, as a list of one
+pub one-rebuilt : (ws pairs : List ℕ) (m : Ty ℕ → Ty ℕ) (at : ℕ) {limit p : ℕ} {o o′ : List ℕ} {r : Rebuilt} → Readable (treeAt ws pairs at)
+    → TypesRebuild m limit o p (readTypes (treeAt ws pairs) 1 at) o′ r → TypeRebuilds m limit o p (treeAt ws pairs at) o′ r
+unfolding readTypes Replaces peaks deepest
+one-rebuilt ws pairs m at {limit} {p} {o} {o′} v w = go w
+  where
+    t : Ty ℕ
+    t = v .value
+
+    whole : readTypes (treeAt ws pairs) 1 at ≡ got (cons t nil) (v .end)
+    whole = rw (v .reads) refl
+
+    code : encodeAll (Replaces m (cons t nil)) ≡ encode (Replace m t)
+    code = encode-one (Replace m t)
+
+    go : {r : Rebuilt} → TypesRebuild m limit o p (readTypes (treeAt ws pairs) 1 at) o′ r → TypeRebuilds m limit o p (treeAt ws pairs at) o′ r
+    go (rebuilt {a = ts} {n} {q} {d} x top within grown deep) =
+        let i : ts ≡ cons t nil = (let y = whole in cc) in
+        let j : n ≡ v .end = (let y = whole in cc) in
+        let g : Grown o p (encode (Replace m t)) o′ q = rw (ap (λ us. encodeAll (Replaces m us)) i ∙ code) at grown in
+        let h : p + peak m t ≤ limit = omega (arith, top, ap (peaks m) i) in
+        let e : d ≡ depth (Replace m t) = omega (arith, deep, ap (λ us. deepest (Replaces m us)) i) in
+        rebuilt (v .reads ∙ ap (got t) (sym j)) h within g e
+    go (full {a = ts} x over kept) =
+        let i : ts ≡ cons t nil = (let y = whole in cc) in
+        let h : limit < p + peak m t = omega (arith, over, ap (peaks m) i, peak-least m t, encode-words (Replace m t)) in
+        full (v .reads) h kept

@@ -7,13 +7,15 @@ use Rattle.rast.specs.Bytes.{Bytes}
 use Rattle.rast.specs.Tree.{Ty, Tys}
 use Rattle.encoding.specs.Refusals.{Answer, given as answer, refused}
 use Rattle.encoding.specs.Reading.{Reading, got}
+use Rattle.trees.specs.Numbered.{treeAt}
 use Rattle.trees.specs.Encode.{encode, encodeAll}
 use Rattle.replace.specs.Replace.{Replace, Replaces}
 use Rattle.replace.specs.Laying.{depth, deepest, peak, peaks}
 use Rattle.replace.specs.Rules.{Rule, rulesOf, mappingOf}
 use Rattle.rules.specs.declared.Found.{Found}
 use Rattle.rules.specs.declared.Found.the-variants.{At, Nothing}
-use Rattle.rules.specs.Table.{Fits, Tabled, toWords}
+use Rattle.rules.specs.Table.{Fits, Links, Tabled, toWords}
+use Rattle.rules.specs.Scans.{depthOf}
 use Rattle.rebuild.specs.declared.Laying.{Laying}
 use Rattle.rebuild.specs.declared.Laying.the-variants.{To, Over}
 use Rattle.rebuild.specs.declared.Settling.{Settling}
@@ -34,14 +36,14 @@ pub data Lays (limit : ℕ) (o : List ℕ) (p : ℕ) (b : List ℕ) (o′ : List
   over : limit < p + length b → length o′ ≡ length o → Lays limit o p b o′ Over
 
 -- the to of rule i was laid down from `start` on, or it would pass the limit
-pub data GivesTo (rules table : List ℕ) (i limit : ℕ) (o : List ℕ) (start : ℕ) (o′ : List ℕ) : Settling → Type 0 where
-  given : {q : ℕ} → q ≤ limit → Grown o start (toWords rules table i) o′ q → GivesTo rules table i limit o start o′ (Settled q (getD table (4 * i + 3) 0))
-  tooLong : limit < start + length (toWords rules table i) → length o′ ≡ length o → GivesTo rules table i limit o start o′ Overfull
+pub data GivesTo (rules pairs table : List ℕ) (i limit : ℕ) (o : List ℕ) (start : ℕ) (o′ : List ℕ) : Settling → Type 0 where
+  given : {q d : ℕ} → q ≤ limit → Grown o start (toWords rules table i) o′ q → d ≡ depthOf (treeAt rules pairs (getD table (4 * i + 1) 0)) → GivesTo rules pairs table i limit o start o′ (Settled q d)
+  tooLong : limit < start + length (toWords rules table i) → length o′ ≡ length o → GivesTo rules pairs table i limit o start o′ Overfull
 
 -- a finished type between `start` and `end`, `deep` deep, stays or gives way to the to of the rule that was found
-pub data Settles (rules table : List ℕ) (found : Found) (limit : ℕ) (o : List ℕ) (start end deep : ℕ) (o′ : List ℕ) : Settling → Type 0 where
-  stays : found ≡ Nothing → o′ ≡ o → Settles rules table found limit o start end deep o′ (Settled end deep)
-  gives : {i : ℕ} {r : Settling} → found ≡ At i → GivesTo rules table i limit o start o′ r → Settles rules table found limit o start end deep o′ r
+pub data Settles (rules pairs table : List ℕ) (found : Found) (limit : ℕ) (o : List ℕ) (start end deep : ℕ) (o′ : List ℕ) : Settling → Type 0 where
+  stays : found ≡ Nothing → o′ ≡ o → Settles rules pairs table found limit o start end deep o′ (Settled end deep)
+  gives : {i : ℕ} {r : Settling} → found ≡ At i → GivesTo rules pairs table i limit o start o′ r → Settles rules pairs table found limit o start end deep o′ r
 
 -- what was read was rebuilt: `code` are its rebuilt words, `top` the most that lay there on the way, `deep` how deep it is; or more than the limit would lie there
 pub data Rebuilds {A : Type 0} (code : A → List ℕ) (top deep : A → ℕ) (limit : ℕ) (o : List ℕ) (p : ℕ) (x : Reading A) (o′ : List ℕ) : Rebuilt → Type 0 where
@@ -59,9 +61,10 @@ mapping rules pairs text = mappingOf pairs text (ruleList (rulesOf rules pairs t
 
 -- the table holds them
 pub record Ruled (rules pairs : List ℕ) (text : Bytes) (table : List ℕ) (k : ℕ) : Type 0 where
-  pub tabled : Tabled rules table 0 (ruleList (rulesOf rules pairs text))
+  pub tabled : Tabled rules pairs table 0 (ruleList (rulesOf rules pairs text))
   pub many : length (ruleList (rulesOf rules pairs text)) ≡ k
   pub fits : Fits rules table k
+  pub links : Links rules table 0 k
 
 -- a type, rebuilt; some types, rebuilt one after the other
 abbrev pub TypeRebuilds : (Ty ℕ → Ty ℕ) → ℕ → List ℕ → ℕ → Reading (Ty ℕ) → List ℕ → Rebuilt → Type 0

@@ -1,7 +1,7 @@
 // Rebuilding a type by rules: words are laid down in a buffer, and a finished type that equals a rule's from gives way to its to.
 ghost use mathlib.Core.Path.{_≡_};
 ghost use Prim.Native.Nat.{min, _+_, _-_, _*_, _≤_, _<_};
-ghost use lib.ListN.{length, take, drop};
+ghost use lib.ListN.{length, getD, take, drop};
 ghost use lib.Seq.{sets};
 ghost use Rattle.encoding.specs.Refusals.{given};
 ghost use Rattle.encoding.specs.Tables.{Good, nameBytes};
@@ -9,6 +9,7 @@ ghost use Rattle.encoding.specs.Types.{readTypes};
 ghost use Rattle.trees.specs.Numbered.{treeAt};
 ghost use Rattle.writing.specs.Written.{Readable};
 ghost use Rattle.rules.specs.Table.{Fits, foundFrom};
+ghost use Rattle.rules.specs.Scans.{Spans};
 ghost use Rattle.rebuild.specs.Laid.{Lays, GivesTo, Settles, Ruled, mapping, TypeRebuilds, TypesRebuild};
 ghost use Rattle.rebuild.specs.Calls.{sameWords, zeros, laidDown};
 use encoding::Refusal;
@@ -84,6 +85,7 @@ enum Settling {
 // What lies from `start` on gives way to the to of rule `i`.
 fn give_way(
     rules: &[u32],
+    pairs: &[u32],
     table: &[usize; 160],
     k: usize,
     i: usize,
@@ -91,14 +93,17 @@ fn give_way(
     start: usize,
     limit: usize,
 ) -> Settling
-    requires { ⌜ Fits (now rules) (now table) k × (i < k) × (start ≤ limit) × (limit ≤ length (now out)) ⌝ }
-    ensures { λ r. ⌜ GivesTo (now (rules .entry)) (now (table .entry)) i limit (now (out .entry)) start (now (out .exit)) r ⌝ }
+    requires { ⌜ Fits (now rules) (now table) k × (i < k) × Spans (treeAt (now rules) (now pairs) (getD (now table) (4 * i + 1) 0)) (getD (now table) (4 * i + 2) 0)
+        × (start ≤ limit) × (limit ≤ length (now out)) ⌝ }
+    ensures { λ r. ⌜ GivesTo (now (rules .entry)) (now (pairs .entry)) (now (table .entry)) i limit (now (out .entry)) start (now (out .exit)) r ⌝ }
 {
     let to = table[4 * i + 1];
     let count = table[4 * i + 2] - to;
-    let depth = table[4 * i + 3];
     match lay(rules, to, count, out, start, limit) {
-        Laying::To(pos) => Settling::Settled { pos, depth },
+        Laying::To(pos) => {
+            let depth = rules::depth_in(rules, pairs, to, count);
+            Settling::Settled { pos, depth }
+        }
         Laying::Over => Settling::Overfull,
     }
 }
@@ -116,13 +121,13 @@ fn settle(
     depth: usize,
     limit: usize,
 ) -> Settling
-    requires { ⌜ Good (now pairs) (now text) × Fits (now rules) (now table) k × (start < end) × (end ≤ limit) × (limit ≤ length (now out)) ⌝ }
-    ensures { λ r. ⌜ Settles (now (rules .entry)) (now (table .entry))
+    requires { ⌜ Good (now pairs) (now text) × Ruled (now rules) (now pairs) (now text) (now table) k × (start < end) × (end ≤ limit) × (limit ≤ length (now out)) ⌝ }
+    ensures { λ r. ⌜ Settles (now (rules .entry)) (now (pairs .entry)) (now (table .entry))
         (foundFrom (nameBytes (now (pairs .entry)) (now (text .entry))) (now (rules .entry)) (now (table .entry)) 0 k (take (end - start) (drop start (now (out .entry)))))
         limit (now (out .entry)) start end depth (now (out .exit)) r ⌝ }
 {
     match rules::find_rule(rules, pairs, text, table, k, out, start, end - start) {
-        Found::At(i) => give_way(rules, table, k, i, out, start, limit),
+        Found::At(i) => give_way(rules, pairs, table, k, i, out, start, limit),
         Found::Nothing => Settling::Settled { pos: end, depth },
     }
 }
@@ -138,7 +143,7 @@ pub enum Rebuilt {
 }
 
 // The accepted type at `at`, rebuilt: its own words, the types below it, and then the rules.
-pub fn rebuild_type(
+fn rebuild_next(
     words: &[u32],
     pairs: &[u32],
     text: &[u8],
@@ -160,7 +165,7 @@ pub fn rebuild_type(
         return Rebuilt::Full;
     };
     let kids = encoding::types_below(words, at);
-    match rebuild_types(
+    match rebuild_below(
         words,
         pairs,
         text,
@@ -189,6 +194,35 @@ pub fn rebuild_type(
     }
 }
 
+// The types below a head; most heads have none, and those need no call.
+fn rebuild_below(
+    words: &[u32],
+    pairs: &[u32],
+    text: &[u8],
+    rules: &[u32],
+    table: &[usize; 160],
+    k: usize,
+    at: usize,
+    n: usize,
+    out: &mut [u32],
+    pos: usize,
+    limit: usize,
+) -> Rebuilt
+    requires { ⌜ Good (now pairs) (now text) × Ruled (now rules) (now pairs) (now text) (now table) k × (at ≤ length (now words))
+        × Readable (readTypes (treeAt (now words) (now pairs)) n at) × (pos ≤ limit) × (limit ≤ length (now out)) ⌝ }
+    ensures { λ r. ⌜ TypesRebuild (mapping (now (rules .entry)) (now (pairs .entry)) (now (text .entry))) limit (now (out .entry)) pos
+        (readTypes (treeAt (now (words .entry)) (now (pairs .entry))) n at) (now (out .exit)) r ⌝ }
+{
+    if n == 0 {
+        return Rebuilt::Done {
+            next: at,
+            pos,
+            depth: 0,
+        };
+    }
+    rebuild_types(words, pairs, text, rules, table, k, at, n, out, pos, limit)
+}
+
 // `n` accepted types, rebuilt one after the other.
 fn rebuild_types(
     words: &[u32],
@@ -213,7 +247,7 @@ fn rebuild_types(
     let mut deepest = 0;
     let mut left = n;
     while 0 < left {
-        match rebuild_type(words, pairs, text, rules, table, k, place, out, p, limit) {
+        match rebuild_next(words, pairs, text, rules, table, k, place, out, p, limit) {
             Rebuilt::Done {
                 next,
                 pos: q,
@@ -234,6 +268,27 @@ fn rebuild_types(
         pos: p,
         depth: deepest,
     }
+}
+
+// The accepted type at `at`, rebuilt. The cycle is entered by a list of one type: then one function of it calls itself.
+pub fn rebuild_type(
+    words: &[u32],
+    pairs: &[u32],
+    text: &[u8],
+    rules: &[u32],
+    table: &[usize; 160],
+    k: usize,
+    at: usize,
+    out: &mut [u32],
+    pos: usize,
+    limit: usize,
+) -> Rebuilt
+    requires { ⌜ Good (now pairs) (now text) × Ruled (now rules) (now pairs) (now text) (now table) k × Readable (treeAt (now words) (now pairs) at)
+        × (pos ≤ limit) × (limit ≤ length (now out)) ⌝ }
+    ensures { λ r. ⌜ TypeRebuilds (mapping (now (rules .entry)) (now (pairs .entry)) (now (text .entry))) limit (now (out .entry)) pos
+        (treeAt (now (words .entry)) (now (pairs .entry)) at) (now (out .exit)) r ⌝ }
+{
+    rebuild_types(words, pairs, text, rules, table, k, at, 1, out, pos, limit)
 }
 
 // ---- the call

@@ -167,4 +167,4 @@ module _ (ws pairs : List ℕ) (text : Bytes) where
 pub none-match : {rules pairs table ws : List ℕ} {text : Bytes} {k : ℕ} → Ruled rules pairs text table k → noneStands (nameBytes pairs text) rules table k ws ≡ true
     → (q : ℕ) (t : Ty ℕ) → Run ws q (encode t) → mapping rules pairs text t ≡ t
 unfolding mapping mappingOf
-none-match {rules} {pairs} {table} {ws} {text} g e = none-gives-way (nameBytes pairs text) rules table ws (ruleList (rulesOf rules pairs text)) (g .tabled) (rw (g .many) e)
+none-match {rules} {pairs} {table} {ws} {text} g e = none-gives-way (nameBytes pairs text) rules pairs table ws (ruleList (rulesOf rules pairs text)) (g .tabled) (rw (g .many) e)

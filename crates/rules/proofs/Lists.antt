@@ -6,7 +6,7 @@ use mathlib.Core.List.{List, [], _∷_, _++_, append-assoc, append-nil}
 use native.Mathlib.Omega.{arith}
 use native.Mathlib.Decide.{decLt}
 use borrow.Author.Tests.{eq-eqb, ne-eqb, lt-ltb, le-ltb}
-use lib.ListN.{length, length-append, getD}
+use lib.ListN.{length, length-append}
 use Rattle.rast.specs.Bytes.{Bytes, _or_}
 use Rattle.rast.specs.Tree.{Ty, nil, cons}
 use Rattle.encoding.specs.declared.Refusal.{Refusal}
@@ -27,18 +27,20 @@ use Rattle.measure.proofs.Measured.{measured-got, measured-stop}
 use Rattle.trees.specs.Renamed.{renamed}
 use Rattle.trees.specs.Numbered.{treeAt}
 use Rattle.trees.specs.Encode.{encode}
-use Rattle.trees.proofs.Renaming.{spelled, numbered, tree-run, encode-words, words-some}
+use Rattle.trees.proofs.Heads.{tree-below, tree-words}
+use Rattle.trees.proofs.Renaming.{spelled, numbered, tree-run, encode-words}
 use Rattle.writing.specs.Written.{Readable}
 use Rattle.replace.specs.Same.{sameBy}
 use Rattle.replace.specs.Laying.{depth, deepest}
+use Rattle.replace.proofs.Nodes.{depth-node, depth-words}
 use Rattle.replace.specs.Rules.{Rule, readRule, readRules, repeated, distinct, checkAll, rulesOf}
 use Rattle.rules.specs.declared.Deep.{Deep}
 use Rattle.rules.specs.declared.RuleScan.{RuleScan}
 use Rattle.rules.specs.declared.RuleScan.the-variants.{OneRule, NoRule}
 use Rattle.rules.specs.declared.RulesAnswer.the-variants.{Rules, NoRules}
-use Rattle.rules.specs.Table.{entered, kindEntered, repeatedFrom, RuleAt, Tabled}
-use Rattle.rules.specs.Scans.{Deepens, RuleRead, rule, none, Listed, listed, unlisted, RulesRead, read, unread}
-use Rattle.rules.proofs.Tables.{entered-length, kind-length, kind-entered, kinds-tabled, tabled-kept, tabled-more, rule-entered, tabled-fits, repeated-trees}
+use Rattle.rules.specs.Table.{entered, repeatedFrom, Fits, Links, Unlinked, Entries, RuleAt, Tabled}
+use Rattle.rules.specs.Scans.{Deepens, Spans, depthOf, RuleRead, rule, none, Listed, listed, unlisted, RulesRead, read, unread}
+use Rattle.rules.proofs.Tables.{tabled-kept, tabled-more, same-tabled, rule-entered, still-unlinked, tabled-fits, repeated-trees}
 
 -- ---- from the measure of a type to its tree
 
@@ -67,6 +69,19 @@ one-deep ws pairs at {t} {n} r e d =
     let s : r .depth ≡ deepest (cons t nil) = d .depth ∙ ap deepest (sym i) in
     omega (arith, s)
 
+-- a type of one word is one deep
+pub leaf-depth : (ws pairs : List ℕ) (at : ℕ) {count : ℕ} → at ≤ length ws → count ≡ 1 → Spans (treeAt ws pairs at) (at + count) → depthOf (treeAt ws pairs at) ≡ 1
+unfolding depthOf
+leaf-depth ws pairs at h z x =
+    let w = tree-run ws pairs at h (x .reads) in
+    let b = tree-below ws pairs at (x .reads) (tree-words ws pairs at (x .reads) .reads) in
+    let d : depth (x .tree) ≡ 1 = omega (arith, z, w .1, depth-words (x .tree), depth-node (b .node)) in
+    rw (x .reads) d
+
+pub tree-depth : (ws pairs : List ℕ) (at : ℕ) {end size : ℕ} (r : Deep) → Spans (treeAt ws pairs at) end → Deepens (readTypes (treeAt ws pairs) 1 at) size r → r .depth ≡ depthOf (treeAt ws pairs at)
+unfolding depthOf
+tree-depth ws pairs at r x d = rw (x .reads) (one-deep ws pairs at r (x .reads) d)
+
 rule-got : (f : ℕ → Reading (Ty ℕ)) (at : ℕ) {from to : Ty ℕ} {m n : ℕ} → f at ≡ got from m → f m ≡ got to n → readRule f at ≡ got (from, to) n
 unfolding readRule
 rule-got f at e d = rw (e, d) refl
@@ -88,10 +103,10 @@ module _ (rules pairs : List ℕ) (n at : ℕ) where
   -- i rules were read, up to `place`, and entered
   pub record Filling (table : List ℕ) (place i : ℕ) : Type 0 where
     pub done : List Rule
-    pub tabled : Tabled rules table 0 done
+    pub tabled : Tabled rules pairs table 0 done
     pub many : length done ≡ i
     pub rest : readList item n at ≡ mapReading (λ rs. done ++ rs) (readList item (n - i) place)
-    pub size : length table ≡ 160
+    pub unlinked : Unlinked table
     pub inside : place ≤ length rules
     pub within : i ≤ n
 
@@ -100,13 +115,13 @@ module _ (rules pairs : List ℕ) (n at : ℕ) where
   map-none (got rs m) = refl
   map-none (stop k) = refl
 
-  pub filling-starts : (table : List ℕ) → length table ≡ 160 → at ≤ length rules → Filling table at 0
+  pub filling-starts : (table : List ℕ) → Unlinked table → at ≤ length rules → Filling table at 0
   filling-starts table l h = let z : n - 0 ≡ n = omega arith in record {
     done = [];
     tabled = tt;
     many = refl;
     rest = rw z (sym (map-none (readList item n at)));
-    size = l;
+    unlinked = l;
     inside = h;
     within = omega arith;
   }
@@ -126,31 +141,22 @@ module _ (rules pairs : List ℕ) (n at : ℕ) where
       go (got rs q) = ap (λ l. got l q) (sym (append-assoc done (r ∷ []) rs))
       go (stop k) = refl
 
-  -- a rule's first word is there
-  pub rule-there : {place m q d : ℕ} → place ≤ length rules → RuleRead rules pairs place (OneRule m q d) → place < length rules
-  rule-there {place = place} h (rule {from = from} a b c l) = let w = tree-run rules pairs place h a in omega (arith, w .0 .ends, encode-words from, words-some from)
-
-  pub filling-more : {table : List ℕ} {place i m q d : ℕ} → i < n → n ≤ 32 → Filling table place i → RuleRead rules pairs place (OneRule m q d)
-      → Filling (entered (kindEntered table (getD rules place 0)) i place m q d) q (i + 1)
-  filling-more {table} {place} {i} {m} {q} {d} h few f (rule {from = from} {to = to} a b c l) =
+  pub filling-more : {table : List ℕ} {place i m q : ℕ} → i < n → n ≤ 32 → Filling table place i → RuleRead rules pairs place (OneRule m q) → Filling (entered table i place m q) q (i + 1)
+  filling-more {table} {place} {i} {m} {q} h few f (rule {from = from} {to = to} a b) =
       let w = tree-run rules pairs place (f .inside) a in
       let hm : m ≤ length rules = omega (arith, w .1, w .0 .ends, encode-words from) in
       let v = tree-run rules pairs m hm b in
       let e₁ : m ≡ place + length (encode from) = omega (arith, w .1, encode-words from) in
       let e₂ : q ≡ m + length (encode to) = omega (arith, v .1, encode-words to) in
-      let first = getD rules place 0 in
-      let kinded = kindEntered table first in
-      let size = kind-length table first ∙ f .size in
       let few : i < 32 = omega arith in
-      let at-i = rule-entered rules kinded i place m q d (from, to) size few (kind-entered table first (f .size)) (w .0) e₁ (v .0) e₂ c in
-      let before = kinds-tabled rules table first 0 (f .done) (f .size) (omega (arith, f .many)) (f .tabled) in
+      let at-i = rule-entered rules pairs table i place m q (from, to) (f .unlinked .size) few (w .0) e₁ (v .0) e₂ b in
       let z : i ≡ 0 + length (f .done) = omega (arith, f .many) in
       record {
         done = f .done ++ ((from, to) ∷ []);
-        tabled = tabled-more rules (entered kinded i place m q d) 0 (f .done) (tabled-kept rules kinded i place m q d 0 (f .done) few (omega (arith, f .many)) before) (subst (λ j. RuleAt rules (entered kinded i place m q d) j (from, to)) z at-i);
+        tabled = tabled-more rules pairs (entered table i place m q) 0 (f .done) (tabled-kept rules pairs table i place m q 0 (f .done) (omega (arith, f .many)) (f .tabled)) (subst (λ j. RuleAt rules pairs (entered table i place m q) j (from, to)) z at-i);
         many = omega (arith, f .many, length-append (f .done) ((from, to) ∷ []));
         rest = f .rest ∙ rw (more i h) (step (f .done) place q (n - (i + 1)) (from, to) (rule-got (treeAt rules pairs) place a b));
-        size = entered-length kinded i place m q d ∙ size;
+        unlinked = still-unlinked table i place m q few (f .unlinked);
         inside = omega (arith, e₂, v .0 .ends);
         within = omega arith;
       }
@@ -161,15 +167,15 @@ module _ (rules pairs : List ℕ) (n at : ℕ) where
       let z : n - i ≡ 0 = omega arith in
       let y : i ≡ n = omega (arith, f .within) in
       let d : readList item n at ≡ got (f .done) place = f .rest ∙ rw (z, append-nil (f .done)) refl in
-      listed d (f .tabled) (f .many ∙ y) (f .size)
+      listed d (f .tabled) (f .many ∙ y) (f .unlinked)
 
 -- ---- the whole list
 
 pub listed-got : {rules pairs table : List ℕ} {n at m : ℕ} {r : Scan} → Listed rules pairs n at table r → r ≡ At m
-    → (rs : List Rule) × (readList (readRule (treeAt rules pairs)) n at ≡ got rs m) × Tabled rules table 0 rs × (length rs ≡ n) × (length table ≡ 160)
+    → (rs : List Rule) × (readList (readRule (treeAt rules pairs)) n at ≡ got rs m) × Tabled rules pairs table 0 rs × (length rs ≡ n) × Unlinked table
 listed-got {rules} {pairs} {table} {n} {at} {m} l e = go (subst (Listed rules pairs n at table) e l)
   where
-    go : Listed rules pairs n at table (At m) → (rs : List Rule) × (readList (readRule (treeAt rules pairs)) n at ≡ got rs m) × Tabled rules table 0 rs × (length rs ≡ n) × (length table ≡ 160)
+    go : Listed rules pairs n at table (At m) → (rs : List Rule) × (readList (readRule (treeAt rules pairs)) n at ≡ got rs m) × Tabled rules pairs table 0 rs × (length rs ≡ n) × Unlinked table
     go (listed {rs = rs} a b c d) = (rs, a, b, c, d)
 
 pub listed-stop : {rules pairs table : List ℕ} {n at : ℕ} {r : Scan} {k : Refusal} → Listed rules pairs n at table r → r ≡ Refused k → readList (readRule (treeAt rules pairs)) n at ≡ stop k
@@ -192,16 +198,16 @@ module _ (rules pairs : List ℕ) (text : Bytes) {k p : ℕ} (b : readBelow 33 r
   unfolding rulesOf readRules whole distinct
   rules-whole {m = m} e d = rw (b, e, eq-eqb m (length rules) d) refl
 
-  pub rules-repeated : {rs : List Rule} {m : ℕ} (table : List ℕ) → readList (readRule (treeAt rules pairs)) k p ≡ got rs m → m ≡ length rules → Tabled rules table 0 rs → length rs ≡ k
+  pub rules-repeated : {rs : List Rule} {m : ℕ} (table : List ℕ) → readList (readRule (treeAt rules pairs)) k p ≡ got rs m → m ≡ length rules → Tabled rules pairs table 0 rs → length rs ≡ k
       → repeatedFrom (nameBytes pairs text) rules table 0 k ≡ true → rulesOf rules pairs text ≡ refused RepeatedRule
   rules-repeated {rs = rs} table e d t c r =
-      let s : repeated (sameBy (nameBytes pairs text)) rs ≡ true = sym (repeated-trees (nameBytes pairs text) rules table 0 rs t) ∙ rw c r in
+      let s : repeated (sameBy (nameBytes pairs text)) rs ≡ true = sym (repeated-trees (nameBytes pairs text) rules pairs table 0 rs t) ∙ rw c r in
       rules-whole e d ∙ rw s refl
 
-  pub rules-distinct : {rs : List Rule} {m : ℕ} (table : List ℕ) → readList (readRule (treeAt rules pairs)) k p ≡ got rs m → m ≡ length rules → Tabled rules table 0 rs → length rs ≡ k
+  pub rules-distinct : {rs : List Rule} {m : ℕ} (table : List ℕ) → readList (readRule (treeAt rules pairs)) k p ≡ got rs m → m ≡ length rules → Tabled rules pairs table 0 rs → length rs ≡ k
       → repeatedFrom (nameBytes pairs text) rules table 0 k ≡ false → rulesOf rules pairs text ≡ given rs
   rules-distinct {rs = rs} table e d t c r =
-      let s : repeated (sameBy (nameBytes pairs text)) rs ≡ false = sym (repeated-trees (nameBytes pairs text) rules table 0 rs t) ∙ rw c r in
+      let s : repeated (sameBy (nameBytes pairs text)) rs ≡ false = sym (repeated-trees (nameBytes pairs text) rules pairs table 0 rs t) ∙ rw c r in
       rules-whole e d ∙ rw s refl
 
 pub first-stops : (rules pairs : List ℕ) (text : Bytes) {q : Refusal} → readBelow 33 rules 0 ≡ stop q → rulesOf rules pairs text ≡ refused q
@@ -210,14 +216,13 @@ first-stops rules pairs text e = rw e refl
 
 -- ---- the answers of the scan of one rule
 
-pub rule-read : (rules pairs : List ℕ) (at : ℕ) {m n : ℕ} → (t : Ty ℕ) × (treeAt rules pairs at ≡ got t m) → (t : Ty ℕ) × (treeAt rules pairs m ≡ got t n)
-    → (r : Deep) → Deepens (readTypes (treeAt rules pairs) 1 m) (length rules) r → RuleRead rules pairs at (OneRule m n (r .depth))
-rule-read rules pairs at {m} f t r d = rule (f .1) (t .1) (one-deep rules pairs m r (t .1) d) (d .small)
+pub rule-read : (rules pairs : List ℕ) (at : ℕ) {m n : ℕ} → (t : Ty ℕ) × (treeAt rules pairs at ≡ got t m) → (t : Ty ℕ) × (treeAt rules pairs m ≡ got t n) → RuleRead rules pairs at (OneRule m n)
+rule-read rules pairs at f t = rule (f .1) (t .1)
 
 pub rule-stops : {rules pairs : List ℕ} {at : ℕ} {k : Refusal} → readRule (treeAt rules pairs) at ≡ stop k → RuleRead rules pairs at (NoRule k)
 rule-stops e = none e
 
-pub rule-found : {rules pairs : List ℕ} {at m n d : ℕ} {r : RuleScan} → RuleRead rules pairs at r → r ≡ OneRule m n d → RuleRead rules pairs at (OneRule m n d)
+pub rule-found : {rules pairs : List ℕ} {at m n : ℕ} {r : RuleScan} → RuleRead rules pairs at r → r ≡ OneRule m n → RuleRead rules pairs at (OneRule m n)
 rule-found {rules} {pairs} {at} k e = subst (RuleRead rules pairs at) e k
 
 pub rule-stop : {rules pairs : List ℕ} {at : ℕ} {r : RuleScan} {k : Refusal} → RuleRead rules pairs at r → r ≡ NoRule k → readRule (treeAt rules pairs) at ≡ stop k
@@ -231,10 +236,17 @@ rule-stop {rules} {pairs} {at} {k = k} l e = go (subst (RuleRead rules pairs at)
 pub rules-none : {rules pairs table : List ℕ} {text : Bytes} {k : Refusal} → rulesOf rules pairs text ≡ refused k → RulesRead rules pairs text table (NoRules k)
 rules-none e = unread e
 
-pub rules-some : {rules pairs table : List ℕ} {text : Bytes} {rs : List Rule} {n : ℕ} → rulesOf rules pairs text ≡ given rs → Tabled rules table 0 rs → length rs ≡ n → n ≤ 32 → length table ≡ 160
+pub rules-some : {rules pairs table : List ℕ} {text : Bytes} {rs : List Rule} {n : ℕ} → rulesOf rules pairs text ≡ given rs → Tabled rules pairs table 0 rs → length rs ≡ n → Fits rules table n → Links rules table 0 n
     → RulesRead rules pairs text table (Rules n)
-rules-some {rules} {pairs} {table} {text} {rs} {n} e t c h l =
-    subst (λ k. RulesRead rules pairs text table (Rules k)) c (read e t (tabled-fits rules table rs (length rs) refl (omega (arith, c)) l t))
+rules-some {rules} {pairs} {table} {text} {rs} {n} e t c f l =
+    subst (λ k. RulesRead rules pairs text table (Rules k)) c (read e t (subst (Fits rules table) (sym c) f) (subst (Links rules table 0) (sym c) l))
+
+-- linking changes no entries
+pub linked-tabled : (rules pairs : List ℕ) {table table′ : List ℕ} (rs : List Rule) {n : ℕ} → Tabled rules pairs table 0 rs → length rs ≡ n → n ≤ 32 → length table ≡ 160 → Entries table table′
+    → Tabled rules pairs table′ 0 rs × Fits rules table′ n
+linked-tabled rules pairs {table} {table′} rs {n} t c h l e =
+    let u = same-tabled rules pairs 0 rs (omega (arith, c, h)) e t in
+    (u, tabled-fits rules pairs table′ rs n c h (e .size ∙ l) u)
 
 -- ---- the tests before reading
 

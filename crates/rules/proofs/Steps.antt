@@ -15,8 +15,8 @@ use Rattle.encoding.proofs.Tables.{impossible}
 use Rattle.comparison.specs.declared.Due.the-variants.{Kind}
 use Rattle.comparison.specs.Runs.{sameRuns, agrees}
 use Rattle.comparison.proofs.Steps.{runs-uneven, take-word}
-use Rattle.rules.specs.declared.Found.the-variants.{At, Nothing}
-use Rattle.rules.specs.Table.{beginsNone, fromWords, foundFrom, amongFrom, repeatedFrom, stands, someStands, noneStands, Fits}
+use Rattle.rules.specs.declared.Found.the-variants.{At}
+use Rattle.rules.specs.Table.{slot, slotOf, fromWords, firstOf, isFrom, foundFrom, amongFrom, repeatedFrom, stands, someStands, noneStands, Fits}
 
 -- a from of another length
 pub from-uneven : (name : ℕ → Bytes) (rules table out : List ℕ) (k i start count : ℕ) → Fits rules table k → i < k → start + count ≤ length out
@@ -41,47 +41,29 @@ from-length rules table k i f h =
     part-length rules (getD table (4 * i) 0) (getD table (4 * i + 1) 0 - getD table (4 * i) 0) (omega (arith, f .from i h, f .to i h, f .inside i h))
 
 module _ (name : ℕ → Bytes) (rules table : List ℕ) {k : ℕ} (f : Fits rules table k) where
-  -- a from that begins with another word
-  from-other : (i w : ℕ) (ws : List ℕ) → i < k → (getD rules (getD table (4 * i) 0) 0 ≡ w → ⊥) → sameRuns name Kind (w ∷ ws) (fromWords rules table i) ≡ false
-  unfolding sameRuns agrees _and_
-  from-other i w ws h d = rw (from-front rules table k i f h .1, ne-eqb w (getD rules (getD table (4 * i) 0) 0) (λ e. d (sym e))) refl
+  -- a from that begins with another word, of another slot
+  from-other : (i w : ℕ) (ws : List ℕ) → i < k → (slotOf rules table i ≡ slot w → ⊥) → isFrom name rules table (w ∷ ws) i ≡ false
+  unfolding isFrom slotOf sameRuns agrees _and_
+  from-other i w ws h d = rw (from-front rules table k i f h .1, ne-eqb w (getD rules (getD table (4 * i) 0) 0) (λ e. d (ap slot (sym e)))) refl
 
-  stands-apart : (i w : ℕ) (ws : List ℕ) → i < k → (getD rules (getD table (4 * i) 0) 0 ≡ w → ⊥) → stands name rules table i (w ∷ ws) ≡ false
-  unfolding stands
-  stands-apart i w ws h d = let e = from-front rules table k i f h in rw (ap length (e .1)) (from-other i w (take (length (e .0)) ws) h d)
-
-  -- no from begins with a word that the table does not have
-  missed : (i : ℕ) {w : ℕ} → i < k → beginsNone table w ≡ true → getD rules (getD table (4 * i) 0) 0 ≡ w → ⊥
-  missed i {w} h e d = let z : beginsNone table w ≡ false = rw d at (f .kind i h) in impossible (cc)
-
-  missed-found : (i n w : ℕ) (ws : List ℕ) → i + n ≤ k → beginsNone table w ≡ true → foundFrom name rules table i n (w ∷ ws) ≡ Nothing
-  unfolding foundFrom
-  missed-found i zero w ws h e = refl
-  missed-found i (suc n) w ws h e = rw (from-other i w ws (omega arith) (missed i (omega arith) e)) (missed-found (i + 1) n w ws (omega arith) e)
-
-  missed-stands : (i n w : ℕ) (ws : List ℕ) → i + n ≤ k → beginsNone table w ≡ true → someStands name rules table i n (w ∷ ws) ≡ false
-  unfolding someStands
-  missed-stands i zero w ws h e = refl
-  missed-stands i (suc n) w ws h e = rw (stands-apart i w ws (omega arith) (missed i (omega arith) e)) (missed-stands (i + 1) n w ws (omega arith) e)
-
-  pub none-begins : (out : List ℕ) (start count : ℕ) → start < length out → 0 < count → beginsNone table (getD out start 0) ≡ true → foundFrom name rules table 0 k (take count (drop start out)) ≡ Nothing
-  none-begins out start count l h e = rw (take-word out start count l h) (missed-found 0 k (getD out start 0) _ (omega arith) e)
+  pub from-missed : (out : List ℕ) (start count : ℕ) → start < length out → 0 < count → (i : ℕ) → i < k → (slotOf rules table i ≡ slot (getD out start 0) → ⊥) → isFrom name rules table (take count (drop start out)) i ≡ false
+  from-missed out start count l h i m d = rw (take-word out start count l h) (from-other i (getD out start 0) _ m d)
 
   module _ (ws : List ℕ) (at : ℕ) (l : at < length ws) where
-    pub none-begins-there : beginsNone table (getD ws at 0) ≡ true → someStands name rules table 0 k (drop at ws) ≡ false
-    none-begins-there e = rw (drop-cons ws at 0 l) (missed-stands 0 k (getD ws at 0) _ (omega arith) e)
+    pub stands-missed : (i : ℕ) → i < k → (slotOf rules table i ≡ slot (getD ws at 0) → ⊥) → stands name rules table (drop at ws) i ≡ false
+    unfolding stands isFrom
+    stands-missed i h d =
+        let e = from-front rules table k i f h in
+        rw (drop-cons ws at 0 l, ap length (e .1)) (from-other i (getD ws at 0) (take (length (e .0)) (drop (suc at) ws)) h d)
 
-    pub stands-other : (i : ℕ) → i < k → (getD rules (getD table (4 * i) 0) 0 ≡ getD ws at 0 → ⊥) → stands name rules table i (drop at ws) ≡ false
-    stands-other i h d = rw (drop-cons ws at 0 l) (stands-apart i (getD ws at 0) _ h d)
-
-    pub stands-short : (i : ℕ) → i < k → length ws - at < getD table (4 * i + 1) 0 - getD table (4 * i) 0 → stands name rules table i (drop at ws) ≡ false
+    pub stands-short : (i : ℕ) → i < k → length ws - at < getD table (4 * i + 1) 0 - getD table (4 * i) 0 → stands name rules table (drop at ws) i ≡ false
     unfolding stands
     stands-short i h s =
         let n = from-length rules table k i f h in
         let a = length-drop at ws in
         runs-uneven name Kind (take (length (fromWords rules table i)) (drop at ws)) (fromWords rules table i) (λ e. omega (arith, e, n, s, a, length-take (length (fromWords rules table i)) (drop at ws)))
 
-    pub stands-run : (i : ℕ) → i < k → stands name rules table i (drop at ws)
+    pub stands-run : (i : ℕ) → i < k → stands name rules table (drop at ws) i
         ≡ sameRuns name Kind (take (getD table (4 * i + 1) 0 - getD table (4 * i) 0) (drop at ws)) (take (getD table (4 * i + 1) 0 - getD table (4 * i) 0) (drop (getD table (4 * i) 0) rules))
     unfolding stands fromWords
     stands-run i h = ap (λ n. sameRuns name Kind (take n (drop at ws)) (take (getD table (4 * i + 1) 0 - getD table (4 * i) 0) (drop (getD table (4 * i) 0) rules))) (from-length rules table k i f h)
@@ -92,42 +74,6 @@ module _ (name : ℕ → Bytes) (rules table : List ℕ) where
 
   past : (i k : ℕ) → k ≤ i → k - i ≡ 0
   past i k h = omega arith
-
-  pub found-here : (i k : ℕ) (b : List ℕ) → i < k → sameRuns name Kind b (fromWords rules table i) ≡ true → foundFrom name rules table i (k - i) b ≡ At i
-  unfolding foundFrom
-  found-here i k b h e = rw (counted i k h, e) refl
-
-  pub found-later : (i k : ℕ) (b : List ℕ) → i < k → sameRuns name Kind b (fromWords rules table i) ≡ false → foundFrom name rules table i (k - i) b ≡ foundFrom name rules table (i + 1) (k - (i + 1)) b
-  unfolding foundFrom
-  found-later i k b h e = rw (counted i k h, e) refl
-
-  pub found-never : (i k : ℕ) (b : List ℕ) → k ≤ i → foundFrom name rules table i (k - i) b ≡ Nothing
-  unfolding foundFrom
-  found-never i k b h = rw (past i k h) refl
-
-  pub among-here : (i k : ℕ) (b : List ℕ) → i < k → sameRuns name Kind b (fromWords rules table i) ≡ true → amongFrom name rules table i (k - i) b ≡ true
-  unfolding amongFrom
-  among-here i k b h e = rw (counted i k h, e) refl
-
-  pub among-later : (i k : ℕ) (b : List ℕ) → i < k → sameRuns name Kind b (fromWords rules table i) ≡ false → amongFrom name rules table i (k - i) b ≡ amongFrom name rules table (i + 1) (k - (i + 1)) b
-  unfolding amongFrom
-  among-later i k b h e = rw (counted i k h, e) refl
-
-  pub among-never : (i k : ℕ) (b : List ℕ) → k ≤ i → amongFrom name rules table i (k - i) b ≡ false
-  unfolding amongFrom
-  among-never i k b h = rw (past i k h) refl
-
-  pub some-here : (i k : ℕ) (ws : List ℕ) → i < k → stands name rules table i ws ≡ true → someStands name rules table i (k - i) ws ≡ true
-  unfolding someStands
-  some-here i k ws h e = rw (counted i k h, e) refl
-
-  pub some-later : (i k : ℕ) (ws : List ℕ) → i < k → stands name rules table i ws ≡ false → someStands name rules table i (k - i) ws ≡ someStands name rules table (i + 1) (k - (i + 1)) ws
-  unfolding someStands
-  some-later i k ws h e = rw (counted i k h, e) refl
-
-  pub some-never : (i k : ℕ) (ws : List ℕ) → k ≤ i → someStands name rules table i (k - i) ws ≡ false
-  unfolding someStands
-  some-never i k ws h = rw (past i k h) refl
 
   module _ (k : ℕ) (ws : List ℕ) (at : ℕ) where
     none-step : at < length ws → noneStands name rules table k (drop at ws) ≡ pick (someStands name rules table 0 k (drop at ws)) false (noneStands name rules table k (drop (at + 1) ws))
@@ -160,12 +106,16 @@ module _ (name : ℕ → Bytes) (rules table : List ℕ) where
   unfolding repeatedFrom
   repeated-never i k h = rw (past i k h) refl
 
-  -- a rule that is found is one of those that were tried
-  pub found-less : (i n : ℕ) (b : List ℕ) {j : ℕ} → foundFrom name rules table i n b ≡ At j → j < i + n
-  unfolding foundFrom
-  found-less i zero b e = impossible (cc)
-  found-less i (suc n) b {j} e = go (sameRuns name Kind b (fromWords rules table i)) e (found-less (i + 1) n b)
-    where
-      go : (t : Bool) → pick t (At i) (foundFrom name rules table (i + 1) n b) ≡ At j → (foundFrom name rules table (i + 1) n b ≡ At j → j < i + 1 + n) → j < i + suc n
-      go true e k = let z : i ≡ j = cc in omega (arith, z)
-      go false e k = omega (arith, k e)
+-- a rule that is found is one of those that were tried
+first-less : (test : ℕ → Bool) (i n : ℕ) {j : ℕ} → firstOf test i n ≡ At j → j < i + n
+unfolding firstOf
+first-less test i zero e = impossible (cc)
+first-less test i (suc n) {j} e = go (test i) e (first-less test (i + 1) n)
+  where
+    go : (t : Bool) → pick t (At i) (firstOf test (i + 1) n) ≡ At j → (firstOf test (i + 1) n ≡ At j → j < i + 1 + n) → j < i + suc n
+    go true e k = let z : i ≡ j = cc in omega (arith, z)
+    go false e k = omega (arith, k e)
+
+pub found-less : (name : ℕ → Bytes) (rules table : List ℕ) (i n : ℕ) (b : List ℕ) {j : ℕ} → foundFrom name rules table i n b ≡ At j → j < i + n
+unfolding foundFrom
+found-less name rules table i n b e = first-less (isFrom name rules table b) i n e

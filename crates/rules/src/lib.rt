@@ -1,16 +1,14 @@
 // Lists of rules: reading them into a table, and finding the rule whose from a type equals.
 ghost use mathlib.Core.Path.{_≡_};
 ghost use Prim.Native.Nat.{max, _+_, _-_, _*_, _≤_, _<_};
-ghost use lib.ListN.{length, take, drop};
+ghost use lib.ListN.{length, getD, take, drop};
 ghost use Rattle.encoding.specs.Tables.{Good, nameBytes};
 ghost use Rattle.encoding.specs.Types.{readTypes};
 ghost use Rattle.trees.specs.Numbered.{treeAt};
 ghost use Rattle.replace.specs.Rules.{checkAll};
-ghost use Rattle.comparison.specs.declared.Due.the-variants.{Kind};
-ghost use Rattle.comparison.specs.Runs.{sameRuns};
 ghost use Rattle.writing.specs.Written.{Readable};
-ghost use Rattle.rules.specs.Table.{entered, kindEntered, beginsNone, stands, someStands, noneStands, fromWords, foundFrom, amongFrom, repeatedFrom, Fits};
-ghost use Rattle.rules.specs.Scans.{Deepens, RuleRead, Listed, RulesRead};
+ghost use Rattle.rules.specs.Table.{entered, slot, slotOf, linked, isFound, firstAlong, isFrom, stands, someStands, noneStands, fromWords, foundFrom, amongFrom, repeatedFrom, Fits, Links, Along, Unlinked, Entries};
+ghost use Rattle.rules.specs.Scans.{Deepens, Spans, depthOf, RuleRead, Listed, RulesRead};
 use encoding::Check;
 use encoding::Refusal;
 use encoding::Scan;
@@ -64,13 +62,21 @@ pub fn deepest(words: &[u32], pairs: &[u32], at: usize, n: usize) -> Deep
     Deep { next: place, depth }
 }
 
-// A rule that was read: where its to begins and ends, and how deep it is.
+// How deep the accepted type in `count` words is.
+pub fn depth_in(words: &[u32], pairs: &[u32], at: usize, count: usize) -> usize
+    requires { ⌜ (at ≤ length (now words)) × Spans (treeAt (now words) (now pairs) at) (at + count) ⌝ }
+    ensures { λ r. ⌜ r ≡ depthOf (treeAt (now (words .entry)) (now (pairs .entry)) at) ⌝ }
+{
+    if count == 1 {
+        return 1;
+    }
+    let type_there = deepest(words, pairs, at, 1);
+    type_there.depth
+}
+
+// A rule that was read: where its to begins and ends.
 enum RuleScan {
-    OneRule {
-        middle: usize,
-        end: usize,
-        depth: usize,
-    },
+    OneRule { middle: usize, end: usize },
     NoRule(Refusal),
 }
 
@@ -86,48 +92,21 @@ fn scan_rule(rules: &[u32], pairs: &[u32], text: &[u8], at: usize) -> RuleScan
             Measure::Measured {
                 next: end,
                 bytes: _,
-            } => {
-                let to = deepest(rules, pairs, middle, 1);
-                RuleScan::OneRule {
-                    middle,
-                    end,
-                    depth: to.depth,
-                }
-            }
+            } => RuleScan::OneRule { middle, end },
             Measure::Stopped(r) => RuleScan::NoRule(r),
         },
         Measure::Stopped(r) => RuleScan::NoRule(r),
     }
 }
 
-// Rule `i` of the table: where its from begins, where its to begins and ends, and how deep its to is.
-fn enter_rule(table: &mut [usize; 160], i: usize, from: usize, to: usize, end: usize, depth: usize)
+// Rule `i` of the table: where its from begins, and where its to begins and ends.
+fn enter_rule(table: &mut [usize; 160], i: usize, from: usize, to: usize, end: usize)
     requires { ⌜ i < 32 ⌝ }
-    ensures { λ r. ⌜ now (table .exit) ≡ entered (now (table .entry)) i from to end depth ⌝ }
+    ensures { λ r. ⌜ now (table .exit) ≡ entered (now (table .entry)) i from to end ⌝ }
 {
     table[4 * i] = from;
     table[4 * i + 1] = to;
     table[4 * i + 2] = end;
-    table[4 * i + 3] = depth;
-}
-
-// Behind the rules the table has an entry for each kind: 1 if some from begins with it.
-fn enter_kind(table: &mut [usize; 160], word: u32)
-    ensures { λ r. ⌜ now (table .exit) ≡ kindEntered (now (table .entry)) word ⌝ }
-{
-    if word < 32 {
-        table[128 + word as usize] = 1;
-    }
-}
-
-// Whether no from begins with a word, by the table.
-fn begins_none(table: &[usize; 160], word: u32) -> bool
-    ensures { λ r. ⌜ r ≡ beginsNone (now (table .entry)) word ⌝ }
-{
-    if word < 32 {
-        return table[128 + word as usize] == 0;
-    }
-    false
 }
 
 // `n` rules from `at` on, entered in the table.
@@ -139,16 +118,15 @@ fn scan_list(
     at: usize,
     table: &mut [usize; 160],
 ) -> Scan
-    requires { ⌜ Good (now pairs) (now text) × (length (now rules) ≤ 8192) × (n ≤ 32) × (at ≤ length (now rules)) × (length (now table) ≡ 160) ⌝ }
+    requires { ⌜ Good (now pairs) (now text) × (length (now rules) ≤ 8192) × (n ≤ 32) × (at ≤ length (now rules)) × Unlinked (now table) ⌝ }
     ensures { λ r. ⌜ Listed (now (rules .entry)) (now (pairs .entry)) n at (now (table .exit)) r ⌝ }
 {
     let mut place = at;
     let mut i = 0;
     while i < n {
         match scan_rule(rules, pairs, text, place) {
-            RuleScan::OneRule { middle, end, depth } => {
-                enter_kind(table, rules[place]);
-                enter_rule(table, i, place, middle, end, depth);
+            RuleScan::OneRule { middle, end } => {
+                enter_rule(table, i, place, middle, end);
                 place = end;
             }
             RuleScan::NoRule(r) => {
@@ -158,6 +136,39 @@ fn scan_list(
         i += 1;
     }
     Scan::At(place)
+}
+
+// Where the table says which rule comes first for a word. Words that no type begins with share an entry.
+fn slot_of(word: u32) -> usize
+    ensures { λ r. ⌜ (r ≡ slot word) × (128 ≤ r) × (r < 160) ⌝ }
+{
+    if word < 32 {
+        return 128 + word as usize;
+    }
+    159
+}
+
+// Rule `i` comes first among those of its slot, before the one that came first so far.
+fn link_rule(rules: &[u32], table: &mut [usize; 160], i: usize)
+    requires { ⌜ (i < 32) × (getD (now table) (4 * i) 0 < length (now rules)) ⌝ }
+    ensures { λ r. ⌜ now (table .exit) ≡ linked (now (table .entry)) i (slotOf (now (rules .entry)) (now (table .entry)) i) ⌝ }
+{
+    let from = table[4 * i];
+    let s = slot_of(rules[from]);
+    table[4 * i + 3] = table[s];
+    table[s] = i + 1;
+}
+
+// Rules whose froms begin with the same word are linked, the last rule first, so that a search meets them in their order.
+fn link_rules(rules: &[u32], table: &mut [usize; 160], k: usize)
+    requires { ⌜ Fits (now rules) (now table) k × Unlinked (now table) ⌝ }
+    ensures { λ r. ⌜ Entries (now (table .entry)) (now (table .exit)) × Links (now (rules .entry)) (now (table .exit)) 0 k ⌝ }
+{
+    let mut i = k;
+    while 0 < i {
+        i -= 1;
+        link_rule(rules, table, i);
+    }
 }
 
 // Whether the from of rule `i` is the same type as `count` words of `out`. Lengths are compared before words.
@@ -173,8 +184,7 @@ fn is_from(
     count: usize,
 ) -> bool
     requires { ⌜ Good (now pairs) (now text) × Fits (now rules) (now table) k × (i < k) × (start + count ≤ length (now out)) ⌝ }
-    ensures { λ r. ⌜ r ≡ sameRuns (nameBytes (now (pairs .entry)) (now (text .entry))) Kind
-        (take count (drop start (now (out .entry)))) (fromWords (now (rules .entry)) (now (table .entry)) i) ⌝ }
+    ensures { λ r. ⌜ r ≡ isFrom (nameBytes (now (pairs .entry)) (now (text .entry))) (now (rules .entry)) (now (table .entry)) (take count (drop start (now (out .entry)))) i ⌝ }
 {
     let from = table[4 * i];
     if table[4 * i + 1] - from != count {
@@ -189,6 +199,33 @@ pub enum Found {
     Nothing,
 }
 
+// The first rule, from a link on, whose from is the same type as `count` words of `out`.
+fn find_along(
+    rules: &[u32],
+    pairs: &[u32],
+    text: &[u8],
+    table: &[usize; 160],
+    k: usize,
+    link: usize,
+    out: &[u32],
+    start: usize,
+    count: usize,
+) -> Found
+    requires { ⌜ Good (now pairs) (now text) × Fits (now rules) (now table) k × Links (now rules) (now table) 0 k × (0 < count) × (start + count ≤ length (now out))
+        × Along (now rules) (now table) k (slot (getD (now out) start 0)) link ⌝ }
+    ensures { λ r. ⌜ r ≡ firstAlong (isFrom (nameBytes (now (pairs .entry)) (now (text .entry))) (now (rules .entry)) (now (table .entry)) (take count (drop start (now (out .entry))))) k link ⌝ }
+{
+    let mut next = link;
+    while 0 < next {
+        let i = next - 1;
+        if is_from(rules, pairs, text, table, k, i, out, start, count) {
+            return Found::At(i);
+        }
+        next = table[4 * i + 3];
+    }
+    Found::Nothing
+}
+
 // The first of `k` rules whose from is the same type as `count` words of `out`.
 pub fn find_rule(
     rules: &[u32],
@@ -200,24 +237,15 @@ pub fn find_rule(
     start: usize,
     count: usize,
 ) -> Found
-    requires { ⌜ Good (now pairs) (now text) × Fits (now rules) (now table) k × (0 < count) × (start + count ≤ length (now out)) ⌝ }
+    requires { ⌜ Good (now pairs) (now text) × Fits (now rules) (now table) k × Links (now rules) (now table) 0 k × (0 < count) × (start + count ≤ length (now out)) ⌝ }
     ensures { λ r. ⌜ r ≡ foundFrom (nameBytes (now (pairs .entry)) (now (text .entry))) (now (rules .entry)) (now (table .entry)) 0 k
         (take count (drop start (now (out .entry)))) ⌝ }
 {
-    if begins_none(table, out[start]) {
-        return Found::Nothing;
-    }
-    let mut i = 0;
-    while i < k {
-        if is_from(rules, pairs, text, table, k, i, out, start, count) {
-            return Found::At(i);
-        }
-        i += 1;
-    }
-    Found::Nothing
+    let link = table[slot_of(out[start])];
+    find_along(rules, pairs, text, table, k, link, out, start, count)
 }
 
-// Whether the from of rule `i` stands at `at` in `words`, whatever stands there. First words are compared before the others.
+// Whether the from of rule `i` stands at `at` in `words`, whatever stands there. A look comes before the comparison: most froms do not stand there.
 fn stands_at(
     rules: &[u32],
     pairs: &[u32],
@@ -229,14 +257,14 @@ fn stands_at(
     at: usize,
 ) -> bool
     requires { ⌜ Good (now pairs) (now text) × Fits (now rules) (now table) k × (i < k) × (at < length (now words)) ⌝ }
-    ensures { λ r. ⌜ r ≡ stands (nameBytes (now (pairs .entry)) (now (text .entry))) (now (rules .entry)) (now (table .entry)) i (drop at (now (words .entry))) ⌝ }
+    ensures { λ r. ⌜ r ≡ stands (nameBytes (now (pairs .entry)) (now (text .entry))) (now (rules .entry)) (now (table .entry)) (drop at (now (words .entry))) i ⌝ }
 {
     let from = table[4 * i];
-    if rules[from] != words[at] {
-        return false;
-    }
     let count = table[4 * i + 1] - from;
     if words.len() - at < count {
+        return false;
+    }
+    if comparison::are_apart(words, at, rules, from, count) {
         return false;
     }
     comparison::same_words(pairs, text, words, at, rules, from, count)
@@ -252,18 +280,16 @@ fn some_stands(
     words: &[u32],
     at: usize,
 ) -> bool
-    requires { ⌜ Good (now pairs) (now text) × Fits (now rules) (now table) k × (at < length (now words)) ⌝ }
+    requires { ⌜ Good (now pairs) (now text) × Fits (now rules) (now table) k × Links (now rules) (now table) 0 k × (at < length (now words)) ⌝ }
     ensures { λ r. ⌜ r ≡ someStands (nameBytes (now (pairs .entry)) (now (text .entry))) (now (rules .entry)) (now (table .entry)) 0 k (drop at (now (words .entry))) ⌝ }
 {
-    if begins_none(table, words[at]) {
-        return false;
-    }
-    let mut i = 0;
-    while i < k {
+    let mut next = table[slot_of(words[at])];
+    while 0 < next {
+        let i = next - 1;
         if stands_at(rules, pairs, text, table, k, i, words, at) {
             return true;
         }
-        i += 1;
+        next = table[4 * i + 3];
     }
     false
 }
@@ -277,7 +303,7 @@ pub fn none_stands(
     k: usize,
     words: &[u32],
 ) -> bool
-    requires { ⌜ Good (now pairs) (now text) × Fits (now rules) (now table) k ⌝ }
+    requires { ⌜ Good (now pairs) (now text) × Fits (now rules) (now table) k × Links (now rules) (now table) 0 k ⌝ }
     ensures { λ r. ⌜ r ≡ noneStands (nameBytes (now (pairs .entry)) (now (text .entry))) (now (rules .entry)) (now (table .entry)) k (now (words .entry)) ⌝ }
 {
     let mut at = 0;
@@ -290,6 +316,15 @@ pub fn none_stands(
     true
 }
 
+fn is_found(found: Found) -> bool
+    ensures { λ r. ⌜ r ≡ isFound found ⌝ }
+{
+    match found {
+        Found::At(_) => true,
+        Found::Nothing => false,
+    }
+}
+
 // Whether the from of rule `i` is that of a rule behind it.
 fn is_among(
     rules: &[u32],
@@ -299,25 +334,19 @@ fn is_among(
     k: usize,
     i: usize,
 ) -> bool
-    requires { ⌜ Good (now pairs) (now text) × Fits (now rules) (now table) k × (i < k) ⌝ }
-    ensures { λ r. ⌜ r ≡ amongFrom (nameBytes (now (pairs .entry)) (now (text .entry))) (now (rules .entry)) (now (table .entry)) (i + 1) (k - i - 1)
+    requires { ⌜ Good (now pairs) (now text) × Fits (now rules) (now table) k × Links (now rules) (now table) 0 k × (i < k) ⌝ }
+    ensures { λ r. ⌜ r ≡ amongFrom (nameBytes (now (pairs .entry)) (now (text .entry))) (now (rules .entry)) (now (table .entry)) (i + 1) (k - (i + 1))
         (fromWords (now (rules .entry)) (now (table .entry)) i) ⌝ }
 {
     let start = table[4 * i];
     let count = table[4 * i + 1] - start;
-    let mut j = i + 1;
-    while j < k {
-        if is_from(rules, pairs, text, table, k, j, rules, start, count) {
-            return true;
-        }
-        j += 1;
-    }
-    false
+    let link = table[4 * i + 3];
+    is_found(find_along(rules, pairs, text, table, k, link, rules, start, count))
 }
 
 // Whether two of `k` rules have the same from.
 fn are_repeated(rules: &[u32], pairs: &[u32], text: &[u8], table: &[usize; 160], k: usize) -> bool
-    requires { ⌜ Good (now pairs) (now text) × Fits (now rules) (now table) k ⌝ }
+    requires { ⌜ Good (now pairs) (now text) × Fits (now rules) (now table) k × Links (now rules) (now table) 0 k ⌝ }
     ensures { λ r. ⌜ r ≡ repeatedFrom (nameBytes (now (pairs .entry)) (now (text .entry))) (now (rules .entry)) (now (table .entry)) 0 k ⌝ }
 {
     let mut i = 0;
@@ -343,7 +372,7 @@ pub fn read_rules(
     text: &[u8],
     table: &mut [usize; 160],
 ) -> RulesAnswer
-    requires { ⌜ Good (now pairs) (now text) × (length (now rules) ≤ 8192) × (length (now table) ≡ 160) ⌝ }
+    requires { ⌜ Good (now pairs) (now text) × (length (now rules) ≤ 8192) × Unlinked (now table) ⌝ }
     ensures { λ r. ⌜ RulesRead (now (rules .entry)) (now (pairs .entry)) (now (text .entry)) (now (table .exit)) r ⌝ }
 {
     match encoding::scan_below(rules, 33, 0) {
@@ -354,6 +383,7 @@ pub fn read_rules(
                     if end != rules.len() {
                         return RulesAnswer::NoRules(Refusal::LeftOver);
                     }
+                    link_rules(rules, table, k);
                     if are_repeated(rules, pairs, text, table, k) {
                         return RulesAnswer::NoRules(Refusal::RepeatedRule);
                     }

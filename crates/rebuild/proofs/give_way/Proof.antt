@@ -1,4 +1,9 @@
+use Prim.Native.Nat.{_+_, _-_, _*_}
+use Rattle.rules.specs.Scans.{Spans}
+use Rattle.trees.specs.Numbered.{treeAt}
 use Rattle.rebuild.proofs.Growing.{gives-over, gives-to}
+use lib.ListN.{getD}
+use mathlib.Core.Path.{_≡_, subst}
 use native.Mathlib.Omega.{arith}
 use borrow.Author.Needs.{needs}
 use Rattle.rebuild.proofs.give_way.Statement.{statement}
@@ -29,26 +34,24 @@ element-copy-out-count : tie.Need-element-copy-out-count
 element-copy-out-count c = search needs
 
 sub-count : tie.Need-sub-count
-sub-count c = omega (arith, c .before .before .before .before .pre .0 .to (c .before .before .before .before .args .i) (c .before .before .before .before .pre .1))
-
-mul-depth : tie.Need-mul-depth
-mul-depth c = search needs
-
-add-depth : tie.Need-add-depth
-add-depth c = search needs
-
-mul-depth-2 : tie.Need-mul-depth-2
-mul-depth-2 c = search needs
-
-element-copy-out-depth : tie.Need-element-copy-out-depth
-element-copy-out-depth c = search needs
+sub-count c =
+    let a = c .before .before .before .before .before .args in let pre = c .before .before .before .before .before .pre in let f = pre .0 in omega (arith, f .to (a .i) (pre .1))
 
 lay-requires : tie.Need-lay-requires
 lay-requires c κs =
-    let a = c .before .before .before .before .before .before .args in let f = c .before .before .before .before .before .before .pre .0 in (omega (arith, f .to (a .i) (c .before .before .before .before .before .before .pre .1), f .inside (a .i) (c .before .before .before .before .before .before .pre .1)), c .before .before .before .before .before .before .pre .2, c .before .before .before .before .before .before .pre .3)
+    let a = c .before .before .before .before .before .before .args in let pre = c .before .before .before .before .before .before .pre in let f = pre .0 in
+    (omega (arith, f .to (a .i) (pre .1), f .inside (a .i) (pre .1)), pre .3, pre .4)
 
 enum-known-pos : tie.Need-enum-known-pos
 enum-known-pos c = search needs
+
+depth-in-requires : tie.Need-depth-in-requires
+depth-in-requires c κs =
+    let a = c .before .before .before .before .before .before .before .before .before .before .before .before .args in let pre = c .before .before .before .before .before .before .before .before .before .before .before .before .pre in let f = pre .0 in
+    let to = getD (a .table .now) (4 * a .i + 1) 0 in
+    let end = getD (a .table .now) (4 * a .i + 2) 0 in
+    let z : end ≡ to + (end - to) = omega (arith, f .to (a .i) (pre .1)) in
+    (omega (arith, f .to (a .i) (pre .1), f .inside (a .i) (pre .1)), subst (Spans (treeAt (a .rules .now) (a .pairs .now) to)) z (pre .2))
 
 enum-told : tie.Need-enum-told
 enum-told c = search needs
@@ -57,7 +60,7 @@ same-length : tie.Need-same-length
 same-length c = search needs
 
 returns : tie.Need-returns
-returns c = gives-to (c .before .before .before .before .before .lay .ensures) (c .before .pos .given .1)
+returns c = gives-to (c .before .before .before .before .before .before .lay .ensures) (c .before .before .pos .given .1) (c .depth-in .ensures)
 
 same-length-2 : tie.Need-same-length-2
 same-length-2 c = search needs
@@ -78,12 +81,9 @@ give-way-spec =
     mul-count-2
     element-copy-out-count
     sub-count
-    mul-depth
-    add-depth
-    mul-depth-2
-    element-copy-out-depth
     lay-requires
     enum-known-pos
+    depth-in-requires
     enum-told
     same-length
     returns

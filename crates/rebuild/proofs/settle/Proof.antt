@@ -1,5 +1,6 @@
 use Prim.Native.Nat.{_-_}
 use Rattle.encoding.specs.Tables.{nameBytes}
+use Rattle.rebuild.proofs.Types.{to-spans}
 use Rattle.rebuild.specs.Laid.{gives, stays}
 use Rattle.rules.proofs.Steps.{found-less}
 use lib.ListN.{drop, take}
@@ -14,15 +15,16 @@ sub-find-rule c = search needs
 
 find-rule-requires : tie.Need-find-rule-requires
 find-rule-requires c κs =
-    let pre = c .before .before .before .before .before .pre in (pre .0, pre .1, omega (arith, pre .2), omega (arith, pre .2, pre .3, pre .4))
+    let pre = c .before .before .before .before .before .pre in (pre .0, pre .1 .fits, pre .1 .links, omega (arith, pre .2), omega (arith, pre .2, pre .3, pre .4))
 
 enum-known-i : tie.Need-enum-known-i
 enum-known-i c = search needs
 
 give-way-requires : tie.Need-give-way-requires
 give-way-requires c κs =
-    let a = c .before .before .before .before .before .before .before .before .before .before .args in
-    (c .before .before .before .before .before .before .before .before .before .before .pre .1, omega (arith, found-less (nameBytes (a .pairs .now) (a .text .now)) (a .rules .now) (a .table .now) 0 (a .k) (take (a .end - a .start) (drop (a .start) (a .out .now))) (sym (c .before .before .before .before .find-rule .ensures) ∙ c .before .before .i .given .1)), omega (arith, c .before .before .before .before .before .before .before .before .before .before .pre .2, c .before .before .before .before .before .before .before .before .before .before .pre .3), c .before .before .before .before .before .before .before .before .before .before .pre .4)
+    let a = c .before .before .before .before .before .before .before .before .before .before .args in let pre = c .before .before .before .before .before .before .before .before .before .before .pre in
+    let h = found-less (nameBytes (a .pairs .now) (a .text .now)) (a .rules .now) (a .table .now) 0 (a .k) (take (a .end - a .start) (drop (a .start) (a .out .now))) (sym (c .before .before .before .before .find-rule .ensures) ∙ c .before .before .i .given .1) in
+    (pre .1 .fits, omega (arith, h), to-spans (a .rules .now) (a .pairs .now) (a .text .now) (a .table .now) (a .k) (pre .1) _ (omega (arith, h)), omega (arith, pre .2, pre .3), pre .4)
 
 enum-told : tie.Need-enum-told
 enum-told c = search needs

@@ -9,7 +9,7 @@ use Rattle.replacement.proofs.fill_large.Statement.{statement}
 use Rattle.replacement.proofs.fill_large.Tie as tie
 
 none-stands-requires : tie.Need-none-stands-requires
-none-stands-requires c κs = let pre = c .before .before .before .before .before .pre in (pre .0, pre .1 .fits)
+none-stands-requires c κs = let pre = c .before .before .before .before .before .pre in (pre .0, pre .1 .fits, pre .1 .links)
 
 copy-unaltered-requires : tie.Need-copy-unaltered-requires
 copy-unaltered-requires c κs = search needs

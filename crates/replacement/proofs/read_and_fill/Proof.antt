@@ -1,5 +1,6 @@
 use Rattle.rebuild.proofs.Calls.{ruled-of, rules-given, rules-refused}
 use Rattle.rebuild.specs.Laid.{mapping}
+use Rattle.rules.proofs.Tables.{zeros-unlinked}
 use Rattle.replacement.proofs.Unaltered.{copied}
 use Rattle.replacement.proofs.Wholes.{held-ends, whole-answered, whole-over, whole-refused, whole-stops}
 use Rattle.encoding.specs.declared.Scan.the-variants.{At}
@@ -34,7 +35,7 @@ returns-2 c =
     copied (a .words .now) (a .pairs .now) (a .text .now) (a .what) (λ t. t) (a .out .now) (held-ends (a .what) (a .words .now) (a .pairs .now) (a .text .now) (λ t. t) ∙ sym (c .before .before .before .before .before .before .before .before .before .before .accept .ensures) ∙ c .before .before .before .before .before .before .before .before .end .given .1) (c .before .before .before .before .before .before .if1 .left) (c .before .before .before .before .before .holds-no-rule .ensures (c .before .before .before .before .if2 .taken)) (c .before .before .copy-unaltered .ensures)
 
 read-rules-requires : tie.Need-read-rules-requires
-read-rules-requires c κs = search needs
+read-rules-requires c κs = let pre = c .before .before .before .before .before .before .before .before .before .before .before .before .before .pre in (pre .0, pre .2, zeros-unlinked)
 
 enum-known-k : tie.Need-enum-known-k
 enum-known-k c = search needs

@@ -1,4 +1,4 @@
-use Prim.Native.Nat.{_+_, _-_, _≤_}
+use Prim.Native.Nat.{_-_, _≤_}
 use Rattle.encoding.specs.Tables.{nameBytes}
 use Rattle.rules.proofs.Steps.{repeated-here, repeated-later, repeated-never}
 use Rattle.rules.specs.Table.{repeatedFrom}
@@ -18,13 +18,12 @@ loop-holds : tie.Need-loop-holds Inv-loop μ-loop
 loop-holds c = let z : c .before .before .before .args .k - 0 ≡ c .before .before .before .args .k = omega arith in (omega arith, rw z refl)
 
 is-among-requires : tie.Need-is-among-requires Inv-loop μ-loop
-is-among-requires c κs = (c .before .before .before .before .before .pre .0, c .before .before .before .before .before .pre .1, c .loop-test .taken)
+is-among-requires c κs = (c .before .before .before .before .before .pre .0, c .before .before .before .before .before .pre .1, c .before .before .before .before .before .pre .2, c .loop-test .taken)
 
 returns : tie.Need-returns Inv-loop μ-loop
 returns c =
     let a = c .before .before .before .before .before .before .before .args in let l = c .before .before .before .loop in
-    let z : a .k - l .i - 1 ≡ a .k - (l .i + 1) = omega arith in
-    sym (repeated-here (nameBytes (a .pairs .now) (a .text .now)) (a .rules .now) (a .table .now) (l .i) (a .k) (c .before .before .loop-test .taken) (rw z at (sym (c .before .is-among .ensures) ∙ c .if1 .taken))) ∙ l .inv .1
+    sym (repeated-here (nameBytes (a .pairs .now) (a .text .now)) (a .rules .now) (a .table .now) (l .i) (a .k) (c .before .before .loop-test .taken) (sym (c .before .is-among .ensures) ∙ c .if1 .taken)) ∙ l .inv .1
 
 add-i : tie.Need-add-i Inv-loop μ-loop
 add-i c = search needs
@@ -35,8 +34,7 @@ loop-less c = search needs
 loop-again : tie.Need-loop-again Inv-loop μ-loop
 loop-again c =
     let a = c .before .before .before .before .before .before .before .args in let l = c .before .before .before .loop in
-    let z : a .k - l .i - 1 ≡ a .k - (l .i + 1) = omega arith in
-    (omega (arith, c .before .before .loop-test .taken), sym (repeated-later (nameBytes (a .pairs .now) (a .text .now)) (a .rules .now) (a .table .now) (l .i) (a .k) (c .before .before .loop-test .taken) (rw z at (sym (c .before .is-among .ensures) ∙ c .if1 .left))) ∙ l .inv .1)
+    (omega (arith, c .before .before .loop-test .taken), sym (repeated-later (nameBytes (a .pairs .now) (a .text .now)) (a .rules .now) (a .table .now) (l .i) (a .k) (c .before .before .loop-test .taken) (sym (c .before .is-among .ensures) ∙ c .if1 .left)) ∙ l .inv .1)
 
 returns-2 : tie.Need-returns-2 Inv-loop μ-loop
 returns-2 c =

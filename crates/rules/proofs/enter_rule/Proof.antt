@@ -36,18 +36,6 @@ mul-table-6 c = search needs
 element-write-table-3 : tie.Need-element-write-table-3
 element-write-table-3 c = search needs
 
-mul-table-7 : tie.Need-mul-table-7
-mul-table-7 c = search needs
-
-add-table-3 : tie.Need-add-table-3
-add-table-3 c = search needs
-
-mul-table-8 : tie.Need-mul-table-8
-mul-table-8 c = search needs
-
-element-write-table-4 : tie.Need-element-write-table-4
-element-write-table-4 c = search needs
-
 returns : tie.Need-returns
 unfolding entered
 returns c = search needs
@@ -67,8 +55,4 @@ enter-rule-spec =
     add-table-2
     mul-table-6
     element-write-table-3
-    mul-table-7
-    add-table-3
-    mul-table-8
-    element-write-table-4
     returns)

@@ -1,82 +1,46 @@
-use Prim.Native.Nat.{_-_, _≤_}
 use Rattle.encoding.specs.Tables.{nameBytes}
-use Rattle.measure.proofs.Steps.{start}
-use Rattle.rules.proofs.Steps.{found-here, found-later, found-never, none-begins}
-use Rattle.rules.specs.Table.{foundFrom}
-use Rattle.trees.specs.Encode.{count}
-use lib.ListN.{drop, take}
-use mathlib.Core.Path.{_∙_, _≡_, refl, sym}
+use Rattle.rules.proofs.Links.{along-first, found-along}
+use Rattle.rules.specs.Table.{slot}
+use lib.ListN.{getD}
+use mathlib.Core.Path.{_∙_, sym}
 use native.Mathlib.Omega.{arith}
 use borrow.Author.Needs.{needs}
 use Rattle.rules.proofs.find_rule.Statement.{statement}
 use Rattle.rules.proofs.find_rule.Tie as tie
 
-abbrev Inv-loop : tie.InvT-loop
-Inv-loop rules pairs text table k out start count i₀ i =
-    (i ≤ k) × (foundFrom (nameBytes pairs text) rules table i (k - i) (take count (drop start out)) ≡ foundFrom (nameBytes pairs text) rules table 0 k (take count (drop start out)))
+mul-slot-of : tie.Need-mul-slot-of
+mul-slot-of c = search needs
 
-abbrev μ-loop : tie.MeasureT-loop
-μ-loop rules pairs text table k out start count i₀ i = k - i
+shared-slice-read-slot-of : tie.Need-shared-slice-read-slot-of
+shared-slice-read-slot-of c = search needs
 
-mul-begins-none : tie.Need-mul-begins-none Inv-loop μ-loop
-mul-begins-none c = search needs
+slot-of-requires : tie.Need-slot-of-requires
+slot-of-requires c κs = search needs
 
-shared-slice-read-begins-none : tie.Need-shared-slice-read-begins-none Inv-loop μ-loop
-shared-slice-read-begins-none c = search needs
+mul-link : tie.Need-mul-link
+mul-link c = search needs
 
-begins-none-requires : tie.Need-begins-none-requires Inv-loop μ-loop
-begins-none-requires c κs = search needs
+element-copy-out-link : tie.Need-element-copy-out-link
+element-copy-out-link c = search needs
 
-returns : tie.Need-returns Inv-loop μ-loop
+find-along-requires : tie.Need-find-along-requires
+find-along-requires c κs =
+    let a = c .before .before .before .before .before .before .before .args in let pre = c .before .before .before .before .before .before .before .pre in let s = c .before .slot-of .ensures in
+    (pre .0, pre .1, pre .2, pre .3, pre .4, rw (s .0) (along-first (a .rules .now) (a .table .now) (a .k) (pre .2) (slot (getD (a .out .now) (a .start) 0)) (omega (arith, s .0, s .1)) (omega (arith, s .0, s .2))))
+
+returns : tie.Need-returns
 returns c =
-    let a = c .before .before .before .before .before .before .before .args in let pre = c .before .before .before .before .before .before .before .pre in
-    sym (none-begins (nameBytes (a .pairs .now) (a .text .now)) (a .rules .now) (a .table .now) (pre .1) (a .out .now) (a .start) (a .count) (search needs) (pre .2) (sym (c .before .begins-none .ensures) ∙ c .if1 .taken))
-
-loop-holds : tie.Need-loop-holds Inv-loop μ-loop
-loop-holds c =
-    let k = c .before .before .before .before .before .before .before .args .k in
-    let z : k - 0 ≡ k = omega arith in
-    (omega arith, rw z refl)
-
-is-from-requires : tie.Need-is-from-requires Inv-loop μ-loop
-is-from-requires c κs =
-    let pre = c .before .before .before .before .before .before .before .before .before .pre in (pre .0, pre .1, c .loop-test .taken, pre .3)
-
-returns-2 : tie.Need-returns-2 Inv-loop μ-loop
-returns-2 c =
-    let a = c .before .before .before .before .before .before .before .before .before .before .before .args in let l = c .before .before .before .loop in
-    sym (found-here (nameBytes (a .pairs .now) (a .text .now)) (a .rules .now) (a .table .now) (l .i) (a .k) (take (a .count) (drop (a .start) (a .out .now))) (c .before .before .loop-test .taken) (sym (c .before .is-from .ensures) ∙ c .if2 .taken)) ∙ l .inv .1
-
-add-i : tie.Need-add-i Inv-loop μ-loop
-add-i c = search needs
-
-loop-less : tie.Need-loop-less Inv-loop μ-loop
-loop-less c = search needs
-
-loop-again : tie.Need-loop-again Inv-loop μ-loop
-loop-again c =
-    let a = c .before .before .before .before .before .before .before .before .before .before .before .args in let l = c .before .before .before .loop in
-    (omega (arith, c .before .before .loop-test .taken), sym (found-later (nameBytes (a .pairs .now) (a .text .now)) (a .rules .now) (a .table .now) (l .i) (a .k) (take (a .count) (drop (a .start) (a .out .now))) (c .before .before .loop-test .taken) (sym (c .before .is-from .ensures) ∙ c .if2 .left)) ∙ l .inv .1)
-
-returns-3 : tie.Need-returns-3 Inv-loop μ-loop
-returns-3 c =
-    let a = c .before .before .before .before .before .before .before .before .before .args in let l = c .before .loop in
-    sym (found-never (nameBytes (a .pairs .now) (a .text .now)) (a .rules .now) (a .table .now) (l .i) (a .k) (take (a .count) (drop (a .start) (a .out .now))) (c .loop-test .left)) ∙ l .inv .1
+    let a = c .before .before .before .before .before .before .before .before .args in let pre = c .before .before .before .before .before .before .before .before .pre in let s = c .before .before .slot-of .ensures in
+    c .find-along .ensures ∙ rw (s .0) (sym (found-along (nameBytes (a .pairs .now) (a .text .now)) (a .rules .now) (a .table .now) (pre .1) (pre .2) (a .out .now) (a .start) (a .count) (omega (arith, pre .3, pre .4)) (pre .3)))
 
 pub find-rule-spec : {M : Type 1} → statement M
 find-rule-spec =
     tie.close
     (tie.spec
-    Inv-loop
-    μ-loop
-    mul-begins-none
-    shared-slice-read-begins-none
-    begins-none-requires
-    returns
-    loop-holds
-    is-from-requires
-    returns-2
-    add-i
-    loop-less
-    loop-again
-    returns-3)
+    mul-slot-of
+    shared-slice-read-slot-of
+    slot-of-requires
+    mul-link
+    element-copy-out-link
+    find-along-requires
+    returns)

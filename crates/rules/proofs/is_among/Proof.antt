@@ -1,88 +1,67 @@
-use Prim.Native.Nat.{_+_, _-_, _≤_}
 use Rattle.encoding.specs.Tables.{nameBytes}
-use Rattle.measure.proofs.Steps.{start}
-use Rattle.rules.proofs.Steps.{among-here, among-later, among-never}
-use Rattle.rules.specs.Table.{amongFrom, fromWords}
-use Rattle.trees.specs.Encode.{count}
-use mathlib.Core.Path.{_∙_, _≡_, refl, sym}
+use Rattle.rules.proofs.Links.{along-more, among-along}
+use Rattle.rules.specs.Table.{fromWords, isFound, slotOf}
+use mathlib.Core.Path.{_∙_, ap, sym}
 use native.Mathlib.Omega.{arith}
 use borrow.Author.Needs.{needs}
 use Rattle.rules.proofs.is_among.Statement.{statement}
 use Rattle.rules.proofs.is_among.Tie as tie
 
-abbrev Inv-loop : tie.InvT-loop
-Inv-loop rules pairs text table k i start count j₀ j =
-    (j ≤ k) × (amongFrom (nameBytes pairs text) rules table j (k - j) (fromWords rules table i) ≡ amongFrom (nameBytes pairs text) rules table (i + 1) (k - i - 1) (fromWords rules table i))
-
-abbrev μ-loop : tie.MeasureT-loop
-μ-loop rules pairs text table k i start count j₀ j = k - j
-
-mul-start : tie.Need-mul-start Inv-loop μ-loop
+mul-start : tie.Need-mul-start
 mul-start c = search needs
 
-mul-start-2 : tie.Need-mul-start-2 Inv-loop μ-loop
+mul-start-2 : tie.Need-mul-start-2
 mul-start-2 c = search needs
 
-element-copy-out-start : tie.Need-element-copy-out-start Inv-loop μ-loop
+element-copy-out-start : tie.Need-element-copy-out-start
 element-copy-out-start c = search needs
 
-mul-count : tie.Need-mul-count Inv-loop μ-loop
+mul-count : tie.Need-mul-count
 mul-count c = search needs
 
-add-count : tie.Need-add-count Inv-loop μ-loop
+add-count : tie.Need-add-count
 add-count c = search needs
 
-mul-count-2 : tie.Need-mul-count-2 Inv-loop μ-loop
+mul-count-2 : tie.Need-mul-count-2
 mul-count-2 c = search needs
 
-element-copy-out-count : tie.Need-element-copy-out-count Inv-loop μ-loop
+element-copy-out-count : tie.Need-element-copy-out-count
 element-copy-out-count c = search needs
 
-sub-count : tie.Need-sub-count Inv-loop μ-loop
-sub-count c =
-    omega (arith, c .before .before .before .before .before .pre .1 .from (c .before .before .before .before .before .args .i) (c .before .before .before .before .before .pre .2))
+sub-count : tie.Need-sub-count
+sub-count c = omega (arith, c .before .before .before .before .before .pre .1 .from (c .before .before .before .before .before .args .i) (c .before .before .before .before .before .pre .3))
 
-add-j : tie.Need-add-j Inv-loop μ-loop
-add-j c = search needs
+mul-link : tie.Need-mul-link
+mul-link c = search needs
 
-loop-holds : tie.Need-loop-holds Inv-loop μ-loop
-loop-holds c =
-    let z : c .before .before .before .before .before .args .k - (c .before .before .before .before .before .args .i + 1) ≡ c .before .before .before .before .before .args .k - c .before .before .before .before .before .args .i - 1 = omega arith in (omega (arith, c .before .before .before .before .before .pre .2), rw z refl)
+add-link : tie.Need-add-link
+add-link c = search needs
 
-is-from-requires : tie.Need-is-from-requires Inv-loop μ-loop
-is-from-requires c κs =
-    let a = c .before .before .before .before .before .before .before .args in let f = c .before .before .before .before .before .before .before .pre .1 in
-    (c .before .before .before .before .before .before .before .pre .0, f, c .loop-test .taken, omega (arith, f .from (a .i) (c .before .before .before .before .before .before .before .pre .2), f .to (a .i) (c .before .before .before .before .before .before .before .pre .2), f .inside (a .i) (c .before .before .before .before .before .before .before .pre .2)))
+mul-link-2 : tie.Need-mul-link-2
+mul-link-2 c = search needs
 
-returns : tie.Need-returns Inv-loop μ-loop
+element-copy-out-link : tie.Need-element-copy-out-link
+element-copy-out-link c = search needs
+
+find-along-requires : tie.Need-find-along-requires
+unfolding slotOf
+find-along-requires c κs =
+    let a = c .before .before .before .before .before .before .args in let pre = c .before .before .before .before .before .before .pre in let f = pre .1 in
+    (pre .0, f, pre .2, omega (arith, f .from (a .i) (pre .3)), omega (arith, f .from (a .i) (pre .3), f .to (a .i) (pre .3), f .inside (a .i) (pre .3)), along-more (a .rules .now) (a .table .now) (a .k) (pre .2) (a .i) (pre .3))
+
+is-found-requires : tie.Need-is-found-requires
+is-found-requires c κs = search needs
+
+returns : tie.Need-returns
 unfolding fromWords
 returns c =
-    let a = c .before .before .before .before .before .before .before .before .before .args in let l = c .before .before .before .loop in
-    sym (among-here (nameBytes (a .pairs .now) (a .text .now)) (a .rules .now) (a .table .now) (l .j) (a .k) (fromWords (a .rules .now) (a .table .now) (a .i)) (c .before .before .loop-test .taken) (sym (c .before .is-from .ensures) ∙ c .if1 .taken)) ∙ l .inv .1
-
-add-j-2 : tie.Need-add-j-2 Inv-loop μ-loop
-add-j-2 c = search needs
-
-loop-less : tie.Need-loop-less Inv-loop μ-loop
-loop-less c = search needs
-
-loop-again : tie.Need-loop-again Inv-loop μ-loop
-unfolding fromWords
-loop-again c =
-    let a = c .before .before .before .before .before .before .before .before .before .args in let l = c .before .before .before .loop in
-    (omega (arith, c .before .before .loop-test .taken), sym (among-later (nameBytes (a .pairs .now) (a .text .now)) (a .rules .now) (a .table .now) (l .j) (a .k) (fromWords (a .rules .now) (a .table .now) (a .i)) (c .before .before .loop-test .taken) (sym (c .before .is-from .ensures) ∙ c .if1 .left)) ∙ l .inv .1)
-
-returns-2 : tie.Need-returns-2 Inv-loop μ-loop
-returns-2 c =
-    let a = c .before .before .before .before .before .before .before .args in let l = c .before .loop in
-    sym (among-never (nameBytes (a .pairs .now) (a .text .now)) (a .rules .now) (a .table .now) (l .j) (a .k) (fromWords (a .rules .now) (a .table .now) (a .i)) (c .loop-test .left)) ∙ l .inv .1
+    let a = c .before .before .before .before .before .before .before .before .args in let pre = c .before .before .before .before .before .before .before .before .pre in
+    c .is-found .ensures ∙ ap isFound (c .before .find-along .ensures) ∙ sym (among-along (nameBytes (a .pairs .now) (a .text .now)) (a .rules .now) (a .table .now) (pre .1) (pre .2) (a .i) (pre .3))
 
 pub is-among-spec : {M : Type 1} → statement M
 is-among-spec =
     tie.close
     (tie.spec
-    Inv-loop
-    μ-loop
     mul-start
     mul-start-2
     element-copy-out-start
@@ -91,11 +70,10 @@ is-among-spec =
     mul-count-2
     element-copy-out-count
     sub-count
-    add-j
-    loop-holds
-    is-from-requires
-    returns
-    add-j-2
-    loop-less
-    loop-again
-    returns-2)
+    mul-link
+    add-link
+    mul-link-2
+    element-copy-out-link
+    find-along-requires
+    is-found-requires
+    returns)

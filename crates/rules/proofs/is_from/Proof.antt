@@ -3,7 +3,7 @@ use Rattle.comparison.specs.Runs.{sameRuns}
 use Rattle.comparison.specs.declared.Due.the-variants.{Kind}
 use Rattle.encoding.specs.Tables.{nameBytes}
 use Rattle.rules.proofs.Steps.{from-uneven}
-use Rattle.rules.specs.Table.{fromWords}
+use Rattle.rules.specs.Table.{fromWords, isFrom}
 use lib.ListN.{drop, getD, take}
 use mathlib.Core.Path.{_∙_, ap, sym}
 use native.Mathlib.Omega.{arith}
@@ -37,6 +37,7 @@ sub-if1 c =
     omega (arith, c .before .before .before .before .before .before .pre .1 .from (c .before .before .before .before .before .before .args .i) (c .before .before .before .before .before .before .pre .2))
 
 returns : tie.Need-returns
+unfolding isFrom
 returns c =
     let a = c .before .before .before .before .before .before .before .args in
     sym (from-uneven (nameBytes (a .pairs .now) (a .text .now)) (a .rules .now) (a .table .now) (a .out .now) (a .k) (a .i) (a .start) (a .count) (c .before .before .before .before .before .before .before .pre .1) (c .before .before .before .before .before .before .before .pre .2) (c .before .before .before .before .before .before .before .pre .3) (c .if1 .taken))
@@ -47,7 +48,7 @@ same-words-requires c κs =
     (c .before .before .before .before .before .before .before .pre .0, c .before .before .before .before .before .before .before .pre .3, omega (arith, c .if1 .left, f .from (a .i) (c .before .before .before .before .before .before .before .pre .2), f .to (a .i) (c .before .before .before .before .before .before .before .pre .2), f .inside (a .i) (c .before .before .before .before .before .before .before .pre .2)))
 
 returns-2 : tie.Need-returns-2
-unfolding fromWords
+unfolding isFrom fromWords
 returns-2 c =
     let a = c .before .before .before .before .before .before .before .before .args in
     c .same-words .ensures ∙ ap (λ n. sameRuns (nameBytes (a .pairs .now) (a .text .now)) Kind (take (a .count) (drop (a .start) (a .out .now))) (take n (drop (getD (a .table .now) (4 * a .i) 0) (a .rules .now)))) (sym (c .before .if1 .left))

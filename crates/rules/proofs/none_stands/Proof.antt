@@ -18,7 +18,7 @@ loop-holds : tie.Need-loop-holds Inv-loop μ-loop
 loop-holds c = refl
 
 some-stands-requires : tie.Need-some-stands-requires Inv-loop μ-loop
-some-stands-requires c κs = let pre = c .before .before .before .before .before .before .pre in (pre .0, pre .1, c .loop-test .taken)
+some-stands-requires c κs = let pre = c .before .before .before .before .before .before .pre in (pre .0, pre .1, pre .2, c .loop-test .taken)
 
 returns : tie.Need-returns Inv-loop μ-loop
 returns c =

@@ -1,7 +1,5 @@
 use Prim.Native.Nat.{_-_}
-use Rattle.rules.proofs.Lists.{Filling, filling-ends, filling-more, filling-starts, filling-stops, rule-found, rule-stop, rule-there}
-use Rattle.trees.specs.Places.{place}
-use native.Mathlib.Omega.{arith}
+use Rattle.rules.proofs.Lists.{Filling, filling-ends, filling-more, filling-starts, filling-stops, rule-found, rule-stop}
 use borrow.Author.Needs.{needs}
 use Rattle.rules.proofs.scan_list.Statement.{statement}
 use Rattle.rules.proofs.scan_list.Tie as tie
@@ -22,20 +20,6 @@ scan-rule-requires c κs = search needs
 enum-known-middle : tie.Need-enum-known-middle Inv-loop μ-loop
 enum-known-middle c = search needs
 
-mul-enter-kind : tie.Need-mul-enter-kind Inv-loop μ-loop
-mul-enter-kind c =
-    let a = c .before .before .before .before .before .before .before .before .before .before .args in let l = c .before .before .before .before .before .before .loop in
-    let h = rule-there (a .rules .now) (a .pairs .now) (a .n) (a .at) (l .inv .inside) (rule-found (c .before .before .before .before .scan-rule .ensures) (c .before .before .middle .given .1)) in
-    omega (arith, h, c .before .before .before .before .before .before .before .before .before .before .pre .1)
-
-shared-slice-read-enter-kind : tie.Need-shared-slice-read-enter-kind Inv-loop μ-loop
-shared-slice-read-enter-kind c =
-    let a = c .before .before .before .before .before .before .before .before .before .before .before .args in let l = c .before .before .before .before .before .before .before .loop in
-    rule-there (a .rules .now) (a .pairs .now) (a .n) (a .at) (l .inv .inside) (rule-found (c .before .before .before .before .before .scan-rule .ensures) (c .before .before .before .middle .given .1))
-
-enter-kind-requires : tie.Need-enter-kind-requires Inv-loop μ-loop
-enter-kind-requires c κs = search needs
-
 enter-rule-requires : tie.Need-enter-rule-requires Inv-loop μ-loop
 enter-rule-requires c κs = search needs
 
@@ -55,8 +39,8 @@ loop-less c = search needs
 
 loop-again : tie.Need-loop-again Inv-loop μ-loop
 loop-again c =
-    let a = c .before .before .before .before .before .before .before .before .before .before .before .before .before .before .args in let l = c .before .before .before .before .before .before .before .before .before .before .loop in
-    rw (c .enter-rule .ensures, c .before .before .enter-kind .ensures) (filling-more (a .rules .now) (a .pairs .now) (a .n) (a .at) (c .before .before .before .before .before .before .before .before .before .loop-test .taken) (c .before .before .before .before .before .before .before .before .before .before .before .before .before .before .pre .2) (l .inv) (rule-found (c .before .before .before .before .before .before .before .before .scan-rule .ensures) (c .before .before .before .before .before .before .middle .given .1)))
+    let a = c .before .before .before .before .before .before .before .before .before .before .before .args in let l = c .before .before .before .before .before .before .before .loop in
+    rw (c .enter-rule .ensures) (filling-more (a .rules .now) (a .pairs .now) (a .n) (a .at) (c .before .before .before .before .before .before .loop-test .taken) (c .before .before .before .before .before .before .before .before .before .before .before .pre .2) (l .inv) (rule-found (c .before .before .before .before .before .scan-rule .ensures) (c .before .before .before .middle .given .1)))
 
 returns-2 : tie.Need-returns-2 Inv-loop μ-loop
 returns-2 c =
@@ -72,9 +56,6 @@ scan-list-spec =
     loop-holds
     scan-rule-requires
     enum-known-middle
-    mul-enter-kind
-    shared-slice-read-enter-kind
-    enter-kind-requires
     enter-rule-requires
     enum-known-r
     returns

@@ -1,7 +1,5 @@
-use Rattle.rules.proofs.Lists.{from-stops, measured-no-tree, measured-tree, one-type, rule-read, rule-stops, to-stops}
-use Rattle.trees.proofs.Heads.{tree-here}
+use Rattle.rules.proofs.Lists.{from-stops, measured-no-tree, measured-tree, rule-read, rule-stops, to-stops}
 use Rattle.trees.specs.Numbered.{treeAt}
-use native.Mathlib.Omega.{arith}
 use borrow.Author.Needs.{needs}
 use Rattle.rules.proofs.scan_rule.Statement.{statement}
 use Rattle.rules.proofs.scan_rule.Tie as tie
@@ -18,13 +16,6 @@ measure-type-requires-2 c κs = search needs
 enum-known-end : tie.Need-enum-known-end
 enum-known-end c = search needs
 
-deepest-requires : tie.Need-deepest-requires
-deepest-requires c κs =
-    let a = c .before .before .before .before .before .before .before .before .before .before .before .args in
-    let f = measured-tree (a .rules .now) (a .pairs .now) (a .text .now) (a .at) (c .before .before .before .before .before .before .before .measure-type .ensures) (c .before .before .before .before .before .middle .given .1) in
-    let t = measured-tree (a .rules .now) (a .pairs .now) (a .text .now) (c .before .before .before .before .before .middle .given .0 .0) (c .before .before .before .measure-type2 .ensures) (c .before .end .given .1) in
-    (omega (arith, tree-here (a .rules .now) (a .pairs .now) _ (t .1)), one-type (a .rules .now) (a .pairs .now) _ (t .1))
-
 enum-known-r : tie.Need-enum-known-r
 enum-known-r c = search needs
 
@@ -33,10 +24,8 @@ enum-known-r-2 c = search needs
 
 returns : tie.Need-returns
 returns c =
-    let a = c .before .before .before .before .before .before .before .before .before .before .before .before .args in
-    let f = measured-tree (a .rules .now) (a .pairs .now) (a .text .now) (a .at) (c .before .before .before .before .before .before .before .before .measure-type .ensures) (c .before .before .before .before .before .before .middle .given .1) in
-    let t = measured-tree (a .rules .now) (a .pairs .now) (a .text .now) (c .before .before .before .before .before .before .middle .given .0 .0) (c .before .before .before .before .measure-type2 .ensures) (c .before .before .end .given .1) in
-    rule-read (a .rules .now) (a .pairs .now) (a .at) f t _ (c .deepest .ensures)
+    let a = c .before .before .before .before .before .before .before .before .before .before .before .args in
+    rule-read (a .rules .now) (a .pairs .now) (a .at) (measured-tree (a .rules .now) (a .pairs .now) (a .text .now) (a .at) (c .before .before .before .before .before .before .before .measure-type .ensures) (c .before .before .before .before .before .middle .given .1)) (measured-tree (a .rules .now) (a .pairs .now) (a .text .now) (c .before .before .before .before .before .middle .given .0 .0) (c .before .before .before .measure-type2 .ensures) (c .before .end .given .1))
 
 returns-2 : tie.Need-returns-2
 returns-2 c =
@@ -57,7 +46,6 @@ scan-rule-spec =
     enum-known-middle
     measure-type-requires-2
     enum-known-end
-    deepest-requires
     enum-known-r
     enum-known-r-2
     returns

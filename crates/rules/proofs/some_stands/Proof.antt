@@ -1,64 +1,97 @@
-use Prim.Native.Nat.{_-_, _≤_}
+use Prim.Native.Nat.{suc, _+_, _-_, _*_, _<_}
 use Rattle.encoding.specs.Tables.{nameBytes}
-use Rattle.rules.proofs.Steps.{none-begins-there, some-here, some-later, some-never}
-use Rattle.rules.specs.Table.{someStands}
-use lib.ListN.{drop}
-use mathlib.Core.Path.{_∙_, _≡_, refl, sym}
+use Rattle.rules.proofs.Links.{along-first, along-here, along-more, along-none, along-on, some-along, togo, togo-less}
+use Rattle.rules.proofs.Steps.{stands-missed}
+use Rattle.rules.specs.Table.{Along, firstAlong, isFound, slot, someStands, stands}
+use lib.ListN.{drop, getD}
+use mathlib.Core.Path.{_∙_, _≡_, ap, subst, sym}
 use native.Mathlib.Omega.{arith}
 use borrow.Author.Needs.{needs}
 use Rattle.rules.proofs.some_stands.Statement.{statement}
 use Rattle.rules.proofs.some_stands.Tie as tie
 
 abbrev Inv-loop : tie.InvT-loop
-Inv-loop rules pairs text table k words at i₀ i =
-    (i ≤ k) × (someStands (nameBytes pairs text) rules table i (k - i) (drop at words) ≡ someStands (nameBytes pairs text) rules table 0 k (drop at words))
+Inv-loop rules pairs text table k words at next₀ next =
+    Along rules table k (slot (getD words at 0)) next
+    × (isFound (firstAlong (stands (nameBytes pairs text) rules table (drop at words)) k next) ≡ someStands (nameBytes pairs text) rules table 0 k (drop at words))
 
 abbrev μ-loop : tie.MeasureT-loop
-μ-loop rules pairs text table k words at i₀ i = k - i
+μ-loop rules pairs text table k words at next₀ next = togo k next
 
-mul-begins-none : tie.Need-mul-begins-none Inv-loop μ-loop
-mul-begins-none c = search needs
+mul-slot-of : tie.Need-mul-slot-of Inv-loop μ-loop
+mul-slot-of c = search needs
 
-shared-slice-read-begins-none : tie.Need-shared-slice-read-begins-none Inv-loop μ-loop
-shared-slice-read-begins-none c = search needs
+shared-slice-read-slot-of : tie.Need-shared-slice-read-slot-of Inv-loop μ-loop
+shared-slice-read-slot-of c = search needs
 
-begins-none-requires : tie.Need-begins-none-requires Inv-loop μ-loop
-begins-none-requires c κs = search needs
+slot-of-requires : tie.Need-slot-of-requires Inv-loop μ-loop
+slot-of-requires c κs = search needs
 
-returns : tie.Need-returns Inv-loop μ-loop
-returns c =
-    let a = c .before .before .before .before .before .before .before .args in let pre = c .before .before .before .before .before .before .before .pre in
-    sym (none-begins-there (nameBytes (a .pairs .now) (a .text .now)) (a .rules .now) (a .table .now) (pre .1) (a .words .now) (a .at) (pre .2) (sym (c .before .begins-none .ensures) ∙ c .if1 .taken))
+mul-next : tie.Need-mul-next Inv-loop μ-loop
+mul-next c = search needs
+
+element-copy-out-next : tie.Need-element-copy-out-next Inv-loop μ-loop
+element-copy-out-next c = search needs
 
 loop-holds : tie.Need-loop-holds Inv-loop μ-loop
 loop-holds c =
-    let k = c .before .before .before .before .before .before .before .args .k in
-    let z : k - 0 ≡ k = omega arith in
-    (omega arith, rw z refl)
+    let a = c .before .before .before .before .before .before .before .args in let pre = c .before .before .before .before .before .before .before .pre in let s = c .before .slot-of .ensures in
+    rw (s .0) (along-first (a .rules .now) (a .table .now) (a .k) (pre .2) (slot (getD (a .words .now) (a .at) 0)) (omega (arith, s .0, s .1)) (omega (arith, s .0, s .2)), sym (some-along (nameBytes (a .pairs .now) (a .text .now)) (a .rules .now) (a .table .now) (pre .1) (pre .2) (a .words .now) (a .at) (pre .3)))
+
+sub-i : tie.Need-sub-i Inv-loop μ-loop
+sub-i c = search needs
 
 stands-at-requires : tie.Need-stands-at-requires Inv-loop μ-loop
-stands-at-requires c κs = let pre = c .before .before .before .before .before .before .before .before .before .pre in (pre .0, pre .1, c .loop-test .taken, pre .2)
+stands-at-requires c κs =
+    let a = c .before .before .before .before .before .before .before .before .before .args in let pre = c .before .before .before .before .before .before .before .before .before .pre in let l = c .before .loop in
+    let z : l .next ≡ suc (l .next - 1) = omega (arith, c .loop-test .taken) in
+    (pre .0, pre .1, l .inv .0 .within _ z, pre .3)
 
-returns-2 : tie.Need-returns-2 Inv-loop μ-loop
-returns-2 c =
-    let a = c .before .before .before .before .before .before .before .before .before .before .before .args in let l = c .before .before .before .loop in
-    sym (some-here (nameBytes (a .pairs .now) (a .text .now)) (a .rules .now) (a .table .now) (l .i) (a .k) (drop (a .at) (a .words .now)) (c .before .before .loop-test .taken) (sym (c .before .stands-at .ensures) ∙ c .if2 .taken)) ∙ l .inv .1
+returns : tie.Need-returns Inv-loop μ-loop
+unfolding isFound
+returns c =
+    let a = c .before .before .before .before .before .before .before .before .before .before .before .args in let pre = c .before .before .before .before .before .before .before .before .before .before .before .pre in let l = c .before .before .before .loop in
+    let z : l .next ≡ suc (l .next - 1) = omega (arith, c .before .before .loop-test .taken) in
+    sym (sym (l .inv .1) ∙ ap isFound (ap (firstAlong (stands (nameBytes (a .pairs .now) (a .text .now)) (a .rules .now) (a .table .now) (drop (a .at) (a .words .now))) (a .k)) z ∙ along-here (a .rules .now) (a .table .now) (a .k) (pre .2) (stands (nameBytes (a .pairs .now) (a .text .now)) (a .rules .now) (a .table .now) (drop (a .at) (a .words .now))) (slot (getD (a .words .now) (a .at) 0)) (stands-missed (nameBytes (a .pairs .now) (a .text .now)) (a .rules .now) (a .table .now) (pre .1) (a .words .now) (a .at) (pre .3)) (l .next - 1) (l .inv .0 .within _ z) (sym (c .before .stands-at .ensures) ∙ c .if1 .taken)))
 
-add-i : tie.Need-add-i Inv-loop μ-loop
-add-i c = search needs
+mul-next-2 : tie.Need-mul-next-2 Inv-loop μ-loop
+mul-next-2 c =
+    let a = c .before .before .before .before .before .before .before .before .before .before .before .args in let pre = c .before .before .before .before .before .before .before .before .before .before .before .pre in let l = c .before .before .before .loop in
+    let z : l .next ≡ suc (l .next - 1) = omega (arith, c .before .before .loop-test .taken) in omega (arith, l .inv .0 .within _ z, pre .1 .few)
+
+add-next : tie.Need-add-next Inv-loop μ-loop
+add-next c =
+    let a = c .before .before .before .before .before .before .before .before .before .before .before .args in let pre = c .before .before .before .before .before .before .before .before .before .before .before .pre in let l = c .before .before .before .loop in
+    let z : l .next ≡ suc (l .next - 1) = omega (arith, c .before .before .loop-test .taken) in omega (arith, l .inv .0 .within _ z, pre .1 .few)
+
+mul-next-3 : tie.Need-mul-next-3 Inv-loop μ-loop
+mul-next-3 c =
+    let a = c .before .before .before .before .before .before .before .before .before .before .before .args in let pre = c .before .before .before .before .before .before .before .before .before .before .before .pre in let l = c .before .before .before .loop in
+    let z : l .next ≡ suc (l .next - 1) = omega (arith, c .before .before .loop-test .taken) in omega (arith, l .inv .0 .within _ z, pre .1 .few)
+
+element-copy-out-next-2 : tie.Need-element-copy-out-next-2 Inv-loop μ-loop
+element-copy-out-next-2 c =
+    let a = c .before .before .before .before .before .before .before .before .before .before .before .args in let pre = c .before .before .before .before .before .before .before .before .before .before .before .pre in let l = c .before .before .before .loop in
+    let z : l .next ≡ suc (l .next - 1) = omega (arith, c .before .before .loop-test .taken) in omega (arith, l .inv .0 .within _ z, pre .1 .few)
 
 loop-less : tie.Need-loop-less Inv-loop μ-loop
-loop-less c = search needs
+loop-less c =
+    let a = c .before .before .before .before .before .before .before .before .before .before .before .before .args in let pre = c .before .before .before .before .before .before .before .before .before .before .before .before .pre in let l = c .before .before .before .before .loop in
+    let z : l .next ≡ suc (l .next - 1) = omega (arith, c .before .before .before .loop-test .taken) in
+    subst (λ n. togo (a .k) (getD (a .table .now) (4 * (l .next - 1) + 3) 0) < togo (a .k) n) (sym z) (togo-less (a .rules .now) (a .table .now) (a .k) (pre .2) (l .next - 1) (l .inv .0 .within _ z))
 
 loop-again : tie.Need-loop-again Inv-loop μ-loop
 loop-again c =
-    let a = c .before .before .before .before .before .before .before .before .before .before .before .args in let l = c .before .before .before .loop in
-    (omega (arith, c .before .before .loop-test .taken), sym (some-later (nameBytes (a .pairs .now) (a .text .now)) (a .rules .now) (a .table .now) (l .i) (a .k) (drop (a .at) (a .words .now)) (c .before .before .loop-test .taken) (sym (c .before .stands-at .ensures) ∙ c .if2 .left)) ∙ l .inv .1)
+    let a = c .before .before .before .before .before .before .before .before .before .before .before .before .args in let pre = c .before .before .before .before .before .before .before .before .before .before .before .before .pre in let l = c .before .before .before .before .loop in
+    let z : l .next ≡ suc (l .next - 1) = omega (arith, c .before .before .before .loop-test .taken) in
+    (subst (λ s. Along (a .rules .now) (a .table .now) (a .k) s (getD (a .table .now) (4 * (l .next - 1) + 3) 0)) (l .inv .0 .slots _ z) (along-more (a .rules .now) (a .table .now) (a .k) (pre .2) (l .next - 1) (l .inv .0 .within _ z)), ap isFound (sym (along-on (a .rules .now) (a .table .now) (a .k) (pre .2) (stands (nameBytes (a .pairs .now) (a .text .now)) (a .rules .now) (a .table .now) (drop (a .at) (a .words .now))) (slot (getD (a .words .now) (a .at) 0)) (stands-missed (nameBytes (a .pairs .now) (a .text .now)) (a .rules .now) (a .table .now) (pre .1) (a .words .now) (a .at) (pre .3)) (l .next - 1) (l .inv .0 .within _ z) (l .inv .0 .slots _ z) (sym (c .before .before .stands-at .ensures) ∙ c .before .if1 .left)) ∙ sym (ap (firstAlong (stands (nameBytes (a .pairs .now) (a .text .now)) (a .rules .now) (a .table .now) (drop (a .at) (a .words .now))) (a .k)) z)) ∙ l .inv .1)
 
-returns-3 : tie.Need-returns-3 Inv-loop μ-loop
-returns-3 c =
-    let a = c .before .before .before .before .before .before .before .before .before .args in let l = c .before .loop in
-    sym (some-never (nameBytes (a .pairs .now) (a .text .now)) (a .rules .now) (a .table .now) (l .i) (a .k) (drop (a .at) (a .words .now)) (c .loop-test .left)) ∙ l .inv .1
+returns-2 : tie.Need-returns-2 Inv-loop μ-loop
+unfolding isFound
+returns-2 c =
+    let a = c .before .before .before .before .before .before .before .before .before .args in let pre = c .before .before .before .before .before .before .before .before .before .pre in let l = c .before .loop in
+    let z : l .next ≡ 0 = omega (arith, c .loop-test .left) in
+    sym (sym (l .inv .1) ∙ ap isFound (ap (firstAlong (stands (nameBytes (a .pairs .now) (a .text .now)) (a .rules .now) (a .table .now) (drop (a .at) (a .words .now))) (a .k)) z ∙ along-none (stands (nameBytes (a .pairs .now) (a .text .now)) (a .rules .now) (a .table .now) (drop (a .at) (a .words .now))) (a .k)))
 
 pub some-stands-spec : {M : Type 1} → statement M
 some-stands-spec =
@@ -66,14 +99,19 @@ some-stands-spec =
     (tie.spec
     Inv-loop
     μ-loop
-    mul-begins-none
-    shared-slice-read-begins-none
-    begins-none-requires
-    returns
+    mul-slot-of
+    shared-slice-read-slot-of
+    slot-of-requires
+    mul-next
+    element-copy-out-next
     loop-holds
+    sub-i
     stands-at-requires
-    returns-2
-    add-i
+    returns
+    mul-next-2
+    add-next
+    mul-next-3
+    element-copy-out-next-2
     loop-less
     loop-again
-    returns-3)
+    returns-2)

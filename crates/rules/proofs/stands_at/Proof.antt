@@ -1,5 +1,7 @@
+use Rattle.comparison.proofs.Looks.{told-apart}
+use Rattle.comparison.specs.declared.Due.the-variants.{Kind}
 use Rattle.encoding.specs.Tables.{nameBytes}
-use Rattle.rules.proofs.Steps.{stands-other, stands-run, stands-short}
+use Rattle.rules.proofs.Steps.{stands-run, stands-short}
 use mathlib.Core.Path.{_∙_, sym}
 use native.Mathlib.Omega.{arith}
 use borrow.Author.Needs.{needs}
@@ -15,27 +17,6 @@ mul-from-2 c = search needs
 element-copy-out-from : tie.Need-element-copy-out-from
 element-copy-out-from c = search needs
 
-mul-if1 : tie.Need-mul-if1
-mul-if1 c =
-    let a = c .before .before .before .before .before .args in let f = c .before .before .before .before .before .pre .1 in let h = c .before .before .before .before .before .pre .2 in
-    omega (arith, f .from (a .i) h, f .to (a .i) h, f .inside (a .i) h, c .before .before .before .before .before .fits)
-
-shared-slice-read-if1 : tie.Need-shared-slice-read-if1
-shared-slice-read-if1 c =
-    let a = c .before .before .before .before .before .before .args in let f = c .before .before .before .before .before .before .pre .1 in let h = c .before .before .before .before .before .before .pre .2 in
-    omega (arith, f .from (a .i) h, f .to (a .i) h, f .inside (a .i) h)
-
-mul-if1-2 : tie.Need-mul-if1-2
-mul-if1-2 c = search needs
-
-shared-slice-read-if1-2 : tie.Need-shared-slice-read-if1-2
-shared-slice-read-if1-2 c = search needs
-
-returns : tie.Need-returns
-returns c =
-    let a = c .before .before .before .before .before .before .before .before .args in let f = c .before .before .before .before .before .before .before .before .pre .1 in let h = c .before .before .before .before .before .before .before .before .pre .2 in
-    sym (stands-other (nameBytes (a .pairs .now) (a .text .now)) (a .rules .now) (a .table .now) f (a .words .now) (a .at) (c .before .before .before .before .before .before .before .before .pre .3) (a .i) h (c .if1 .taken))
-
 mul-count : tie.Need-mul-count
 mul-count c = search needs
 
@@ -49,27 +30,35 @@ element-copy-out-count : tie.Need-element-copy-out-count
 element-copy-out-count c = search needs
 
 sub-count : tie.Need-sub-count
-sub-count c =
-    let a = c .before .before .before .before .before .before .before .before .before .args in let f = c .before .before .before .before .before .before .before .before .before .pre .1 in let h = c .before .before .before .before .before .before .before .before .before .pre .2 in
-    omega (arith, f .from (a .i) h)
+sub-count c = omega (arith, c .before .before .before .before .before .before .pre .1 .from (c .before .before .before .before .before .before .args .i) (c .before .before .before .before .before .before .pre .2))
 
-sub-if2 : tie.Need-sub-if2
-sub-if2 c = search needs
+sub-if1 : tie.Need-sub-if1
+sub-if1 c = search needs
+
+returns : tie.Need-returns
+returns c =
+    let a = c .before .before .before .before .before .before .before .args in let pre = c .before .before .before .before .before .before .before .pre in
+    sym (stands-short (nameBytes (a .pairs .now) (a .text .now)) (a .rules .now) (a .table .now) (pre .1) (a .words .now) (a .at) (pre .3) (a .i) (pre .2) (c .if1 .taken))
+
+are-apart-requires : tie.Need-are-apart-requires
+are-apart-requires c κs =
+    let a = c .before .before .before .before .before .before .before .args in let pre = c .before .before .before .before .before .before .before .pre in let f = pre .1 in
+    (omega (arith, c .if1 .left, pre .3), omega (arith, f .from (a .i) (pre .2), f .to (a .i) (pre .2), f .inside (a .i) (pre .2)))
 
 returns-2 : tie.Need-returns-2
 returns-2 c =
-    let a = c .before .before .before .before .before .before .before .before .before .before .args in let f = c .before .before .before .before .before .before .before .before .before .before .pre .1 in let h = c .before .before .before .before .before .before .before .before .before .before .pre .2 in
-    sym (stands-short (nameBytes (a .pairs .now) (a .text .now)) (a .rules .now) (a .table .now) f (a .words .now) (a .at) (c .before .before .before .before .before .before .before .before .before .before .pre .3) (a .i) h (c .if2 .taken))
+    let a = c .before .before .before .before .before .before .before .before .before .args in let pre = c .before .before .before .before .before .before .before .before .before .pre in
+    sym (stands-run (nameBytes (a .pairs .now) (a .text .now)) (a .rules .now) (a .table .now) (pre .1) (a .words .now) (a .at) (pre .3) (a .i) (pre .2) ∙ told-apart (a .pairs .now) (a .text .now) Kind _ _ (sym (c .before .are-apart .ensures) ∙ c .if2 .taken))
 
 same-words-requires : tie.Need-same-words-requires
 same-words-requires c κs =
-    let a = c .before .before .before .before .before .before .before .before .before .before .args in let f = c .before .before .before .before .before .before .before .before .before .before .pre .1 in let h = c .before .before .before .before .before .before .before .before .before .before .pre .2 in
-    (c .before .before .before .before .before .before .before .before .before .before .pre .0, omega (arith, c .if2 .left, c .before .before .before .before .before .before .before .before .before .before .pre .3), omega (arith, f .from (a .i) h, f .to (a .i) h, f .inside (a .i) h))
+    let a = c .before .before .before .before .before .before .before .before .before .args in let pre = c .before .before .before .before .before .before .before .before .before .pre in let f = pre .1 in
+    (pre .0, omega (arith, c .before .before .if1 .left, pre .3), omega (arith, f .from (a .i) (pre .2), f .to (a .i) (pre .2), f .inside (a .i) (pre .2)))
 
 returns-3 : tie.Need-returns-3
 returns-3 c =
-    let a = c .before .before .before .before .before .before .before .before .before .before .before .args in let f = c .before .before .before .before .before .before .before .before .before .before .before .pre .1 in let h = c .before .before .before .before .before .before .before .before .before .before .before .pre .2 in
-    c .same-words .ensures ∙ sym (stands-run (nameBytes (a .pairs .now) (a .text .now)) (a .rules .now) (a .table .now) f (a .words .now) (a .at) (c .before .before .before .before .before .before .before .before .before .before .before .pre .3) (a .i) h)
+    let a = c .before .before .before .before .before .before .before .before .before .before .args in let pre = c .before .before .before .before .before .before .before .before .before .before .pre in
+    c .same-words .ensures ∙ sym (stands-run (nameBytes (a .pairs .now) (a .text .now)) (a .rules .now) (a .table .now) (pre .1) (a .words .now) (a .at) (pre .3) (a .i) (pre .2))
 
 pub stands-at-spec : {M : Type 1} → statement M
 stands-at-spec =
@@ -78,17 +67,14 @@ stands-at-spec =
     mul-from
     mul-from-2
     element-copy-out-from
-    mul-if1
-    shared-slice-read-if1
-    mul-if1-2
-    shared-slice-read-if1-2
-    returns
     mul-count
     add-count
     mul-count-2
     element-copy-out-count
     sub-count
-    sub-if2
+    sub-if1
+    returns
+    are-apart-requires
     returns-2
     same-words-requires
     returns-3)

@@ -10,37 +10,55 @@ use native.Mathlib.Omega.{arith}
 use borrow.Author.Needs.{needs}
 use borrow.Fn.Kinds.{In}
 use borrow.Fn.PlainCycle.{Measures, is, falls, and}
-use Rattle.rebuild.proofs.rebuild_type.Reads as rebuild-type
-use Rattle.rebuild.proofs.rebuild_type.Kinds as rebuild-type-kinds
-use Rattle.rebuild.proofs.+rebuild_type+rebuild_types.Lts-rebuild_type as rebuild-type-lts
+use Rattle.rebuild.proofs.rebuild_below.Reads as rebuild-below
+use Rattle.rebuild.proofs.rebuild_below.Kinds as rebuild-below-kinds
+use Rattle.rebuild.proofs.+rebuild_below+rebuild_next+rebuild_types.Lts-rebuild_below as rebuild-below-lts
+use Rattle.rebuild.proofs.rebuild_next.Reads as rebuild-next
+use Rattle.rebuild.proofs.rebuild_next.Kinds as rebuild-next-kinds
+use Rattle.rebuild.proofs.+rebuild_below+rebuild_next+rebuild_types.Lts-rebuild_next as rebuild-next-lts
 use Rattle.rebuild.proofs.rebuild_types.Reads as rebuild-types
 use Rattle.rebuild.proofs.rebuild_types.Kinds as rebuild-types-kinds
-use Rattle.rebuild.proofs.+rebuild_type+rebuild_types.Lts-rebuild_types as rebuild-types-lts
+use Rattle.rebuild.proofs.+rebuild_below+rebuild_next+rebuild_types.Lts-rebuild_types as rebuild-types-lts
 use Rattle.encoding.proofs.own_end.Reads as own-end-reads
 use Rattle.encoding.proofs.types_below.Reads as types-below-reads
 use Rattle.rebuild.proofs.lay.Reads as lay-reads
 use Rattle.rebuild.proofs.settle.Reads as settle-reads
 use Rattle.rules.proofs.larger.Reads as larger-reads
-use Rattle.rebuild.proofs.+rebuild_type+rebuild_types.{statement}
-use Rattle.rebuild.proofs.+rebuild_type+rebuild_types.Tie.{close}
+use Rattle.rebuild.proofs.+rebuild_below+rebuild_next+rebuild_types.{statement}
+use Rattle.rebuild.proofs.+rebuild_below+rebuild_next+rebuild_types.Tie.{close}
 
-abbrev μ-rebuild-type : Measures 6 rebuild-type-kinds.ps ℕ
-μ-rebuild-type κs a = 2 * (length (a .0 .now) - a .1 .1 .1 .1 .1 .1 .0)
+abbrev μ-rebuild-below : Measures 6 rebuild-below-kinds.ps ℕ
+μ-rebuild-below κs a = 3 * (length (a .0 .now) - a .1 .1 .1 .1 .1 .1 .0) + 2
+
+abbrev μ-rebuild-next : Measures 6 rebuild-next-kinds.ps ℕ
+μ-rebuild-next κs a = 3 * (length (a .0 .now) - a .1 .1 .1 .1 .1 .1 .0)
 
 abbrev μ-rebuild-types : Measures 6 rebuild-types-kinds.ps ℕ
-μ-rebuild-types κs a = 2 * (length (a .0 .now) - a .1 .1 .1 .1 .1 .1 .0) + 1
+μ-rebuild-types κs a = 3 * (length (a .0 .now) - a .1 .1 .1 .1 .1 .1 .0) + 1
 
-abbrev rebuild-type-at : ℕ → In 6 rebuild-type-kinds.ps
-rebuild-type-at t =
-    and 6 rebuild-type-kinds.ps (is 6 rebuild-type-kinds.ps μ-rebuild-type t) rebuild-type.Pre
+abbrev rebuild-below-at : ℕ → In 6 rebuild-below-kinds.ps
+rebuild-below-at t =
+    and 6 rebuild-below-kinds.ps (is 6 rebuild-below-kinds.ps μ-rebuild-below t) rebuild-below.Pre
 
-abbrev rebuild-type-below : ℕ → In 6 rebuild-type-kinds.ps
-rebuild-type-below t =
+abbrev rebuild-below-below : ℕ → In 6 rebuild-below-kinds.ps
+rebuild-below-below t =
     and
     6
-    rebuild-type-kinds.ps
-    (falls 6 rebuild-type-kinds.ps _<_ μ-rebuild-type t)
-    rebuild-type.Pre
+    rebuild-below-kinds.ps
+    (falls 6 rebuild-below-kinds.ps _<_ μ-rebuild-below t)
+    rebuild-below.Pre
+
+abbrev rebuild-next-at : ℕ → In 6 rebuild-next-kinds.ps
+rebuild-next-at t =
+    and 6 rebuild-next-kinds.ps (is 6 rebuild-next-kinds.ps μ-rebuild-next t) rebuild-next.Pre
+
+abbrev rebuild-next-below : ℕ → In 6 rebuild-next-kinds.ps
+rebuild-next-below t =
+    and
+    6
+    rebuild-next-kinds.ps
+    (falls 6 rebuild-next-kinds.ps _<_ μ-rebuild-next t)
+    rebuild-next.Pre
 
 abbrev rebuild-types-at : ℕ → In 6 rebuild-types-kinds.ps
 rebuild-types-at t =
@@ -54,59 +72,78 @@ rebuild-types-below t =
     (falls 6 rebuild-types-kinds.ps _<_ μ-rebuild-types t)
     rebuild-types.Pre
 
-abbrev rebuild-type-calls : ℕ → rebuild-type-lts.Claims
-rebuild-type-calls t = (own-end-reads.Asked, own-end-reads.Learnt, lay-reads.Asked, lay-reads.Learnt, types-below-reads.Asked, types-below-reads.Learnt, rebuild-types-below t, rebuild-types.Post, settle-reads.Asked, settle-reads.Learnt)
+abbrev rebuild-below-calls : ℕ → rebuild-below-lts.Claims
+rebuild-below-calls t = (rebuild-types-below t, rebuild-types.Post)
+
+abbrev rebuild-next-calls : ℕ → rebuild-next-lts.Claims
+rebuild-next-calls t = (own-end-reads.Asked, own-end-reads.Learnt, lay-reads.Asked, lay-reads.Learnt, types-below-reads.Asked, types-below-reads.Learnt, rebuild-below-below t, rebuild-below.Post, settle-reads.Asked, settle-reads.Learnt)
 
 abbrev rebuild-types-calls : ℕ → rebuild-types-lts.Claims
-rebuild-types-calls t = (rebuild-type-below t, rebuild-type.Post, larger-reads.Asked, larger-reads.Learnt)
+rebuild-types-calls t = (rebuild-next-below t, rebuild-next.Post, larger-reads.Asked, larger-reads.Learnt)
 
-rebuild-type-own-end-requires : (t : ℕ) → rebuild-type-lts.Need-own-end-requires (rebuild-type-calls t) (rebuild-type-at t) rebuild-type.Post
-rebuild-type-own-end-requires t c κs =
+rebuild-below-returns : (t : ℕ) → rebuild-below-lts.Need-returns (rebuild-below-calls t) (rebuild-below-at t) rebuild-below.Post
+rebuild-below-returns t c =
+    let s = c .before .before .before .before .before .before in
+    let a = s .args in
+    let m = mapping (a .rules .now) (a .pairs .now) (a .text .now) in
+    rebuilding-ends (a .words .now) (a .pairs .now) m (a .at) (a .n) (a .limit) (a .out .now) (a .pos) (c .if1 .taken) (rebuilding-starts (a .words .now) (a .pairs .now) m (a .at) (a .n) (a .limit) (a .out .now) (a .pos) (s .pre .1 .2) (s .pre .1 .4) (s .pre .1 .5) (s .pre .1 .3))
+
+rebuild-below-rebuild-types-requires : (t : ℕ) → rebuild-below-lts.Need-rebuild-types-requires (rebuild-below-calls t) (rebuild-below-at t) rebuild-below.Post
+rebuild-below-rebuild-types-requires t c κs = let s = c .before .before .before .before .before .before .before in (omega (arith, s .pre .0), s .pre .1)
+
+rebuild-below-same-length : (t : ℕ) → rebuild-below-lts.Need-same-length (rebuild-below-calls t) (rebuild-below-at t) rebuild-below.Post
+rebuild-below-same-length t c = search needs
+
+rebuild-below-returns-2 : (t : ℕ) → rebuild-below-lts.Need-returns-2 (rebuild-below-calls t) (rebuild-below-at t) rebuild-below.Post
+rebuild-below-returns-2 t c = c .before .before .rebuild-types .ensures
+
+rebuild-next-own-end-requires : (t : ℕ) → rebuild-next-lts.Need-own-end-requires (rebuild-next-calls t) (rebuild-next-at t) rebuild-next.Post
+rebuild-next-own-end-requires t c κs =
     let s = c .before .before .before .before .before in
     let a = s .args in
     head-here (a .words .now) (a .pairs .now) (a .at) (s .pre .1 .2 .reads)
 
-rebuild-type-sub-lay : (t : ℕ) → rebuild-type-lts.Need-sub-lay (rebuild-type-calls t) (rebuild-type-at t) rebuild-type.Post
-rebuild-type-sub-lay t c =
+rebuild-next-sub-lay : (t : ℕ) → rebuild-next-lts.Need-sub-lay (rebuild-next-calls t) (rebuild-next-at t) rebuild-next.Post
+rebuild-next-sub-lay t c =
     let s = c .before .before .before .before .before .before in
     let a = s .args in
     let m = mapping (a .rules .now) (a .pairs .now) (a .text .now) in
     let w = own-fits (a .words .now) (a .pairs .now) (a .at) m (s .pre .1 .2 .reads) (c .own-end .ensures) in
     omega (arith, w .0)
 
-rebuild-type-lay-requires : (t : ℕ) → rebuild-type-lts.Need-lay-requires (rebuild-type-calls t) (rebuild-type-at t) rebuild-type.Post
-rebuild-type-lay-requires t c κs =
+rebuild-next-lay-requires : (t : ℕ) → rebuild-next-lts.Need-lay-requires (rebuild-next-calls t) (rebuild-next-at t) rebuild-next.Post
+rebuild-next-lay-requires t c κs =
     let s = c .before .before .before .before .before .before .before in
     let a = s .args in
     let m = mapping (a .rules .now) (a .pairs .now) (a .text .now) in
     let w = own-fits (a .words .now) (a .pairs .now) (a .at) m (s .pre .1 .2 .reads) (c .before .own-end .ensures) in
     (omega (arith, w .0, w .1), s .pre .1 .3, s .pre .1 .4)
 
-rebuild-type-enum-known-p : (t : ℕ) → rebuild-type-lts.Need-enum-known-p (rebuild-type-calls t) (rebuild-type-at t) rebuild-type.Post
-rebuild-type-enum-known-p t c = search needs
+rebuild-next-enum-known-p : (t : ℕ) → rebuild-next-lts.Need-enum-known-p (rebuild-next-calls t) (rebuild-next-at t) rebuild-next.Post
+rebuild-next-enum-known-p t c = search needs
 
-rebuild-type-enum-told : (t : ℕ) → rebuild-type-lts.Need-enum-told (rebuild-type-calls t) (rebuild-type-at t) rebuild-type.Post
-rebuild-type-enum-told t c = search needs
+rebuild-next-enum-told : (t : ℕ) → rebuild-next-lts.Need-enum-told (rebuild-next-calls t) (rebuild-next-at t) rebuild-next.Post
+rebuild-next-enum-told t c = search needs
 
-rebuild-type-same-length : (t : ℕ) → rebuild-type-lts.Need-same-length (rebuild-type-calls t) (rebuild-type-at t) rebuild-type.Post
-rebuild-type-same-length t c = search needs
+rebuild-next-same-length : (t : ℕ) → rebuild-next-lts.Need-same-length (rebuild-next-calls t) (rebuild-next-at t) rebuild-next.Post
+rebuild-next-same-length t c = search needs
 
-rebuild-type-returns : (t : ℕ) → rebuild-type-lts.Need-returns (rebuild-type-calls t) (rebuild-type-at t) rebuild-type.Post
-rebuild-type-returns t c =
+rebuild-next-returns : (t : ℕ) → rebuild-next-lts.Need-returns (rebuild-next-calls t) (rebuild-next-at t) rebuild-next.Post
+rebuild-next-returns t c =
     let s = c .before .before .before .before .before .before .before .before .before .before .before .before in
     let a = s .args in
     let m = mapping (a .rules .now) (a .pairs .now) (a .text .now) in
     let l = lays-over (c .before .before .before .before .lay .ensures) (c .enum-told .given .1) in
     own-over (a .words .now) (a .pairs .now) (a .at) m (s .pre .1 .2 .reads) (c .before .before .before .before .before .before .own-end .ensures) (l .0) (l .1)
 
-rebuild-type-types-below-requires : (t : ℕ) → rebuild-type-lts.Need-types-below-requires (rebuild-type-calls t) (rebuild-type-at t) rebuild-type.Post
-rebuild-type-types-below-requires t c κs =
+rebuild-next-types-below-requires : (t : ℕ) → rebuild-next-lts.Need-types-below-requires (rebuild-next-calls t) (rebuild-next-at t) rebuild-next.Post
+rebuild-next-types-below-requires t c κs =
     let s = c .before .before .before .before .before .before .before .before .before .before .before .before .before in
     let a = s .args in
     head-here (a .words .now) (a .pairs .now) (a .at) (s .pre .1 .2 .reads)
 
-rebuild-type-rebuild-types-requires : (t : ℕ) → rebuild-type-lts.Need-rebuild-types-requires (rebuild-type-calls t) (rebuild-type-at t) rebuild-type.Post
-rebuild-type-rebuild-types-requires t c κs =
+rebuild-next-rebuild-below-requires : (t : ℕ) → rebuild-next-lts.Need-rebuild-below-requires (rebuild-next-calls t) (rebuild-next-at t) rebuild-next.Post
+rebuild-next-rebuild-below-requires t c κs =
     let s = c .before .before .before .before .before .before .before .before .before .before .before .before .before .before .before in
     let a = s .args in
     let m = mapping (a .rules .now) (a .pairs .now) (a .text .now) in
@@ -114,72 +151,72 @@ rebuild-type-rebuild-types-requires t c κs =
     let l = lays-to (c .before .before .before .before .before .before .before .lay .ensures) (c .before .before .before .p .given .1) in
     (omega (arith, s .pre .0, w .0, w .1), (s .pre .1 .0, s .pre .1 .1, w .1, below-reads (a .words .now) (a .pairs .now) (a .at) m (s .pre .1 .2 .reads) (c .before .before .before .before .before .before .before .before .before .own-end .ensures) (c .before .types-below .ensures), l .0, omega (arith, l .1 .kept, s .pre .1 .4)))
 
-rebuild-type-enum-known-end : (t : ℕ) → rebuild-type-lts.Need-enum-known-end (rebuild-type-calls t) (rebuild-type-at t) rebuild-type.Post
-rebuild-type-enum-known-end t c = search needs
+rebuild-next-enum-known-end : (t : ℕ) → rebuild-next-lts.Need-enum-known-end (rebuild-next-calls t) (rebuild-next-at t) rebuild-next.Post
+rebuild-next-enum-known-end t c = search needs
 
-rebuild-type-add-settle : (t : ℕ) → rebuild-type-lts.Need-add-settle (rebuild-type-calls t) (rebuild-type-at t) rebuild-type.Post
-rebuild-type-add-settle t c =
+rebuild-next-add-settle : (t : ℕ) → rebuild-next-lts.Need-add-settle (rebuild-next-calls t) (rebuild-next-at t) rebuild-next.Post
+rebuild-next-add-settle t c =
     let s = c .before .before .before .before .before .before .before .before .before .before .before .before .before .before .before .before .before .before .before .before .before .before in
     let a = s .args in
     let m = mapping (a .rules .now) (a .pairs .now) (a .text .now) in
     let l = lays-to (c .before .before .before .before .before .before .before .before .before .before .before .before .before .before .lay .ensures) (c .before .before .before .before .before .before .before .before .before .before .p .given .1) in
-    let g = finished (a .words .now) (a .pairs .now) (a .at) m (s .pre .1 .2 .reads) (c .before .before .before .before .before .before .before .before .before .before .before .before .before .before .before .before .own-end .ensures) (c .before .before .before .before .before .before .before .before .types-below .ensures) (l .1) (c .before .before .before .before .before .before .rebuild-types .ensures) (c .before .before .end .given .1) in
+    let g = finished (a .words .now) (a .pairs .now) (a .at) m (s .pre .1 .2 .reads) (c .before .before .before .before .before .before .before .before .before .before .before .before .before .before .before .before .own-end .ensures) (c .before .before .before .before .before .before .before .before .types-below .ensures) (l .1) (c .before .before .before .before .before .before .rebuild-below .ensures) (c .before .before .end .given .1) in
     omega (arith, g .small, s .fits)
 
-rebuild-type-settle-requires : (t : ℕ) → rebuild-type-lts.Need-settle-requires (rebuild-type-calls t) (rebuild-type-at t) rebuild-type.Post
-rebuild-type-settle-requires t c κs =
+rebuild-next-settle-requires : (t : ℕ) → rebuild-next-lts.Need-settle-requires (rebuild-next-calls t) (rebuild-next-at t) rebuild-next.Post
+rebuild-next-settle-requires t c κs =
     let s = c .before .before .before .before .before .before .before .before .before .before .before .before .before .before .before .before .before .before .before .before .before .before in
     let a = s .args in
     let m = mapping (a .rules .now) (a .pairs .now) (a .text .now) in
     let l = lays-to (c .before .before .before .before .before .before .before .before .before .before .before .before .before .before .lay .ensures) (c .before .before .before .before .before .before .before .before .before .before .p .given .1) in
-    let g = finished (a .words .now) (a .pairs .now) (a .at) m (s .pre .1 .2 .reads) (c .before .before .before .before .before .before .before .before .before .before .before .before .before .before .before .before .own-end .ensures) (c .before .before .before .before .before .before .before .before .types-below .ensures) (l .1) (c .before .before .before .before .before .before .rebuild-types .ensures) (c .before .before .end .given .1) in
-    (s .pre .1 .0, s .pre .1 .1 .fits, g .some, g .within, omega (arith, g .grown .kept, s .pre .1 .4))
+    let g = finished (a .words .now) (a .pairs .now) (a .at) m (s .pre .1 .2 .reads) (c .before .before .before .before .before .before .before .before .before .before .before .before .before .before .before .before .own-end .ensures) (c .before .before .before .before .before .before .before .before .types-below .ensures) (l .1) (c .before .before .before .before .before .before .rebuild-below .ensures) (c .before .before .end .given .1) in
+    (s .pre .1 .0, s .pre .1 .1, g .some, g .within, omega (arith, g .grown .kept, s .pre .1 .4))
 
-rebuild-type-enum-known-last : (t : ℕ) → rebuild-type-lts.Need-enum-known-last (rebuild-type-calls t) (rebuild-type-at t) rebuild-type.Post
-rebuild-type-enum-known-last t c = search needs
+rebuild-next-enum-known-last : (t : ℕ) → rebuild-next-lts.Need-enum-known-last (rebuild-next-calls t) (rebuild-next-at t) rebuild-next.Post
+rebuild-next-enum-known-last t c = search needs
 
-rebuild-type-enum-told-2 : (t : ℕ) → rebuild-type-lts.Need-enum-told-2 (rebuild-type-calls t) (rebuild-type-at t) rebuild-type.Post
-rebuild-type-enum-told-2 t c = search needs
+rebuild-next-enum-told-2 : (t : ℕ) → rebuild-next-lts.Need-enum-told-2 (rebuild-next-calls t) (rebuild-next-at t) rebuild-next.Post
+rebuild-next-enum-told-2 t c = search needs
 
-rebuild-type-enum-told-3 : (t : ℕ) → rebuild-type-lts.Need-enum-told-3 (rebuild-type-calls t) (rebuild-type-at t) rebuild-type.Post
-rebuild-type-enum-told-3 t c = search needs
+rebuild-next-enum-told-3 : (t : ℕ) → rebuild-next-lts.Need-enum-told-3 (rebuild-next-calls t) (rebuild-next-at t) rebuild-next.Post
+rebuild-next-enum-told-3 t c = search needs
 
-rebuild-type-same-length-2 : (t : ℕ) → rebuild-type-lts.Need-same-length-2 (rebuild-type-calls t) (rebuild-type-at t) rebuild-type.Post
-rebuild-type-same-length-2 t c = search needs
+rebuild-next-same-length-2 : (t : ℕ) → rebuild-next-lts.Need-same-length-2 (rebuild-next-calls t) (rebuild-next-at t) rebuild-next.Post
+rebuild-next-same-length-2 t c = search needs
 
-rebuild-type-returns-2 : (t : ℕ) → rebuild-type-lts.Need-returns-2 (rebuild-type-calls t) (rebuild-type-at t) rebuild-type.Post
-rebuild-type-returns-2 t c =
+rebuild-next-returns-2 : (t : ℕ) → rebuild-next-lts.Need-returns-2 (rebuild-next-calls t) (rebuild-next-at t) rebuild-next.Post
+rebuild-next-returns-2 t c =
     let s = c .before .before .before .before .before .before .before .before .before .before .before .before .before .before .before .before .before .before .before .before .before .before .before .before .before .before .before .before in
     let a = s .args in
     let m = mapping (a .rules .now) (a .pairs .now) (a .text .now) in
     let l = lays-to (c .before .before .before .before .before .before .before .before .before .before .before .before .before .before .before .before .before .before .before .before .lay .ensures) (c .before .before .before .before .before .before .before .before .before .before .before .before .before .before .before .before .p .given .1) in
-    let g = finished (a .words .now) (a .pairs .now) (a .at) m (s .pre .1 .2 .reads) (c .before .before .before .before .before .before .before .before .before .before .before .before .before .before .before .before .before .before .before .before .before .before .own-end .ensures) (c .before .before .before .before .before .before .before .before .before .before .before .before .before .before .types-below .ensures) (l .1) (c .before .before .before .before .before .before .before .before .before .before .before .before .rebuild-types .ensures) (c .before .before .before .before .before .before .before .before .end .given .1) in
+    let g = finished (a .words .now) (a .pairs .now) (a .at) m (s .pre .1 .2 .reads) (c .before .before .before .before .before .before .before .before .before .before .before .before .before .before .before .before .before .before .before .before .before .before .own-end .ensures) (c .before .before .before .before .before .before .before .before .before .before .before .before .before .before .types-below .ensures) (l .1) (c .before .before .before .before .before .before .before .before .before .before .before .before .rebuild-below .ensures) (c .before .before .before .before .before .before .before .before .end .given .1) in
     let e = settle-ends (a .rules .now) (a .pairs .now) (a .text .now) (a .table .now) (a .k) (s .pre .1 .1) (built (a .words .now) (a .pairs .now) (a .at) m (s .pre .1 .2 .reads) (c .before .before .before .before .before .before .before .before .before .before .before .before .before .before .before .before .before .before .before .before .before .before .own-end .ensures)) (g .within) (g .grown) (g .deeps) (c .before .before .before .before .before .settle .ensures) in
     type-done (a .words .now) (a .pairs .now) (a .at) m (s .pre .1 .2 .reads) (c .before .before .before .before .before .before .before .before .before .before .before .before .before .before .before .before .before .before .before .before .before .before .own-end .ensures) g e (c .before .last .given .1)
 
-rebuild-type-same-length-3 : (t : ℕ) → rebuild-type-lts.Need-same-length-3 (rebuild-type-calls t) (rebuild-type-at t) rebuild-type.Post
-rebuild-type-same-length-3 t c = search needs
+rebuild-next-same-length-3 : (t : ℕ) → rebuild-next-lts.Need-same-length-3 (rebuild-next-calls t) (rebuild-next-at t) rebuild-next.Post
+rebuild-next-same-length-3 t c = search needs
 
-rebuild-type-returns-3 : (t : ℕ) → rebuild-type-lts.Need-returns-3 (rebuild-type-calls t) (rebuild-type-at t) rebuild-type.Post
-rebuild-type-returns-3 t c =
+rebuild-next-returns-3 : (t : ℕ) → rebuild-next-lts.Need-returns-3 (rebuild-next-calls t) (rebuild-next-at t) rebuild-next.Post
+rebuild-next-returns-3 t c =
     let s = c .before .before .before .before .before .before .before .before .before .before .before .before .before .before .before .before .before .before .before .before .before .before .before .before .before .before .before in
     let a = s .args in
     let m = mapping (a .rules .now) (a .pairs .now) (a .text .now) in
     let l = lays-to (c .before .before .before .before .before .before .before .before .before .before .before .before .before .before .before .before .before .before .before .lay .ensures) (c .before .before .before .before .before .before .before .before .before .before .before .before .before .before .before .p .given .1) in
-    let g = finished (a .words .now) (a .pairs .now) (a .at) m (s .pre .1 .2 .reads) (c .before .before .before .before .before .before .before .before .before .before .before .before .before .before .before .before .before .before .before .before .before .own-end .ensures) (c .before .before .before .before .before .before .before .before .before .before .before .before .before .types-below .ensures) (l .1) (c .before .before .before .before .before .before .before .before .before .before .before .rebuild-types .ensures) (c .before .before .before .before .before .before .before .end .given .1) in
+    let g = finished (a .words .now) (a .pairs .now) (a .at) m (s .pre .1 .2 .reads) (c .before .before .before .before .before .before .before .before .before .before .before .before .before .before .before .before .before .before .before .before .before .own-end .ensures) (c .before .before .before .before .before .before .before .before .before .before .before .before .before .types-below .ensures) (l .1) (c .before .before .before .before .before .before .before .before .before .before .before .rebuild-below .ensures) (c .before .before .before .before .before .before .before .end .given .1) in
     let e = settle-ends (a .rules .now) (a .pairs .now) (a .text .now) (a .table .now) (a .k) (s .pre .1 .1) (built (a .words .now) (a .pairs .now) (a .at) m (s .pre .1 .2 .reads) (c .before .before .before .before .before .before .before .before .before .before .before .before .before .before .before .before .before .before .before .before .before .own-end .ensures)) (g .within) (g .grown) (g .deeps) (c .before .before .before .before .settle .ensures) in
     type-over (a .words .now) (a .pairs .now) (a .at) m (s .pre .1 .2 .reads) (c .before .before .before .before .before .before .before .before .before .before .before .before .before .before .before .before .before .before .before .before .before .own-end .ensures) e (c .enum-told2 .given .1)
 
-rebuild-type-same-length-4 : (t : ℕ) → rebuild-type-lts.Need-same-length-4 (rebuild-type-calls t) (rebuild-type-at t) rebuild-type.Post
-rebuild-type-same-length-4 t c = search needs
+rebuild-next-same-length-4 : (t : ℕ) → rebuild-next-lts.Need-same-length-4 (rebuild-next-calls t) (rebuild-next-at t) rebuild-next.Post
+rebuild-next-same-length-4 t c = search needs
 
-rebuild-type-returns-4 : (t : ℕ) → rebuild-type-lts.Need-returns-4 (rebuild-type-calls t) (rebuild-type-at t) rebuild-type.Post
-rebuild-type-returns-4 t c =
+rebuild-next-returns-4 : (t : ℕ) → rebuild-next-lts.Need-returns-4 (rebuild-next-calls t) (rebuild-next-at t) rebuild-next.Post
+rebuild-next-returns-4 t c =
     let s = c .before .before .before .before .before .before .before .before .before .before .before .before .before .before .before .before .before .before .before .before in
     let a = s .args in
     let m = mapping (a .rules .now) (a .pairs .now) (a .text .now) in
     let l = lays-to (c .before .before .before .before .before .before .before .before .before .before .before .before .lay .ensures) (c .before .before .before .before .before .before .before .before .p .given .1) in
-    below-full (a .words .now) (a .pairs .now) (a .at) m (s .pre .1 .2 .reads) (c .before .before .before .before .before .before .before .before .before .before .before .before .before .before .own-end .ensures) (c .before .before .before .before .before .before .types-below .ensures) (l .1) (c .before .before .before .before .rebuild-types .ensures) (c .enum-told3 .given .1)
+    below-full (a .words .now) (a .pairs .now) (a .at) m (s .pre .1 .2 .reads) (c .before .before .before .before .before .before .before .before .before .before .before .before .before .before .own-end .ensures) (c .before .before .before .before .before .before .types-below .ensures) (l .1) (c .before .before .before .before .rebuild-below .ensures) (c .enum-told3 .given .1)
 
 abbrev rebuild-types-Inv-loop : rebuild-types-lts.InvT-loop
 rebuild-types-Inv-loop words pairs text rules table k at n out₀ pos limit place₀ p₀ deepest₀ left₀ out place p deepest left = (at ≤ place) × Rebuilding words pairs (mapping rules pairs text) (readTypes (treeAt words pairs) n at) limit out₀ pos out place p deepest left
@@ -192,8 +229,8 @@ rebuild-types-loop-holds t c =
     let a = c .before .before .before .before .before .args in
     (omega arith, rebuilding-starts (a .words .now) (a .pairs .now) (mapping (a .rules .now) (a .pairs .now) (a .text .now)) (a .at) (a .n) (a .limit) (a .out .now) (a .pos) (c .before .before .before .before .before .pre .1 .2) (c .before .before .before .before .before .pre .1 .4) (c .before .before .before .before .before .pre .1 .5) (c .before .before .before .before .before .pre .1 .3))
 
-rebuild-types-rebuild-type-requires : (t : ℕ) → rebuild-types-lts.Need-rebuild-type-requires (rebuild-types-calls t) (rebuild-types-at t) rebuild-types.Post rebuild-types-Inv-loop rebuild-types-μ-loop
-rebuild-types-rebuild-type-requires t c κs =
+rebuild-types-rebuild-next-requires : (t : ℕ) → rebuild-types-lts.Need-rebuild-next-requires (rebuild-types-calls t) (rebuild-types-at t) rebuild-types.Post rebuild-types-Inv-loop rebuild-types-μ-loop
+rebuild-types-rebuild-next-requires t c κs =
     let a = c .before .before .before .before .before .before .before .before .args in let l = c .before .before .loop in
     (omega (arith, c .before .before .before .before .before .before .before .before .pre .0, l .inv .0), (c .before .before .before .before .before .before .before .before .pre .1 .0, c .before .before .before .before .before .before .before .before .pre .1 .1, type-reads (a .words .now) (a .pairs .now) (mapping (a .rules .now) (a .pairs .now) (a .text .now)) (a .at) (a .n) (a .limit) (a .out .now) (a .pos) (c .before .loop-test .taken) (l .inv .1), l .inv .1 .within, omega (arith, l .inv .1 .grown .kept, c .before .before .before .before .before .before .before .before .pre .1 .5)))
 
@@ -212,7 +249,7 @@ rebuild-types-same-length t c = search needs
 rebuild-types-returns : (t : ℕ) → rebuild-types-lts.Need-returns (rebuild-types-calls t) (rebuild-types-at t) rebuild-types.Post rebuild-types-Inv-loop rebuild-types-μ-loop
 rebuild-types-returns t c =
     let a = c .before .before .before .before .before .before .before .before .before .before .before .before .before .args in let l = c .before .before .before .before .before .before .before .loop in
-    types-full (a .words .now) (a .pairs .now) (mapping (a .rules .now) (a .pairs .now) (a .text .now)) (a .at) (a .n) (a .limit) (a .out .now) (a .pos) (c .before .before .before .before .before .before .loop-test .taken) (l .inv .1) (c .before .before .before .before .rebuild-type .ensures) (c .enum-told .given .1)
+    types-full (a .words .now) (a .pairs .now) (mapping (a .rules .now) (a .pairs .now) (a .text .now)) (a .at) (a .n) (a .limit) (a .out .now) (a .pos) (c .before .before .before .before .before .before .loop-test .taken) (l .inv .1) (c .before .before .before .before .rebuild-next .ensures) (c .enum-told .given .1)
 
 rebuild-types-sub-left : (t : ℕ) → rebuild-types-lts.Need-sub-left (rebuild-types-calls t) (rebuild-types-at t) rebuild-types.Post rebuild-types-Inv-loop rebuild-types-μ-loop
 rebuild-types-sub-left t c = search needs
@@ -224,8 +261,8 @@ rebuild-types-loop-again : (t : ℕ) → rebuild-types-lts.Need-loop-again (rebu
 rebuild-types-loop-again t c =
     let a = c .before .before .before .before .before .before .before .before .before .before .before .before .before .before .before .args in let l = c .before .before .before .before .before .before .before .before .before .loop in
     let m = mapping (a .rules .now) (a .pairs .now) (a .text .now) in (
-      omega (arith, l .inv .0, types-past (a .words .now) (a .pairs .now) m (a .at) (a .n) (a .limit) (a .out .now) (a .pos) (c .before .before .before .before .before .before .before .before .loop-test .taken) (l .inv .1) (c .before .before .before .before .before .before .rebuild-type .ensures) (c .before .before .next .given .1)),
-      types-more (a .words .now) (a .pairs .now) m (a .at) (a .n) (a .limit) (a .out .now) (a .pos) (c .before .before .before .before .before .before .before .before .loop-test .taken) (l .inv .1) (c .before .before .before .before .before .before .rebuild-type .ensures) (c .before .before .next .given .1) (c .larger .ensures),
+      omega (arith, l .inv .0, types-past (a .words .now) (a .pairs .now) m (a .at) (a .n) (a .limit) (a .out .now) (a .pos) (c .before .before .before .before .before .before .before .before .loop-test .taken) (l .inv .1) (c .before .before .before .before .before .before .rebuild-next .ensures) (c .before .before .next .given .1)),
+      types-more (a .words .now) (a .pairs .now) m (a .at) (a .n) (a .limit) (a .out .now) (a .pos) (c .before .before .before .before .before .before .before .before .loop-test .taken) (l .inv .1) (c .before .before .before .before .before .before .rebuild-next .ensures) (c .before .before .next .given .1) (c .larger .ensures),
     )
 
 rebuild-types-same-length-2 : (t : ℕ) → rebuild-types-lts.Need-same-length-2 (rebuild-types-calls t) (rebuild-types-at t) rebuild-types.Post rebuild-types-Inv-loop rebuild-types-μ-loop
@@ -236,51 +273,61 @@ rebuild-types-returns-2 t c =
     let a = c .before .before .before .before .before .before .before .args in let l = c .before .loop in
     rebuilding-ends (a .words .now) (a .pairs .now) (mapping (a .rules .now) (a .pairs .now) (a .text .now)) (a .at) (a .n) (a .limit) (a .out .now) (a .pos) (omega (arith, c .loop-test .left)) (l .inv .1)
 
-pub +rebuild-type+rebuild-types-spec : {M : Type 1} → statement M
-+rebuild-type+rebuild-types-spec =
-    close μ-rebuild-type μ-rebuild-types (λ t. rebuild-type-lts.spec (
+pub +rebuild-below+rebuild-next+rebuild-types-spec : {M : Type 1} → statement M
++rebuild-below+rebuild-next+rebuild-types-spec =
+    close μ-rebuild-below μ-rebuild-next μ-rebuild-types (λ t. rebuild-below-lts.spec (
+      rebuild-types-below t,
+      rebuild-types.Post,
+    )
+    (rebuild-below-at t)
+    rebuild-below.Post
+    (rebuild-below-returns t)
+    (rebuild-below-rebuild-types-requires t)
+    (rebuild-below-same-length t)
+    (rebuild-below-returns-2 t))
+    (λ t. rebuild-next-lts.spec (
       own-end-reads.Asked,
       own-end-reads.Learnt,
       lay-reads.Asked,
       lay-reads.Learnt,
       types-below-reads.Asked,
       types-below-reads.Learnt,
-      rebuild-types-below t,
-      rebuild-types.Post,
+      rebuild-below-below t,
+      rebuild-below.Post,
       settle-reads.Asked,
       settle-reads.Learnt,
     )
-    (rebuild-type-at t)
-    rebuild-type.Post
-    (rebuild-type-own-end-requires t)
-    (rebuild-type-sub-lay t)
-    (rebuild-type-lay-requires t)
-    (rebuild-type-enum-known-p t)
-    (rebuild-type-enum-told t)
-    (rebuild-type-same-length t)
-    (rebuild-type-returns t)
-    (rebuild-type-types-below-requires t)
-    (rebuild-type-rebuild-types-requires t)
-    (rebuild-type-enum-known-end t)
-    (rebuild-type-add-settle t)
-    (rebuild-type-settle-requires t)
-    (rebuild-type-enum-known-last t)
-    (rebuild-type-enum-told-2 t)
-    (rebuild-type-enum-told-3 t)
-    (rebuild-type-same-length-2 t)
-    (rebuild-type-returns-2 t)
-    (rebuild-type-same-length-3 t)
-    (rebuild-type-returns-3 t)
-    (rebuild-type-same-length-4 t)
-    (rebuild-type-returns-4 t))
+    (rebuild-next-at t)
+    rebuild-next.Post
+    (rebuild-next-own-end-requires t)
+    (rebuild-next-sub-lay t)
+    (rebuild-next-lay-requires t)
+    (rebuild-next-enum-known-p t)
+    (rebuild-next-enum-told t)
+    (rebuild-next-same-length t)
+    (rebuild-next-returns t)
+    (rebuild-next-types-below-requires t)
+    (rebuild-next-rebuild-below-requires t)
+    (rebuild-next-enum-known-end t)
+    (rebuild-next-add-settle t)
+    (rebuild-next-settle-requires t)
+    (rebuild-next-enum-known-last t)
+    (rebuild-next-enum-told-2 t)
+    (rebuild-next-enum-told-3 t)
+    (rebuild-next-same-length-2 t)
+    (rebuild-next-returns-2 t)
+    (rebuild-next-same-length-3 t)
+    (rebuild-next-returns-3 t)
+    (rebuild-next-same-length-4 t)
+    (rebuild-next-returns-4 t))
     λ t. rebuild-types-lts.spec
-    (rebuild-type-below t, rebuild-type.Post, larger-reads.Asked, larger-reads.Learnt)
+    (rebuild-next-below t, rebuild-next.Post, larger-reads.Asked, larger-reads.Learnt)
     (rebuild-types-at t)
     rebuild-types.Post
     rebuild-types-Inv-loop
     rebuild-types-μ-loop
     (rebuild-types-loop-holds t)
-    (rebuild-types-rebuild-type-requires t)
+    (rebuild-types-rebuild-next-requires t)
     (rebuild-types-enum-known-next t)
     (rebuild-types-larger-requires t)
     (rebuild-types-enum-told t)
