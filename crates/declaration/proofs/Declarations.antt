@@ -25,9 +25,12 @@ use Rattle.laying.specs.Passes.{Chain, last, _then_, run}
 use Rattle.laying.specs.Texts.{nameAt, typeTextAt, pathTextAt, visibilityAt, docAt}
 use Rattle.laying.proofs.Passes.{Runs}
 use Rattle.laying.proofs.Splits.{map-same, map-made, runs-as, split₃, split-front, text-before, text-behind, listed-read, counted-got, counted-none, counted-stop}
-use Rattle.fields.specs.Texts.{lineText, attributesAt, parametersAt, namedAt, namelessFieldsAt}
+use Rattle.lists.specs.Texts.{attributesAt, parametersAt}
+use Rattle.fields.specs.declared.Entry.{Entry}
+use Rattle.fields.specs.declared.Entry.the-variants.{Named}
+use Rattle.fields.specs.Texts.{lineText, namelessEntry, namedAt, namelessFieldsAt, listAt}
 use Rattle.fields.proofs.Fields.{indent-more}
-use Rattle.declaration.specs.Texts.{keywordText, caseLineText, tupleFieldsAt, fieldsAt, caseAt, caseLineAt, casesAt, variantsAt, titleAt, frontAt, enumBody, synonymBody, bodyAt, frontedAt, useAt, afterAt, declarationTextAt}
+use Rattle.declaration.specs.Texts.{keywordText, caseLineText, entryOf, fieldsEnd, listedAt, fieldsAt, caseAt, caseLineAt, casesAt, variantsAt, titleAt, frontAt, enumBody, synonymBody, bodyAt, frontedAt, useAt, afterAt, declarationTextAt}
 
 -- ---- chains, a text of theirs said in another way
 
@@ -112,6 +115,19 @@ use-parts ws name (got v p) y = record { same = go (y p) }
     go (stop k) = refl
 use-parts ws name (stop k) y = record { same = refl }
 
+-- a text with nothing behind it
+nothing-behind : (x : Reading Bytes) → x ≡ run (x then λ p. last (got [] p))
+unfolding run
+nothing-behind (got b n) = ap (λ (c : Bytes). got c n) (sym (append-nil b))
+nothing-behind (stop k) = refl
+
+-- what a list of fields is of
+pub entry-named : {k : ℕ} (inCase : Bool) → k ≡ 0 → Named ≡ entryOf inCase k
+entry-named {k} inCase z = rw (eq-eqb k 0 z)
+
+pub entry-nameless : {k : ℕ} (inCase : Bool) → (k ≡ 0 → ⊥) → namelessEntry inCase ≡ entryOf inCase k
+entry-nameless {k} inCase z = rw (ne-eqb k 0 z)
+
 module _ (ws pairs : List ℕ) (text : Bytes) where
   abbrev bound : ℕ
   bound = nameCount pairs
@@ -135,29 +151,33 @@ module _ (ws pairs : List ℕ) (text : Bytes) where
     unfolding readFields
     as-nameless f z = rw (e, ne-eqb k 0 z) (map-made f NamelessFields (readCounted ws (readNamelessField bound ws name type) p))
 
-    pub fields-named : (inCase : Bool) → k ≡ 0 → fieldsAt ws pairs text inCase level at ≡ namedAt ws pairs text level p
+    named-fields : (inCase : Bool) → k ≡ 0 → fieldsAt ws pairs text inCase level at ≡ namedAt ws pairs text level p
     unfolding structFieldsText ascii
-    fields-named true z = as-named (Fields·ToString (indent level) true) z
-    fields-named false z =
+    named-fields true z = as-named (Fields·ToString (indent level) true) z
+    named-fields false z =
         as-named (structFieldsText (indent level)) z
         ∙ map-alike (λ xs. append-nil (Fields·ToString (indent level) true (NamedFields xs))) (readCounted ws (readField bound ws name type) p)
 
-    pub case-nameless : {inCase : Bool} → inCase ≡ true → (k ≡ 0 → ⊥) → fieldsAt ws pairs text inCase level at ≡ namelessFieldsAt ws pairs text true level p
-    case-nameless c z = ap (λ (b : Bool). fieldsAt ws pairs text b level at) c ∙ as-nameless (Fields·ToString (indent level) true) z
-
-    pub struct-nameless : {inCase : Bool} → inCase ≡ false → (k ≡ 0 → ⊥) → fieldsAt ws pairs text inCase level at ≡ tupleFieldsAt ws pairs text level p
-    unfolding structFieldsText
-    struct-nameless c z =
-        ap (λ (b : Bool). fieldsAt ws pairs text b level at) c
-        ∙ as-nameless (structFieldsText (indent level)) z
+    nameless-fields : (inCase : Bool) → (k ≡ 0 → ⊥) → fieldsAt ws pairs text inCase level at ≡ listedAt ws pairs text (namelessEntry inCase) level p
+    unfolding structFieldsText fieldsEnd ascii
+    nameless-fields true z = as-nameless (Fields·ToString (indent level) true) z ∙ nothing-behind (namelessFieldsAt ws pairs text true level p)
+    nameless-fields false z =
+        as-nameless (structFieldsText (indent level)) z
         ∙ text-behind (ascii ";") (λ xs. Fields·ToString (indent level) false (NamelessFields xs)) (readCounted ws (readNamelessField bound ws name type) p) .same
+
+    pub fields-listed : (inCase : Bool) {entry : Entry} → entry ≡ entryOf inCase k → fieldsAt ws pairs text inCase level at ≡ listedAt ws pairs text entry level p
+    unfolding fieldsEnd ascii
+    fields-listed inCase {entry} d = elim (ℕ-discrete k 0) [
+      | yes z ↦ named-fields inCase z ∙ nothing-behind (namedAt ws pairs text level p) ∙ ap (λ (x : Entry). listedAt ws pairs text x level p) (entry-named inCase z ∙ sym d)
+      | no z ↦ nameless-fields inCase z ∙ ap (λ (x : Entry). listedAt ws pairs text x level p) (entry-nameless inCase z ∙ sym d)
+    ]
 
   pub fields-stop : (inCase : Bool) (level at : ℕ) {k : Refusal} → readBelow 2 ws at ≡ stop k → fieldsAt ws pairs text inCase level at ≡ stop k
   unfolding readFields mapReading
   fields-stop inCase level at e = rw e
 
-  pub tuple-runs : (level at : ℕ) → Runs (tupleFieldsAt ws pairs text level at) (namelessFieldsAt ws pairs text false level at then λ p. last (got (ascii ";") p))
-  tuple-runs level at = record { same = refl }
+  pub listed-runs : (entry : Entry) (level at : ℕ) → Runs (listedAt ws pairs text entry level at) (listAt ws pairs text entry level at then λ p. last (got (fieldsEnd entry) p))
+  listed-runs entry level at = record { same = refl }
 
   -- ---- the cases of an enum
 

@@ -15,11 +15,24 @@ use Rattle.encoding.specs.Types.{typeAt}
 use Rattle.encoding.specs.Declarations.{structHead, enumHead, readCounted, readFields, readCase, readUse, declarationAfter, declarationAt}
 use Rattle.laying.specs.Passes.{last, _then_, run, listed}
 use Rattle.laying.specs.Texts.{nameAt, typeTextAt, docAt}
-use Rattle.fields.specs.Texts.{lineText, attributesAt, parametersAt, namelessFieldsAt}
+use Rattle.lists.specs.Texts.{attributesAt, parametersAt}
+use Rattle.fields.specs.declared.Entry.{Entry}
+use Rattle.fields.specs.declared.Entry.the-variants.{Named, Inline, Lined}
+use Rattle.fields.specs.Texts.{lineText, namelessEntry, listAt}
 
 -- what stands before the name, by the head
 unfoldable pub keywordText : ℕ → Bytes
 keywordText head = pick (eqb head structHead) (ascii "pub struct ") (pick (eqb head enumHead) (ascii "pub enum ") (ascii "pub type "))
+
+-- what a list of fields is of, by the word before it
+abbrev pub entryOf : Bool → ℕ → Entry
+entryOf inCase kind = pick (eqb kind 0) Named (namelessEntry inCase)
+
+-- the fields of a struct have a semicolon behind them, if they have no names
+unfoldable pub fieldsEnd : Entry → Bytes
+fieldsEnd Named = ascii ""
+fieldsEnd Inline = ascii ";"
+fieldsEnd Lined = ascii ""
 
 -- the fields of a case, or of a struct
 abbrev pub fieldsText : Bool → Bytes → Fields Bytes → Bytes
@@ -40,9 +53,9 @@ module _ (ws pairs : List ℕ) (text : Bytes) where
   abbrev type : ℕ → Reading (Ty Bytes)
   type = typeAt ws pairs text
 
-  -- the fields of a struct without names, and its semicolon
-  abbrev pub tupleFieldsAt : ℕ → ℕ → Reading Bytes
-  tupleFieldsAt level at = run (namelessFieldsAt ws pairs text false level at then λ p. last (got (ascii ";") p))
+  -- fields behind the word that says which they are, and what stands behind them
+  abbrev pub listedAt : Entry → ℕ → ℕ → Reading Bytes
+  listedAt entry level at = run (listAt ws pairs text entry level at then λ p. last (got (fieldsEnd entry) p))
 
   abbrev pub fieldsAt : Bool → ℕ → ℕ → Reading Bytes
   fieldsAt inCase level at = mapReading (fieldsText inCase (indent level)) (readFields bound ws name type at)

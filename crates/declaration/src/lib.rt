@@ -1,11 +1,14 @@
 // A pass over the words of a declaration that lays its text, at a level: it writes the bytes, or only counts them.
+ghost use mathlib.Core.Path.{_≡_};
 ghost use Prim.Native.Nat.{_+_, _^_, _<_};
 ghost use Rattle.output.specs.Laid.{Laid, Fits};
 ghost use Rattle.laying.specs.Passes.{Checked, Ready, Went};
-ghost use Rattle.declaration.specs.Texts.{keywordText, tupleFieldsAt, fieldsAt, titleAt, frontAt, caseAt, caseLineAt, casesAt, variantsAt, enumBody, synonymBody, bodyAt, frontedAt, useAt, afterAt, declarationTextAt};
+ghost use Rattle.declaration.specs.Texts.{keywordText, entryOf, fieldsEnd, listedAt, fieldsAt, titleAt, frontAt, caseAt, caseLineAt, casesAt, variantsAt, enumBody, synonymBody, bodyAt, frontedAt, useAt, afterAt, declarationTextAt};
 use encoding::Refusal;
 use encoding::WordScan;
+use fields::Entry;
 use laying::Place;
+use lists::Item;
 
 // The heads of declarations.
 const STRUCT: u32 = 25;
@@ -16,31 +19,57 @@ const SYNONYM: u32 = 27;
 
 const USE: u32 = 28;
 
-// Fields without names, and the semicolon behind them.
-fn lay_tuple_fields(
+// What a list of fields is of, by the word before it: 0 named, 1 nameless.
+fn fields_entry(in_case: bool, kind: u32) -> Entry
+    ensures { λ r. ⌜ r ≡ entryOf in_case kind ⌝ }
+{
+    if kind == 0 {
+        return Entry::Named;
+    }
+    if in_case {
+        return Entry::Lined;
+    }
+    Entry::Inline
+}
+
+// The semicolon behind the fields of a struct, if they have no names.
+fn lay_fields_end(write: bool, entry: Entry, out: &mut [u8], pos: usize) -> usize
+    requires { ⌜ Fits write (now out) pos (fieldsEnd entry) ⌝ }
+    ensures { λ r. ⌜ Laid write (now (out .entry)) pos (fieldsEnd entry) (now (out .exit)) r ⌝ }
+{
+    match entry {
+        Entry::Named => pos,
+        Entry::Inline => output::lay(write, b";", out, pos),
+        Entry::Lined => pos,
+    }
+}
+
+// Fields behind the word that says whether they have names. This is the one call of `lay_list`.
+fn lay_listed(
     write: bool,
     words: &[u32],
     pairs: &[u32],
     text: &[u8],
+    entry: Entry,
     level: u32,
     at: usize,
     out: &mut [u8],
     pos: usize,
 ) -> Place
-    requires { ⌜ Checked (now words) (now pairs) (now text) × (level < 2 ^ 31) × Ready write (now out) pos (tupleFieldsAt (now words) (now pairs) (now text) level at) ⌝ }
-    ensures { λ r. ⌜ Went write (now (out .entry)) pos (tupleFieldsAt (now (words .entry)) (now (pairs .entry)) (now (text .entry)) level at) (now (out .exit)) r ⌝ }
+    requires { ⌜ Checked (now words) (now pairs) (now text) × (level < 2 ^ 31) × Ready write (now out) pos (listedAt (now words) (now pairs) (now text) entry level at) ⌝ }
+    ensures { λ r. ⌜ Went write (now (out .entry)) pos (listedAt (now (words .entry)) (now (pairs .entry)) (now (text .entry)) entry level at) (now (out .exit)) r ⌝ }
 {
-    let list = fields::lay_nameless_fields(write, words, pairs, text, false, level, at, out, pos);
+    let list = fields::lay_list(write, words, pairs, text, entry, level, at, out, pos);
     let Place::At { next, pos: end } = list else {
         return list;
     };
     Place::At {
         next,
-        pos: output::lay(write, b";", out, end),
+        pos: lay_fields_end(write, entry, out, end),
     }
 }
 
-// The fields of a case or of a struct: 0 named, 1 nameless.
+// The fields of a case or of a struct.
 fn lay_fields(
     write: bool,
     words: &[u32],
@@ -57,23 +86,8 @@ fn lay_fields(
 {
     match encoding::scan_below(words, 2, at) {
         WordScan::Word { value, next } => {
-            if value == 0 {
-                return fields::lay_named(write, words, pairs, text, level, next, out, pos);
-            }
-            if in_case {
-                return fields::lay_nameless_fields(
-                    write,
-                    words,
-                    pairs,
-                    text,
-                    true,
-                    level,
-                    next,
-                    out,
-                    pos,
-                );
-            }
-            lay_tuple_fields(write, words, pairs, text, level, next, out, pos)
+            let entry = fields_entry(in_case, value);
+            lay_listed(write, words, pairs, text, entry, level, next, out, pos)
         }
         WordScan::NoWord(r) => Place::Stopped(r),
     }
@@ -110,7 +124,7 @@ fn lay_title(
     let Place::At { next, pos: p } = name else {
         return name;
     };
-    fields::lay_parameters(write, words, pairs, text, next, out, p)
+    lists::lay_item_list(write, words, pairs, text, Item::Parameter, 0, next, out, p)
 }
 
 // What a struct, an enum and a type synonym begin with: doc, attributes, keyword, name, parameters.
@@ -132,7 +146,17 @@ fn lay_front(
     let Place::At { next: q, pos: p } = doc else {
         return doc;
     };
-    let attributes = fields::lay_attributes(write, words, pairs, text, level, q, out, p);
+    let attributes = lists::lay_item_list(
+        write,
+        words,
+        pairs,
+        text,
+        Item::Attribute,
+        level,
+        q,
+        out,
+        p,
+    );
     let Place::At { next, pos: p } = attributes else {
         return attributes;
     };

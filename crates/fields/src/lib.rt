@@ -1,25 +1,88 @@
-// Lists whose items hold more than a name or a type: attributes, parameters, fields.
+// Lists of fields, with names or without.
 ghost use mathlib.Core.Path.{_≡_};
 ghost use mathlib.Core.Bool.{true};
+ghost use mathlib.Core.List.{_++_};
 ghost use Prim.Native.Nat.{_+_, _^_, _<_};
+ghost use Rattle.rast.specs.Bytes.{ascii};
 ghost use Rattle.rast.specs.Indent.{indent};
 ghost use Rattle.rast.specs.DeclarationToString.{separatorText};
 ghost use Rattle.output.specs.Laid.{Laid, Fits};
 ghost use Rattle.laying.specs.Passes.{Checked, Ready, Went};
-ghost use Rattle.fields.specs.Texts.{entryGap, namelessEntry, fieldAt, entryAt, entriesAt, attributesAt, parametersSome, parametersAt, namedSome, namedAt, namelessSome, namelessFieldsAt};
+ghost use Rattle.laying.specs.Texts.{typeTextAt};
+ghost use Rattle.formal.specs.Labels.{Labelled};
+ghost use Rattle.fields.specs.Texts.{lineText, isNamed, entryGap, listFront, listEnd, noFields, restAt, fieldAt, entryAt, entriesAt, someAt, listAt};
 use encoding::WordScan;
+use formal::Label;
 use laying::Place;
 
-// What a list is of: attributes, parameters, named fields, and fields without names, one behind the other or on lines of their own.
-enum Entry {
-    Attr,
-    Param,
+// What a list is of: named fields, which stand on lines of their own, or fields without names, one behind the other or on lines of their own.
+pub enum Entry {
     Named,
     Inline,
     Lined,
 }
 
-// A field: its visibility, and then its name and type, or its type alone.
+// Whether they have names.
+fn is_named(entry: Entry) -> bool
+    ensures { λ r. ⌜ r ≡ isNamed entry ⌝ }
+{
+    match entry {
+        Entry::Named => true,
+        Entry::Inline => false,
+        Entry::Lined => false,
+    }
+}
+
+// What stands before a field's type, if it has a name.
+fn lay_label(
+    write: bool,
+    words: &[u32],
+    pairs: &[u32],
+    text: &[u8],
+    named: bool,
+    at: usize,
+    out: &mut [u8],
+    pos: usize,
+) -> Label
+    requires { ⌜ Checked (now words) (now pairs) (now text) × Ready write (now out) pos (restAt (now words) (now pairs) (now text) named at) ⌝ }
+    ensures { λ r. ⌜ Labelled (typeTextAt (now (words .entry)) (now (pairs .entry)) (now (text .entry))) write (now (out .entry)) pos (restAt (now (words .entry)) (now (pairs .entry)) (now (text .entry)) named at) (now (out .exit)) r ⌝ }
+{
+    if named {
+        return formal::lay_label(write, words, pairs, text, at, out, pos);
+    }
+    Label::Open { next: at, pos }
+}
+
+// A field behind its visibility: its name and type, or its type alone. All types of fields are laid by this one call.
+fn lay_rest(
+    write: bool,
+    words: &[u32],
+    pairs: &[u32],
+    text: &[u8],
+    named: bool,
+    at: usize,
+    out: &mut [u8],
+    pos: usize,
+) -> Place
+    requires { ⌜ Checked (now words) (now pairs) (now text) × Ready write (now out) pos (restAt (now words) (now pairs) (now text) named at) ⌝ }
+    ensures { λ r. ⌜ Went write (now (out .entry)) pos (restAt (now (words .entry)) (now (pairs .entry)) (now (text .entry)) named at) (now (out .exit)) r ⌝ }
+{
+    match lay_label(write, words, pairs, text, named, at, out, pos) {
+        Label::Open { next, pos: p } => laying::lay_field_type(
+            write,
+            words,
+            pairs,
+            text,
+            next,
+            out,
+            p,
+        ),
+        Label::Whole { next, pos: p } => Place::At { next, pos: p },
+        Label::NoLabel(r) => Place::Stopped(r),
+    }
+}
+
+// A field.
 fn lay_field(
     write: bool,
     words: &[u32],
@@ -37,10 +100,7 @@ fn lay_field(
     let Place::At { next, pos: p } = visibility else {
         return visibility;
     };
-    if named {
-        return formal::lay_formal(write, words, pairs, text, next, out, p);
-    }
-    laying::lay_type(write, words, pairs, text, next, out, p)
+    lay_rest(write, words, pairs, text, named, next, out, p)
 }
 
 // One of a list.
@@ -50,21 +110,14 @@ fn lay_entry(
     pairs: &[u32],
     text: &[u8],
     entry: Entry,
-    level: u32,
     at: usize,
     out: &mut [u8],
     pos: usize,
 ) -> Place
-    requires { ⌜ Checked (now words) (now pairs) (now text) × Ready write (now out) pos (entryAt (now words) (now pairs) (now text) entry level at) ⌝ }
-    ensures { λ r. ⌜ Went write (now (out .entry)) pos (entryAt (now (words .entry)) (now (pairs .entry)) (now (text .entry)) entry level at) (now (out .exit)) r ⌝ }
+    requires { ⌜ Checked (now words) (now pairs) (now text) × Ready write (now out) pos (entryAt (now words) (now pairs) (now text) entry at) ⌝ }
+    ensures { λ r. ⌜ Went write (now (out .entry)) pos (entryAt (now (words .entry)) (now (pairs .entry)) (now (text .entry)) entry at) (now (out .exit)) r ⌝ }
 {
-    match entry {
-        Entry::Attr => lists::lay_attribute(write, words, pairs, text, level, at, out, pos),
-        Entry::Param => lists::lay_parameter(write, words, pairs, text, at, out, pos),
-        Entry::Named => lay_field(write, words, pairs, text, true, at, out, pos),
-        Entry::Inline => lay_field(write, words, pairs, text, false, at, out, pos),
-        Entry::Lined => lay_field(write, words, pairs, text, false, at, out, pos),
-    }
+    lay_field(write, words, pairs, text, is_named(entry), at, out, pos)
 }
 
 // A comma, and the next line of the fields.
@@ -82,8 +135,6 @@ fn lay_entry_gap(write: bool, entry: Entry, level: u32, out: &mut [u8], pos: usi
     ensures { λ r. ⌜ Laid write (now (out .entry)) pos (entryGap entry level) (now (out .exit)) r ⌝ }
 {
     match entry {
-        Entry::Attr => pos,
-        Entry::Param => output::lay(write, b", ", out, pos),
         Entry::Named => lay_comma_line(write, level, out, pos),
         Entry::Inline => output::lay(write, b", ", out, pos),
         Entry::Lined => lay_comma_line(write, level, out, pos),
@@ -110,7 +161,7 @@ fn lay_entries(
     let mut p = pos;
     let mut left = n;
     loop {
-        let one = lay_entry(write, words, pairs, text, entry, level, place, out, p);
+        let one = lay_entry(write, words, pairs, text, entry, place, out, p);
         let Place::At { next, pos: end } = one else {
             return one;
         };
@@ -123,170 +174,59 @@ fn lay_entries(
     }
 }
 
-// The attributes of a declaration.
-pub fn lay_attributes(
-    write: bool,
-    words: &[u32],
-    pairs: &[u32],
-    text: &[u8],
-    level: u32,
-    at: usize,
-    out: &mut [u8],
-    pos: usize,
-) -> Place
-    requires { ⌜ Checked (now words) (now pairs) (now text) × (level < 2 ^ 31) × Ready write (now out) pos (attributesAt (now words) (now pairs) (now text) level at) ⌝ }
-    ensures { λ r. ⌜ Went write (now (out .entry)) pos (attributesAt (now (words .entry)) (now (pairs .entry)) (now (text .entry)) level at) (now (out .exit)) r ⌝ }
-{
-    match encoding::scan_word(words, at) {
-        WordScan::Word { value, next } => {
-            if value == 0 {
-                return Place::At { next, pos };
-            }
-            lay_entries(
-                write,
-                words,
-                pairs,
-                text,
-                Entry::Attr,
-                level,
-                value,
-                next,
-                out,
-                pos,
-            )
-        }
-        WordScan::NoWord(r) => Place::Stopped(r),
-    }
-}
-
-// Parameters, one at least.
-fn lay_parameters_some(
-    write: bool,
-    words: &[u32],
-    pairs: &[u32],
-    text: &[u8],
-    n: u32,
-    at: usize,
-    out: &mut [u8],
-    pos: usize,
-) -> Place
-    requires { ⌜ Checked (now words) (now pairs) (now text) × (0 < n) × Ready write (now out) pos (parametersSome (now words) (now pairs) (now text) n at) ⌝ }
-    ensures { λ r. ⌜ Went write (now (out .entry)) pos (parametersSome (now (words .entry)) (now (pairs .entry)) (now (text .entry)) n at) (now (out .exit)) r ⌝ }
-{
-    let p = output::lay(write, b"<", out, pos);
-    let list = lay_entries(write, words, pairs, text, Entry::Param, 0, n, at, out, p);
-    let Place::At { next, pos: end } = list else {
-        return list;
-    };
-    Place::At {
-        next,
-        pos: output::lay(write, b">", out, end),
-    }
-}
-
-// The parameters of a declaration.
-pub fn lay_parameters(
-    write: bool,
-    words: &[u32],
-    pairs: &[u32],
-    text: &[u8],
-    at: usize,
-    out: &mut [u8],
-    pos: usize,
-) -> Place
-    requires { ⌜ Checked (now words) (now pairs) (now text) × Ready write (now out) pos (parametersAt (now words) (now pairs) (now text) at) ⌝ }
-    ensures { λ r. ⌜ Went write (now (out .entry)) pos (parametersAt (now (words .entry)) (now (pairs .entry)) (now (text .entry)) at) (now (out .exit)) r ⌝ }
-{
-    match encoding::scan_word(words, at) {
-        WordScan::Word { value, next } => {
-            if value == 0 {
-                return Place::At { next, pos };
-            }
-            lay_parameters_some(write, words, pairs, text, value, next, out, pos)
-        }
-        WordScan::NoWord(r) => Place::Stopped(r),
-    }
-}
-
-// Named fields, one at least.
-fn lay_named_some(
-    write: bool,
-    words: &[u32],
-    pairs: &[u32],
-    text: &[u8],
-    level: u32,
-    n: u32,
-    at: usize,
-    out: &mut [u8],
-    pos: usize,
-) -> Place
-    requires { ⌜ Checked (now words) (now pairs) (now text) × (0 < n) × (level < 2 ^ 31) × Ready write (now out) pos (namedSome (now words) (now pairs) (now text) level n at) ⌝ }
-    ensures { λ r. ⌜ Went write (now (out .entry)) pos (namedSome (now (words .entry)) (now (pairs .entry)) (now (text .entry)) level n at) (now (out .exit)) r ⌝ }
+// An open brace, and the line of the first named field.
+fn lay_open_brace(write: bool, level: u32, out: &mut [u8], pos: usize) -> usize
+    requires { ⌜ (level < 2 ^ 31) × Fits write (now out) pos (ascii " {" ++ lineText (level + 1)) ⌝ }
+    ensures { λ r. ⌜ Laid write (now (out .entry)) pos (ascii " {" ++ lineText (level + 1)) (now (out .exit)) r ⌝ }
 {
     let p = output::lay(write, b" {", out, pos);
-    let p = doc::lay_line(write, level + 1, out, p);
-    let list = lay_entries(
-        write,
-        words,
-        pairs,
-        text,
-        Entry::Named,
-        level,
-        n,
-        at,
-        out,
-        p,
-    );
-    let Place::At { next, pos: end } = list else {
-        return list;
-    };
-    let p = doc::lay_line(write, level, out, end);
-    Place::At {
-        next,
-        pos: output::lay(write, b"}", out, p),
-    }
+    doc::lay_line(write, level + 1, out, p)
 }
 
-// Named fields, behind the word that says so.
-pub fn lay_named(
-    write: bool,
-    words: &[u32],
-    pairs: &[u32],
-    text: &[u8],
-    level: u32,
-    at: usize,
-    out: &mut [u8],
-    pos: usize,
-) -> Place
-    requires { ⌜ Checked (now words) (now pairs) (now text) × (level < 2 ^ 31) × Ready write (now out) pos (namedAt (now words) (now pairs) (now text) level at) ⌝ }
-    ensures { λ r. ⌜ Went write (now (out .entry)) pos (namedAt (now (words .entry)) (now (pairs .entry)) (now (text .entry)) level at) (now (out .exit)) r ⌝ }
+// A line behind the last named field, and its brace.
+fn lay_close_brace(write: bool, level: u32, out: &mut [u8], pos: usize) -> usize
+    requires { ⌜ Fits write (now out) pos (lineText level ++ ascii "}") ⌝ }
+    ensures { λ r. ⌜ Laid write (now (out .entry)) pos (lineText level ++ ascii "}") (now (out .exit)) r ⌝ }
 {
-    match encoding::scan_word(words, at) {
-        WordScan::Word { value, next } => {
-            if value == 0 {
-                return Place::At {
-                    next,
-                    pos: output::lay(write, b" {}", out, pos),
-                };
-            }
-            lay_named_some(write, words, pairs, text, level, value, next, out, pos)
-        }
-        WordScan::NoWord(r) => Place::Stopped(r),
-    }
+    let p = doc::lay_line(write, level, out, pos);
+    output::lay(write, b"}", out, p)
 }
 
-// Fields without names stand on lines of their own in an enum, and not in a struct.
-fn nameless_entry(lined: bool) -> Entry
-    ensures { λ r. ⌜ r ≡ namelessEntry lined ⌝ }
+// What stands before the first field.
+fn lay_list_front(write: bool, named: bool, level: u32, out: &mut [u8], pos: usize) -> usize
+    requires { ⌜ (level < 2 ^ 31) × Fits write (now out) pos (listFront named level) ⌝ }
+    ensures { λ r. ⌜ Laid write (now (out .entry)) pos (listFront named level) (now (out .exit)) r ⌝ }
 {
-    if lined {
-        return Entry::Lined;
+    if named {
+        return lay_open_brace(write, level, out, pos);
     }
-    Entry::Inline
+    output::lay(write, b"(", out, pos)
 }
 
-// `n` fields without names. `entry` is `Lined` in an enum and `Inline` in a struct.
-fn lay_nameless_some(
+// What stands behind the last one.
+fn lay_list_end(write: bool, named: bool, level: u32, out: &mut [u8], pos: usize) -> usize
+    requires { ⌜ Fits write (now out) pos (listEnd named level) ⌝ }
+    ensures { λ r. ⌜ Laid write (now (out .entry)) pos (listEnd named level) (now (out .exit)) r ⌝ }
+{
+    if named {
+        return lay_close_brace(write, level, out, pos);
+    }
+    output::lay(write, b")", out, pos)
+}
+
+// What stands for no fields.
+fn lay_no_fields(write: bool, named: bool, out: &mut [u8], pos: usize) -> usize
+    requires { ⌜ Fits write (now out) pos (noFields named) ⌝ }
+    ensures { λ r. ⌜ Laid write (now (out .entry)) pos (noFields named) (now (out .exit)) r ⌝ }
+{
+    if named {
+        return output::lay(write, b" {}", out, pos);
+    }
+    output::lay(write, b"()", out, pos)
+}
+
+// `n` fields with what stands around them.
+fn lay_some(
     write: bool,
     words: &[u32],
     pairs: &[u32],
@@ -298,49 +238,50 @@ fn lay_nameless_some(
     out: &mut [u8],
     pos: usize,
 ) -> Place
-    requires { ⌜ Checked (now words) (now pairs) (now text) × (0 < n) × (level < 2 ^ 31) × Ready write (now out) pos (namelessSome (now words) (now pairs) (now text) entry level n at) ⌝ }
-    ensures { λ r. ⌜ Went write (now (out .entry)) pos (namelessSome (now (words .entry)) (now (pairs .entry)) (now (text .entry)) entry level n at) (now (out .exit)) r ⌝ }
+    requires { ⌜ Checked (now words) (now pairs) (now text) × (0 < n) × (level < 2 ^ 31) × Ready write (now out) pos (someAt (now words) (now pairs) (now text) entry level n at) ⌝ }
+    ensures { λ r. ⌜ Went write (now (out .entry)) pos (someAt (now (words .entry)) (now (pairs .entry)) (now (text .entry)) entry level n at) (now (out .exit)) r ⌝ }
 {
-    let p = output::lay(write, b"(", out, pos);
+    let named = is_named(entry);
+    let p = lay_list_front(write, named, level, out, pos);
     let list = lay_entries(write, words, pairs, text, entry, level, n, at, out, p);
     let Place::At { next, pos: end } = list else {
         return list;
     };
     Place::At {
         next,
-        pos: output::lay(write, b")", out, end),
+        pos: lay_list_end(write, named, level, out, end),
     }
 }
 
-// Fields without names, behind the word that says so.
-pub fn lay_nameless_fields(
+// The fields behind the word that says whether they have names.
+pub fn lay_list(
     write: bool,
     words: &[u32],
     pairs: &[u32],
     text: &[u8],
-    lined: bool,
+    entry: Entry,
     level: u32,
     at: usize,
     out: &mut [u8],
     pos: usize,
 ) -> Place
-    requires { ⌜ Checked (now words) (now pairs) (now text) × (level < 2 ^ 31) × Ready write (now out) pos (namelessFieldsAt (now words) (now pairs) (now text) lined level at) ⌝ }
-    ensures { λ r. ⌜ Went write (now (out .entry)) pos (namelessFieldsAt (now (words .entry)) (now (pairs .entry)) (now (text .entry)) lined level at) (now (out .exit)) r ⌝ }
+    requires { ⌜ Checked (now words) (now pairs) (now text) × (level < 2 ^ 31) × Ready write (now out) pos (listAt (now words) (now pairs) (now text) entry level at) ⌝ }
+    ensures { λ r. ⌜ Went write (now (out .entry)) pos (listAt (now (words .entry)) (now (pairs .entry)) (now (text .entry)) entry level at) (now (out .exit)) r ⌝ }
 {
     match encoding::scan_word(words, at) {
         WordScan::Word { value, next } => {
             if value == 0 {
                 return Place::At {
                     next,
-                    pos: output::lay(write, b"()", out, pos),
+                    pos: lay_no_fields(write, is_named(entry), out, pos),
                 };
             }
-            lay_nameless_some(
+            lay_some(
                 write,
                 words,
                 pairs,
                 text,
-                nameless_entry(lined),
+                entry,
                 level,
                 value,
                 next,

@@ -1,6 +1,6 @@
 -- The text of a field's name and type, by the case that the code takes.
 use Prim.Native.Nat.{ℕ, _+_}
-use mathlib.Core.Path.{_≡_, refl, ap, sym, _∙_}
+use mathlib.Core.Path.{_≡_, refl, ap, sym, _∙_, subst}
 use mathlib.Core.Bool.{Bool, true, false}
 use mathlib.Core.List.{List, _++_, append-assoc}
 use Rattle.rast.specs.Bytes.{Bytes, ascii, same, _and_}
@@ -8,19 +8,23 @@ use Rattle.rast.specs.Tree.{Ty, TIdentifier}
 use Rattle.rast.specs.ToString.{Type·ToString}
 use Rattle.rast.specs.Declaration.{Formal}
 use Rattle.rast.specs.DeclarationToString.{Expand, isSelfOwned, isSelfBorrowed, isSelfBorrowedMut, isUnderscore, Formal·ToString}
+use Rattle.output.specs.Laid.{Laid}
 use Rattle.encoding.specs.declared.Refusal.{Refusal}
 use Rattle.encoding.specs.Refusals.{pick}
 use Rattle.encoding.specs.Reading.{Reading, got, stop, _>>=_, mapReading, readBelow}
 use Rattle.encoding.specs.Tables.{nameBytes, nameCount}
 use Rattle.encoding.specs.Types.{typeAt}
 use Rattle.encoding.specs.Declarations.{readName, readFormal}
-use Rattle.laying.specs.declared.Place.{Place}
-use Rattle.laying.specs.Passes.{last, _then_, run, Ready, Went}
+use Rattle.encoding.proofs.Tables.{impossible}
+use Rattle.laying.specs.Passes.{last, _then_, run, Ready, Came, Along}
 use Rattle.laying.specs.Texts.{typeTextAt}
-use Rattle.laying.proofs.Passes.{Runs, ReadyChain, WentChain, ready-runs, went-runs}
+use Rattle.laying.proofs.Passes.{Runs, ReadyChain, came-bytes, ready-runs, ready-last, ready-next, went-runs, went-last, went-then}
 use Rattle.laying.proofs.Splits.{map-got, map-made}
+use Rattle.formal.specs.declared.Label.{Label}
+use Rattle.formal.specs.declared.Label.the-variants.{Open, Whole, NoLabel}
 use Rattle.formal.specs.declared.Receiver.{Receiver}
 use Rattle.formal.specs.declared.Receiver.the-variants.{ByValue, ByRef, ByMut, Typed}
+use Rattle.formal.specs.Labels.{Labelled, opened, whole, unread}
 use Rattle.formal.specs.Receivers.{receiverOf}
 use Rattle.formal.specs.Texts.{formalAt, formalOf, typedAt}
 
@@ -146,7 +150,38 @@ module _ (ws pairs : List ℕ) (text : Bytes) (x at : ℕ) where
       → ReadyChain write o pos (got (nameBytes pairs text x) at then λ p. got (ascii ": ") p then λ q. last (typeTextAt ws pairs text q))
   typed-chain r = ready-runs typed-runs r
 
-  pub typed-went : {write : Bool} {o o′ : List ℕ} {pos : ℕ} {r : Place}
-      → WentChain write o pos (got (nameBytes pairs text x) at then λ p. got (ascii ": ") p then λ q. last (typeTextAt ws pairs text q)) o′ r
-      → Went write o pos (typedAt ws pairs text x at) o′ r
-  typed-went w = went-runs typed-runs w
+  -- the name and what follows it are laid: the type is left
+  pub typed-along : {write : Bool} {o o₁ o₂ : List ℕ} {pos p₁ p₂ : ℕ} → Ready write o pos (typedAt ws pairs text x at) → Laid write o pos (nameBytes pairs text x) o₁ p₁ → Laid write o₁ p₁ (ascii ": ") o₂ p₂
+      → Along write o pos (typedAt ws pairs text x at) o₂ p₂ (typeTextAt ws pairs text at)
+  typed-along r k l = record {
+    ready = ready-last (ready-next (ready-next (typed-chain r) (came-bytes at k)) (came-bytes at l));
+    ends = λ o″ a w. went-runs typed-runs (went-then (came-bytes at k) (went-then (came-bytes at l) (went-last w)));
+  }
+
+-- ---- how far a field was laid
+
+module _ {rest : ℕ → Reading Bytes} {write : Bool} {o : List ℕ} {p : ℕ} {o′ : List ℕ} where
+  pub labelled-as : {x y : Reading Bytes} {r : Label} → x ≡ y → Labelled rest write o p x o′ r → Labelled rest write o p y o′ r
+  labelled-as {r = r} e l = subst (λ (z : Reading Bytes). Labelled rest write o p z o′ r) e l
+
+  module _ {x : Reading Bytes} where
+    pub label-open : {r : Label} {n q : ℕ} → Labelled rest write o p x o′ r → r ≡ Open n q → Along write o p x o′ q (rest n)
+    label-open {n = n} {q = q} (opened {n = m} {p′ = p′} a) e =
+        let u : m ≡ n = cc in
+        let v : p′ ≡ q = cc in
+        subst (λ (z : ℕ). Along write o p x o′ q (rest z)) u (subst (λ (z : ℕ). Along write o p x o′ z (rest m)) v a)
+    label-open (whole c) e = impossible (cc)
+    label-open (unread d k) e = impossible (cc)
+
+    pub label-whole : {r : Label} {n q : ℕ} → Labelled rest write o p x o′ r → r ≡ Whole n q → Came write o p x o′ n q
+    label-whole (opened a) e = impossible (cc)
+    label-whole {n = n} {q = q} (whole {n = m} {p′ = p′} c) e =
+        let u : m ≡ n = cc in
+        let v : p′ ≡ q = cc in
+        subst (λ (z : ℕ). Came write o p x o′ z q) u (subst (λ (z : ℕ). Came write o p x o′ m z) v c)
+    label-whole (unread d k) e = impossible (cc)
+
+    pub label-none : {r : Label} {k : Refusal} → Labelled rest write o p x o′ r → r ≡ NoLabel k → (x ≡ stop k) × (o′ ≡ o)
+    label-none (opened a) e = impossible (cc)
+    label-none (whole c) e = impossible (cc)
+    label-none {k = k} (unread {k = m} d h) e = let u : m ≡ k = cc in (d ∙ ap stop u, h)

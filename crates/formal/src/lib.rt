@@ -1,4 +1,5 @@
-// A named field's name and type: `Formal.ToString`. A field named `self` may show without its type.
+// A named field's name and type: `Formal.ToString`. A field named `self` may show without its type. The type itself is left to the caller, so that it is laid at
+// one place, whether a field has a name or not.
 ghost use Rattle.rast.specs.DeclarationToString.{isSelfOwned};
 ghost use Rattle.encoding.specs.Tables.{Good, nameBytes, nameCount};
 ghost use Rattle.encoding.specs.Types.{typeAt};
@@ -8,12 +9,21 @@ ghost use mathlib.Core.Path.{_≡_};
 ghost use mathlib.Core.Bool.{true, false};
 ghost use Prim.Native.Nat.{_<_};
 ghost use Rattle.rast.specs.Bytes.{ascii, same};
-ghost use Rattle.laying.specs.Passes.{Checked, Ready, Went};
+ghost use Rattle.laying.specs.Passes.{Checked, Ready};
+ghost use Rattle.laying.specs.Texts.{typeTextAt};
 ghost use Rattle.formal.specs.Texts.{formalAt, formalOf, typedAt};
+ghost use Rattle.formal.specs.Labels.{Labelled};
 ghost use Rattle.formal.specs.Receivers.{receiverOf, BorrowKind, isSelfBorrowedAs, Tells};
+use encoding::Refusal;
 use encoding::WordScan;
-use laying::Place;
 use measure::Measure;
+
+// How far a named field was laid, in the words and in the text: up to its type, or whole; or the refusal that was met.
+pub enum Label {
+    Open { next: usize, pos: usize },
+    Whole { next: usize, pos: usize },
+    NoLabel(Refusal),
+}
 
 // How a field named `self` shows: the name alone, behind `&` or `&mut `, or with its type.
 enum Receiver {
@@ -85,8 +95,8 @@ fn self_form(words: &[u32], pairs: &[u32], text: &[u8], at: usize) -> Receiver
     Receiver::Typed
 }
 
-// A name, and the type at `at` behind it.
-fn lay_with_type(
+// A name, before the type at `at`.
+fn lay_open(
     write: bool,
     words: &[u32],
     pairs: &[u32],
@@ -95,13 +105,15 @@ fn lay_with_type(
     at: usize,
     out: &mut [u8],
     pos: usize,
-) -> Place
+) -> Label
     requires { ⌜ Checked (now words) (now pairs) (now text) × (name < nameCount (now pairs)) × Ready write (now out) pos (typedAt (now words) (now pairs) (now text) name at) ⌝ }
-    ensures { λ r. ⌜ Went write (now (out .entry)) pos (typedAt (now (words .entry)) (now (pairs .entry)) (now (text .entry)) name at) (now (out .exit)) r ⌝ }
+    ensures { λ r. ⌜ Labelled (typeTextAt (now (words .entry)) (now (pairs .entry)) (now (text .entry))) write (now (out .entry)) pos (typedAt (now (words .entry)) (now (pairs .entry)) (now (text .entry)) name at) (now (out .exit)) r ⌝ }
 {
     let p = laying::lay_known(write, pairs, text, name, out, pos);
-    let p = output::lay(write, b": ", out, p);
-    laying::lay_type(write, words, pairs, text, at, out, p)
+    Label::Open {
+        next: at,
+        pos: output::lay(write, b": ", out, p),
+    }
 }
 
 // A field with another name than `self`.
@@ -114,17 +126,17 @@ fn lay_typed(
     at: usize,
     out: &mut [u8],
     pos: usize,
-) -> Place
+) -> Label
     requires { ⌜ Checked (now words) (now pairs) (now text) × (name < nameCount (now pairs)) × (same (nameBytes (now pairs) (now text) name) (ascii "self") ≡ false) × Ready write (now out) pos (formalOf (now words) (now pairs) (now text) name at) ⌝ }
-    ensures { λ r. ⌜ Went write (now (out .entry)) pos (formalOf (now (words .entry)) (now (pairs .entry)) (now (text .entry)) name at) (now (out .exit)) r ⌝ }
+    ensures { λ r. ⌜ Labelled (typeTextAt (now (words .entry)) (now (pairs .entry)) (now (text .entry))) write (now (out .entry)) pos (formalOf (now (words .entry)) (now (pairs .entry)) (now (text .entry)) name at) (now (out .exit)) r ⌝ }
 {
     if is_underscore(words, pairs, text, at) {
-        return Place::At {
+        return Label::Whole {
             next: at + 2,
             pos: laying::lay_known(write, pairs, text, name, out, pos),
         };
     }
-    lay_with_type(write, words, pairs, text, name, at, out, pos)
+    lay_open(write, words, pairs, text, name, at, out, pos)
 }
 
 // A field named `self`, whose type was accepted and ends at `end`.
@@ -138,30 +150,30 @@ fn lay_receiver(
     at: usize,
     out: &mut [u8],
     pos: usize,
-) -> Place
+) -> Label
     requires { ⌜ Checked (now words) (now pairs) (now text) × (name < nameCount (now pairs)) × (same (nameBytes (now pairs) (now text) name) (ascii "self") ≡ true) × EndsAt (typeAt (now words) (now pairs) (now text) at) end × Ready write (now out) pos (formalOf (now words) (now pairs) (now text) name at) ⌝ }
-    ensures { λ r. ⌜ Went write (now (out .entry)) pos (formalOf (now (words .entry)) (now (pairs .entry)) (now (text .entry)) name at) (now (out .exit)) r ⌝ }
+    ensures { λ r. ⌜ Labelled (typeTextAt (now (words .entry)) (now (pairs .entry)) (now (text .entry))) write (now (out .entry)) pos (formalOf (now (words .entry)) (now (pairs .entry)) (now (text .entry)) name at) (now (out .exit)) r ⌝ }
 {
     match self_form(words, pairs, text, at) {
-        Receiver::ByValue => Place::At {
+        Receiver::ByValue => Label::Whole {
             next: end,
             pos: laying::lay_known(write, pairs, text, name, out, pos),
         },
         Receiver::ByRef => {
             let p = output::lay(write, b"&", out, pos);
-            Place::At {
+            Label::Whole {
                 next: end,
                 pos: laying::lay_known(write, pairs, text, name, out, p),
             }
         }
         Receiver::ByMut => {
             let p = output::lay(write, b"&mut ", out, pos);
-            Place::At {
+            Label::Whole {
                 next: end,
                 pos: laying::lay_known(write, pairs, text, name, out, p),
             }
         }
-        Receiver::Typed => lay_with_type(write, words, pairs, text, name, at, out, pos),
+        Receiver::Typed => lay_open(write, words, pairs, text, name, at, out, pos),
     }
 }
 
@@ -175,9 +187,9 @@ fn lay_self(
     at: usize,
     out: &mut [u8],
     pos: usize,
-) -> Place
+) -> Label
     requires { ⌜ Checked (now words) (now pairs) (now text) × (name < nameCount (now pairs)) × (same (nameBytes (now pairs) (now text) name) (ascii "self") ≡ true) × Ready write (now out) pos (formalOf (now words) (now pairs) (now text) name at) ⌝ }
-    ensures { λ r. ⌜ Went write (now (out .entry)) pos (formalOf (now (words .entry)) (now (pairs .entry)) (now (text .entry)) name at) (now (out .exit)) r ⌝ }
+    ensures { λ r. ⌜ Labelled (typeTextAt (now (words .entry)) (now (pairs .entry)) (now (text .entry))) write (now (out .entry)) pos (formalOf (now (words .entry)) (now (pairs .entry)) (now (text .entry)) name at) (now (out .exit)) r ⌝ }
 {
     match measure::measure_type(words, pairs, text, at) {
         Measure::Measured { next, bytes: _ } => lay_receiver(
@@ -191,12 +203,12 @@ fn lay_self(
             out,
             pos,
         ),
-        Measure::Stopped(r) => Place::Stopped(r),
+        Measure::Stopped(r) => Label::NoLabel(r),
     }
 }
 
-// A field's name and type: `Formal.ToString`.
-pub fn lay_formal(
+// A field's name and type, `Formal.ToString`, or all of it but the type.
+pub fn lay_label(
     write: bool,
     words: &[u32],
     pairs: &[u32],
@@ -204,9 +216,9 @@ pub fn lay_formal(
     at: usize,
     out: &mut [u8],
     pos: usize,
-) -> Place
+) -> Label
     requires { ⌜ Checked (now words) (now pairs) (now text) × Ready write (now out) pos (formalAt (now words) (now pairs) (now text) at) ⌝ }
-    ensures { λ r. ⌜ Went write (now (out .entry)) pos (formalAt (now (words .entry)) (now (pairs .entry)) (now (text .entry)) at) (now (out .exit)) r ⌝ }
+    ensures { λ r. ⌜ Labelled (typeTextAt (now (words .entry)) (now (pairs .entry)) (now (text .entry))) write (now (out .entry)) pos (formalAt (now (words .entry)) (now (pairs .entry)) (now (text .entry)) at) (now (out .exit)) r ⌝ }
 {
     match encoding::scan_below(words, encoding::name_count(pairs), at) {
         WordScan::Word { value, next } => {
@@ -215,6 +227,6 @@ pub fn lay_formal(
             }
             lay_typed(write, words, pairs, text, value, next, out, pos)
         }
-        WordScan::NoWord(r) => Place::Stopped(r),
+        WordScan::NoWord(r) => Label::NoLabel(r),
     }
 }

@@ -7,25 +7,30 @@ use borrow.Author.Tests.{eq-eqb, ne-eqb, leb-true}
 use lib.Dec.{leb}
 use lib.ListN.{length, getD}
 use Rattle.rast.specs.Bytes.{Bytes, ascii, _and_}
-use Rattle.rast.specs.Tree.{Ty}
-use Rattle.rast.specs.ToString.{Type·ToString}
+use Rattle.rast.specs.Tree.{U8, Ty}
+use Rattle.rast.specs.ToString.{Primitive·ToString, Type·ToString}
 use Rattle.rast.specs.Indent.{indent}
 use Rattle.rast.specs.Doc.{ToDocstringPrefix}
 use Rattle.rast.specs.DeclarationToString.{Visibility·ToString}
 use Rattle.output.specs.Laid.{clamp}
 use Rattle.output.proofs.Passes.{clamp-twice, laid-wrote, laid-counted}
 use Rattle.encoding.specs.declared.Refusal.{Refusal}
+use Rattle.encoding.specs.declared.Refusal.the-variants.{EndsEarly}
+use Rattle.encoding.specs.declared.Head.the-variants.{Name}
 use Rattle.encoding.specs.declared.WordScan.{WordScan}
 use Rattle.encoding.specs.declared.WordScan.the-variants.{Word, NoWord}
 use Rattle.encoding.specs.declared.PathAt.{PathAt}
 use Rattle.encoding.specs.declared.PathScan.{PathScan}
 use Rattle.encoding.specs.declared.PathScan.the-variants.{OwnPath, NoPath}
-use Rattle.encoding.specs.Reading.{Reading, got, stop, mapReading, readBelow}
+use Rattle.encoding.specs.Reading.{Reading, got, stop, _>>=_, mapReading, readBelow}
 use Rattle.encoding.specs.Scans.{wordScan, pathScan}
 use Rattle.encoding.specs.Tables.{fixedNames, nameBytes, nameCount}
-use Rattle.encoding.specs.Heads.{readPath}
+use Rattle.encoding.specs.Heads.{readPath, headAfter}
+use Rattle.encoding.specs.Types.{primitives, readNode, readType}
 use Rattle.encoding.specs.Declarations.{visibilityOf, readVisibility, readName}
 use Rattle.encoding.proofs.Tables.{impossible, everyBelow, every-at, name-fixed}
+use Rattle.encoding.proofs.Heads.{head-at, head-plain}
+use Rattle.encoding.proofs.Types.{type-end}
 use Rattle.encoding.proofs.Reading.{word-got, word-stop, path-got, path-stop}
 use Rattle.measure.specs.declared.Measure.{Measure}
 use Rattle.measure.specs.declared.Measure.the-variants.{Measured, Stopped as Refused}
@@ -35,7 +40,7 @@ use Rattle.writing.specs.declared.Spot.{Spot}
 use Rattle.writing.specs.Written.{Room, Written}
 use Rattle.laying.specs.declared.Place.the-variants.{At, Stopped}
 use Rattle.laying.specs.Passes.{Went, came}
-use Rattle.laying.specs.Texts.{visibilityAt, nameAt, docAt}
+use Rattle.laying.specs.Texts.{visibilityAt, nameAt, typeTextAt, docAt}
 use Rattle.laying.proofs.Passes.{stops-here}
 use Rattle.laying.proofs.Splits.{map-got, map-stop}
 
@@ -117,3 +122,24 @@ module _ {write : Bool} {o : List ℕ} {p : ℕ} (x : Reading (Ty Bytes)) where
 
   pub went-refused : {r : Measure} {k : Refusal} → r ≡ measureOf x → r ≡ Refused k → Went write o p (mapReading Type·ToString x) o (Stopped k)
   went-refused e d = stops-here (map-stop Type·ToString (measured-stop x e d))
+
+-- ---- types of which the first word tells enough
+
+-- a name as a type is the name's text
+name-map : (ws : List ℕ) (name : ℕ → Bytes) (again : ℕ → Reading (Ty Bytes)) (x : Reading ℕ)
+    → mapReading Type·ToString ((x >>= λ v q. got (Name v) q) >>= λ h p. readNode ws name again h p) ≡ x >>= λ v q. got (name v) q
+unfolding mapReading readNode Type·ToString
+name-map ws name again (got v q) = refl
+name-map ws name again (stop k) = refl
+
+module _ (ws pairs : List ℕ) (text : Bytes) (at : ℕ) where
+  pub ended-text : length ws ≤ at → typeTextAt ws pairs text at ≡ stop EndsEarly
+  ended-text h = map-stop Type·ToString (type-end ws pairs text at h)
+
+  pub plain-text : at < length ws → getD ws at 0 < 12 → typeTextAt ws pairs text at ≡ got (Primitive·ToString (getD primitives (getD ws at 0) U8)) (at + 1)
+  unfolding readType readNode mapReading Type·ToString
+  plain-text h k = rw (head-at (nameCount pairs) ws at h, head-plain (nameCount pairs) ws (getD ws at 0) (at + 1) k)
+
+  pub named-text : at < length ws → getD ws at 0 ≡ 12 → typeTextAt ws pairs text at ≡ nameAt ws pairs text (at + 1)
+  unfolding readType readName headAfter
+  named-text h k = rw (head-at (nameCount pairs) ws at h, k) (name-map ws (nameBytes pairs text) (readType (nameCount pairs) ws (nameBytes pairs text) 63) (readBelow (nameCount pairs) ws (at + 1)))

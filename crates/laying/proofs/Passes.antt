@@ -17,7 +17,7 @@ use Rattle.encoding.proofs.Types.{bind-got}
 use Rattle.writing.specs.Written.{Room}
 use Rattle.laying.specs.declared.Place.{Place}
 use Rattle.laying.specs.declared.Place.the-variants.{At, Stopped}
-use Rattle.laying.specs.Passes.{Chain, last, _then_, run, listed, Ready, Came, Went, came, stopped}
+use Rattle.laying.specs.Passes.{Chain, last, _then_, run, listed, Ready, Came, Went, came, stopped, Along}
 
 -- ---- from an answer to what it says
 
@@ -187,11 +187,6 @@ module _ (item : ℕ → Reading Bytes) (separator : Bytes) where
   ready-item zero at h r = absurd (let z : ⊥ = omega arith in z)
   ready-item (suc zero) at h r = r
   ready-item (suc (suc n)) at h r = ready-first (ready-runs (listed-more (suc (suc n)) at (omega arith)) r)
-
--- how a loop over a list has come so far: what is left of it is the whole's end
-pub record Along (write : Bool) (o : List ℕ) (p : ℕ) (whole : Reading Bytes) (o′ : List ℕ) (p′ : ℕ) (left : Reading Bytes) : Type 0 where
-  pub ready : Ready write o′ p′ left
-  pub ends : (o″ : List ℕ) (r : Place) → Went write o′ p′ left o″ r → Went write o p whole o″ r
 
 pub along-start : {write : Bool} {o : List ℕ} {p : ℕ} {x : Reading Bytes} → Ready write o p x → Along write o p x o p x
 along-start r = record { ready = r; ends = λ o″ r w. w }

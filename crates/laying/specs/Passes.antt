@@ -48,3 +48,8 @@ pub record Came (write : Bool) (o : List ℕ) (p : ℕ) (x : Reading Bytes) (o�
 pub data Went (write : Bool) (o : List ℕ) (p : ℕ) (x : Reading Bytes) (o′ : List ℕ) : Place → Type 0 where
   came : {n p′ : ℕ} → Came write o p x o′ n p′ → Went write o p x o′ (At n p′)
   stopped : {k : Refusal} → x ≡ stop k → (write ≡ false → o′ ≡ o) → Went write o p x o′ (Stopped k)
+
+-- how a pass over a text has come so far: what is left of it is the whole's end
+pub record Along (write : Bool) (o : List ℕ) (p : ℕ) (whole : Reading Bytes) (o′ : List ℕ) (p′ : ℕ) (left : Reading Bytes) : Type 0 where
+  pub ready : Ready write o′ p′ left
+  pub ends : (o″ : List ℕ) (r : Place) → Went write o′ p′ left o″ r → Went write o p whole o″ r

@@ -1,13 +1,15 @@
 // Passes over the words of a declaration: names, docs, types and paths. A pass reads what stands there and lays its text: it writes the
 // bytes, or only counts them.
 ghost use Prim.Native.Nat.{_<_};
-ghost use Rattle.rast.specs.ToString.{Path·ToString};
+ghost use lib.ListN.{getD};
+ghost use Rattle.rast.specs.Tree.{U8};
+ghost use Rattle.rast.specs.ToString.{Path·ToString, Primitive·ToString};
 ghost use Rattle.rast.specs.Indent.{indent};
 ghost use Rattle.rast.specs.Doc.{ToDocstringPrefix};
 ghost use Rattle.output.specs.Laid.{Laid, Fits};
 ghost use Rattle.encoding.specs.Tables.{Good, nameBytes, nameCount};
 ghost use Rattle.encoding.specs.Heads.{InsidePath};
-ghost use Rattle.encoding.specs.Types.{pathOf};
+ghost use Rattle.encoding.specs.Types.{primitives, pathOf};
 ghost use Rattle.laying.specs.Passes.{Checked, Ready, Went};
 ghost use Rattle.laying.specs.Texts.{visibilityAt, nameAt, typeTextAt, pathTextAt, docAt};
 use encoding::PathAt;
@@ -154,6 +156,46 @@ pub fn lay_type(
         },
         Measure::Stopped(r) => Place::Stopped(r),
     }
+}
+
+// A plain type that was read.
+fn lay_plain(write: bool, kind: u32, out: &mut [u8], pos: usize) -> usize
+    requires { ⌜ (kind < 12) × Fits write (now out) pos (Primitive·ToString (getD primitives kind U8)) ⌝ }
+    ensures { λ r. ⌜ Laid write (now (out .entry)) pos (Primitive·ToString (getD primitives kind U8)) (now (out .exit)) r ⌝ }
+{
+    if write {
+        return leaves::put_primitive(kind, out, pos);
+    }
+    output::count_on(pos, encoding::primitive_length(kind))
+}
+
+// The type at `at` of a field: most have a plain type or a name, for which neither the measuring pass nor the writer is called.
+pub fn lay_field_type(
+    write: bool,
+    words: &[u32],
+    pairs: &[u32],
+    text: &[u8],
+    at: usize,
+    out: &mut [u8],
+    pos: usize,
+) -> Place
+    requires { ⌜ Checked (now words) (now pairs) (now text) × Ready write (now out) pos (typeTextAt (now words) (now pairs) (now text) at) ⌝ }
+    ensures { λ r. ⌜ Went write (now (out .entry)) pos (typeTextAt (now (words .entry)) (now (pairs .entry)) (now (text .entry)) at) (now (out .exit)) r ⌝ }
+{
+    if words.len() <= at {
+        return Place::Stopped(Refusal::EndsEarly);
+    }
+    let w = words[at];
+    if w < 12 {
+        return Place::At {
+            next: at + 1,
+            pos: lay_plain(write, w, out, pos),
+        };
+    }
+    if w == 12 {
+        return lay_name(write, words, pairs, text, at + 1, out, pos);
+    }
+    lay_type(write, words, pairs, text, at, out, pos)
 }
 
 // The path at `at`.

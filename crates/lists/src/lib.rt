@@ -1,15 +1,18 @@
-// Lists of names and of types: the attributes of a declaration, and its parameters.
+// The attributes of a declaration, each with its arguments, and its parameters, each with its constraints.
+ghost use mathlib.Core.List.{_++_};
 ghost use Prim.Native.Nat.{_<_};
+ghost use Rattle.rast.specs.Bytes.{ascii};
+ghost use Rattle.rast.specs.Indent.{indent};
 ghost use Rattle.output.specs.Laid.{Laid, Fits};
 ghost use Rattle.laying.specs.Passes.{Checked, Ready, Went};
-ghost use Rattle.lists.specs.Texts.{markText, leafAt, leavesAt, someAt, countedAt, attributeAt, parameterAt};
+ghost use Rattle.lists.specs.Texts.{markText, leafAt, leavesAt, someAt, countedAt, itemFront, itemEnd, itemAt, itemMark, itemsAt, itemsSome, itemListAt};
 use encoding::WordScan;
 use laying::Place;
 
-// What a list is of: an attribute's arguments, a parameter's constraints.
-enum Leaf {
-    Argument,
-    Constraint,
+// What a list is of: attributes, which have arguments, or parameters, which have constraints.
+pub enum Item {
+    Attribute,
+    Parameter,
 }
 
 // Where a fixed text of a list stands.
@@ -19,38 +22,38 @@ enum Mark {
     Behind,
 }
 
-// One of a list.
+// An argument or a constraint.
 fn lay_leaf(
     write: bool,
     words: &[u32],
     pairs: &[u32],
     text: &[u8],
-    leaf: Leaf,
+    item: Item,
     at: usize,
     out: &mut [u8],
     pos: usize,
 ) -> Place
-    requires { ⌜ Checked (now words) (now pairs) (now text) × Ready write (now out) pos (leafAt (now words) (now pairs) (now text) leaf at) ⌝ }
-    ensures { λ r. ⌜ Went write (now (out .entry)) pos (leafAt (now (words .entry)) (now (pairs .entry)) (now (text .entry)) leaf at) (now (out .exit)) r ⌝ }
+    requires { ⌜ Checked (now words) (now pairs) (now text) × Ready write (now out) pos (leafAt (now words) (now pairs) (now text) item at) ⌝ }
+    ensures { λ r. ⌜ Went write (now (out .entry)) pos (leafAt (now (words .entry)) (now (pairs .entry)) (now (text .entry)) item at) (now (out .exit)) r ⌝ }
 {
-    match leaf {
-        Leaf::Argument => laying::lay_name(write, words, pairs, text, at, out, pos),
-        Leaf::Constraint => laying::lay_type(write, words, pairs, text, at, out, pos),
+    match item {
+        Item::Attribute => laying::lay_name(write, words, pairs, text, at, out, pos),
+        Item::Parameter => laying::lay_type(write, words, pairs, text, at, out, pos),
     }
 }
 
-// A fixed text of a list: in front of it, between two of it, behind it.
-fn lay_mark(write: bool, leaf: Leaf, mark: Mark, out: &mut [u8], pos: usize) -> usize
-    requires { ⌜ Fits write (now out) pos (markText leaf mark) ⌝ }
-    ensures { λ r. ⌜ Laid write (now (out .entry)) pos (markText leaf mark) (now (out .exit)) r ⌝ }
+// A fixed text of a list of these: in front of it, between two of it, behind it.
+fn lay_mark(write: bool, item: Item, mark: Mark, out: &mut [u8], pos: usize) -> usize
+    requires { ⌜ Fits write (now out) pos (markText item mark) ⌝ }
+    ensures { λ r. ⌜ Laid write (now (out .entry)) pos (markText item mark) (now (out .exit)) r ⌝ }
 {
-    match leaf {
-        Leaf::Argument => match mark {
+    match item {
+        Item::Attribute => match mark {
             Mark::Front => output::lay(write, b"(", out, pos),
             Mark::Between => output::lay(write, b", ", out, pos),
             Mark::Behind => output::lay(write, b")", out, pos),
         },
-        Leaf::Constraint => match mark {
+        Item::Parameter => match mark {
             Mark::Front => output::lay(write, b": ", out, pos),
             Mark::Between => output::lay(write, b" + ", out, pos),
             Mark::Behind => pos,
@@ -64,20 +67,20 @@ fn lay_leaves(
     words: &[u32],
     pairs: &[u32],
     text: &[u8],
-    leaf: Leaf,
+    item: Item,
     n: u32,
     at: usize,
     out: &mut [u8],
     pos: usize,
 ) -> Place
-    requires { ⌜ Checked (now words) (now pairs) (now text) × (0 < n) × Ready write (now out) pos (leavesAt (now words) (now pairs) (now text) leaf n at) ⌝ }
-    ensures { λ r. ⌜ Went write (now (out .entry)) pos (leavesAt (now (words .entry)) (now (pairs .entry)) (now (text .entry)) leaf n at) (now (out .exit)) r ⌝ }
+    requires { ⌜ Checked (now words) (now pairs) (now text) × (0 < n) × Ready write (now out) pos (leavesAt (now words) (now pairs) (now text) item n at) ⌝ }
+    ensures { λ r. ⌜ Went write (now (out .entry)) pos (leavesAt (now (words .entry)) (now (pairs .entry)) (now (text .entry)) item n at) (now (out .exit)) r ⌝ }
 {
     let mut place = at;
     let mut p = pos;
     let mut left = n;
     loop {
-        let one = lay_leaf(write, words, pairs, text, leaf, place, out, p);
+        let one = lay_leaf(write, words, pairs, text, item, place, out, p);
         let Place::At { next, pos: end } = one else {
             return one;
         };
@@ -86,7 +89,7 @@ fn lay_leaves(
             return one;
         }
         place = next;
-        p = lay_mark(write, leaf, Mark::Between, out, end);
+        p = lay_mark(write, item, Mark::Between, out, end);
     }
 }
 
@@ -96,23 +99,23 @@ fn lay_some(
     words: &[u32],
     pairs: &[u32],
     text: &[u8],
-    leaf: Leaf,
+    item: Item,
     n: u32,
     at: usize,
     out: &mut [u8],
     pos: usize,
 ) -> Place
-    requires { ⌜ Checked (now words) (now pairs) (now text) × (0 < n) × Ready write (now out) pos (someAt (now words) (now pairs) (now text) leaf n at) ⌝ }
-    ensures { λ r. ⌜ Went write (now (out .entry)) pos (someAt (now (words .entry)) (now (pairs .entry)) (now (text .entry)) leaf n at) (now (out .exit)) r ⌝ }
+    requires { ⌜ Checked (now words) (now pairs) (now text) × (0 < n) × Ready write (now out) pos (someAt (now words) (now pairs) (now text) item n at) ⌝ }
+    ensures { λ r. ⌜ Went write (now (out .entry)) pos (someAt (now (words .entry)) (now (pairs .entry)) (now (text .entry)) item n at) (now (out .exit)) r ⌝ }
 {
-    let p = lay_mark(write, leaf, Mark::Front, out, pos);
-    let list = lay_leaves(write, words, pairs, text, leaf, n, at, out, p);
+    let p = lay_mark(write, item, Mark::Front, out, pos);
+    let list = lay_leaves(write, words, pairs, text, item, n, at, out, p);
     let Place::At { next, pos: end } = list else {
         return list;
     };
     Place::At {
         next,
-        pos: lay_mark(write, leaf, Mark::Behind, out, end),
+        pos: lay_mark(write, item, Mark::Behind, out, end),
     }
 }
 
@@ -122,71 +125,194 @@ fn lay_counted(
     words: &[u32],
     pairs: &[u32],
     text: &[u8],
-    leaf: Leaf,
+    item: Item,
     at: usize,
     out: &mut [u8],
     pos: usize,
 ) -> Place
-    requires { ⌜ Checked (now words) (now pairs) (now text) × Ready write (now out) pos (countedAt (now words) (now pairs) (now text) leaf at) ⌝ }
-    ensures { λ r. ⌜ Went write (now (out .entry)) pos (countedAt (now (words .entry)) (now (pairs .entry)) (now (text .entry)) leaf at) (now (out .exit)) r ⌝ }
+    requires { ⌜ Checked (now words) (now pairs) (now text) × Ready write (now out) pos (countedAt (now words) (now pairs) (now text) item at) ⌝ }
+    ensures { λ r. ⌜ Went write (now (out .entry)) pos (countedAt (now (words .entry)) (now (pairs .entry)) (now (text .entry)) item at) (now (out .exit)) r ⌝ }
 {
     match encoding::scan_word(words, at) {
         WordScan::Word { value, next } => {
             if value == 0 {
                 return Place::At { next, pos };
             }
-            lay_some(write, words, pairs, text, leaf, value, next, out, pos)
+            lay_some(write, words, pairs, text, item, value, next, out, pos)
         }
         WordScan::NoWord(r) => Place::Stopped(r),
     }
 }
 
-// An attribute, on a line of its own.
-pub fn lay_attribute(
+// What stands before an item's name.
+fn lay_item_front(write: bool, item: Item, out: &mut [u8], pos: usize) -> usize
+    requires { ⌜ Fits write (now out) pos (itemFront item) ⌝ }
+    ensures { λ r. ⌜ Laid write (now (out .entry)) pos (itemFront item) (now (out .exit)) r ⌝ }
+{
+    match item {
+        Item::Attribute => output::lay(write, b"#[", out, pos),
+        Item::Parameter => pos,
+    }
+}
+
+// The end of an attribute, and the next line.
+fn lay_attribute_end(write: bool, level: u32, out: &mut [u8], pos: usize) -> usize
+    requires { ⌜ Fits write (now out) pos (ascii "]" ++ (ascii "\n" ++ indent level)) ⌝ }
+    ensures { λ r. ⌜ Laid write (now (out .entry)) pos (ascii "]" ++ (ascii "\n" ++ indent level)) (now (out .exit)) r ⌝ }
+{
+    let p = output::lay(write, b"]", out, pos);
+    doc::lay_line(write, level, out, p)
+}
+
+// What stands behind an item: an attribute has a line of its own.
+fn lay_item_end(write: bool, item: Item, level: u32, out: &mut [u8], pos: usize) -> usize
+    requires { ⌜ Fits write (now out) pos (itemEnd item level) ⌝ }
+    ensures { λ r. ⌜ Laid write (now (out .entry)) pos (itemEnd item level) (now (out .exit)) r ⌝ }
+{
+    match item {
+        Item::Attribute => lay_attribute_end(write, level, out, pos),
+        Item::Parameter => pos,
+    }
+}
+
+// An attribute or a parameter.
+fn lay_item(
     write: bool,
     words: &[u32],
     pairs: &[u32],
     text: &[u8],
+    item: Item,
     level: u32,
     at: usize,
     out: &mut [u8],
     pos: usize,
 ) -> Place
-    requires { ⌜ Checked (now words) (now pairs) (now text) × Ready write (now out) pos (attributeAt (now words) (now pairs) (now text) level at) ⌝ }
-    ensures { λ r. ⌜ Went write (now (out .entry)) pos (attributeAt (now (words .entry)) (now (pairs .entry)) (now (text .entry)) level at) (now (out .exit)) r ⌝ }
+    requires { ⌜ Checked (now words) (now pairs) (now text) × Ready write (now out) pos (itemAt (now words) (now pairs) (now text) item level at) ⌝ }
+    ensures { λ r. ⌜ Went write (now (out .entry)) pos (itemAt (now (words .entry)) (now (pairs .entry)) (now (text .entry)) item level at) (now (out .exit)) r ⌝ }
 {
-    let p = output::lay(write, b"#[", out, pos);
+    let p = lay_item_front(write, item, out, pos);
     let name = laying::lay_name(write, words, pairs, text, at, out, p);
     let Place::At { next: q, pos: p } = name else {
         return name;
     };
-    let derived = lay_counted(write, words, pairs, text, Leaf::Argument, q, out, p);
-    let Place::At { next, pos: p } = derived else {
-        return derived;
+    let list = lay_counted(write, words, pairs, text, item, q, out, p);
+    let Place::At { next, pos: p } = list else {
+        return list;
     };
-    let p = output::lay(write, b"]", out, p);
     Place::At {
         next,
-        pos: doc::lay_line(write, level, out, p),
+        pos: lay_item_end(write, item, level, out, p),
     }
 }
 
-// An entry of a parameter list.
-pub fn lay_parameter(
+// A fixed text of a list of items.
+fn lay_item_mark(write: bool, item: Item, mark: Mark, out: &mut [u8], pos: usize) -> usize
+    requires { ⌜ Fits write (now out) pos (itemMark item mark) ⌝ }
+    ensures { λ r. ⌜ Laid write (now (out .entry)) pos (itemMark item mark) (now (out .exit)) r ⌝ }
+{
+    match item {
+        Item::Attribute => pos,
+        Item::Parameter => match mark {
+            Mark::Front => output::lay(write, b"<", out, pos),
+            Mark::Between => output::lay(write, b", ", out, pos),
+            Mark::Behind => output::lay(write, b">", out, pos),
+        },
+    }
+}
+
+// `n` items, one at least.
+fn lay_items(
     write: bool,
     words: &[u32],
     pairs: &[u32],
     text: &[u8],
+    item: Item,
+    level: u32,
+    n: u32,
     at: usize,
     out: &mut [u8],
     pos: usize,
 ) -> Place
-    requires { ⌜ Checked (now words) (now pairs) (now text) × Ready write (now out) pos (parameterAt (now words) (now pairs) (now text) at) ⌝ }
-    ensures { λ r. ⌜ Went write (now (out .entry)) pos (parameterAt (now (words .entry)) (now (pairs .entry)) (now (text .entry)) at) (now (out .exit)) r ⌝ }
+    requires { ⌜ Checked (now words) (now pairs) (now text) × (0 < n) × Ready write (now out) pos (itemsAt (now words) (now pairs) (now text) item level n at) ⌝ }
+    ensures { λ r. ⌜ Went write (now (out .entry)) pos (itemsAt (now (words .entry)) (now (pairs .entry)) (now (text .entry)) item level n at) (now (out .exit)) r ⌝ }
 {
-    let name = laying::lay_name(write, words, pairs, text, at, out, pos);
-    let Place::At { next, pos: p } = name else {
-        return name;
+    let mut place = at;
+    let mut p = pos;
+    let mut left = n;
+    loop {
+        let one = lay_item(write, words, pairs, text, item, level, place, out, p);
+        let Place::At { next, pos: end } = one else {
+            return one;
+        };
+        left -= 1;
+        if left == 0 {
+            return one;
+        }
+        place = next;
+        p = lay_item_mark(write, item, Mark::Between, out, end);
+    }
+}
+
+// The same with what stands around them.
+fn lay_items_some(
+    write: bool,
+    words: &[u32],
+    pairs: &[u32],
+    text: &[u8],
+    item: Item,
+    level: u32,
+    n: u32,
+    at: usize,
+    out: &mut [u8],
+    pos: usize,
+) -> Place
+    requires { ⌜ Checked (now words) (now pairs) (now text) × (0 < n) × Ready write (now out) pos (itemsSome (now words) (now pairs) (now text) item level n at) ⌝ }
+    ensures { λ r. ⌜ Went write (now (out .entry)) pos (itemsSome (now (words .entry)) (now (pairs .entry)) (now (text .entry)) item level n at) (now (out .exit)) r ⌝ }
+{
+    let p = lay_item_mark(write, item, Mark::Front, out, pos);
+    let list = lay_items(write, words, pairs, text, item, level, n, at, out, p);
+    let Place::At { next, pos: end } = list else {
+        return list;
     };
-    lay_counted(write, words, pairs, text, Leaf::Constraint, next, out, p)
+    Place::At {
+        next,
+        pos: lay_item_mark(write, item, Mark::Behind, out, end),
+    }
+}
+
+// The attributes or the parameters of a declaration. If there are none, they have no text.
+pub fn lay_item_list(
+    write: bool,
+    words: &[u32],
+    pairs: &[u32],
+    text: &[u8],
+    item: Item,
+    level: u32,
+    at: usize,
+    out: &mut [u8],
+    pos: usize,
+) -> Place
+    requires { ⌜ Checked (now words) (now pairs) (now text) × Ready write (now out) pos (itemListAt (now words) (now pairs) (now text) item level at) ⌝ }
+    ensures { λ r. ⌜ Went write (now (out .entry)) pos (itemListAt (now (words .entry)) (now (pairs .entry)) (now (text .entry)) item level at) (now (out .exit)) r ⌝ }
+{
+    match encoding::scan_word(words, at) {
+        WordScan::Word { value, next } => {
+            if value == 0 {
+                return Place::At { next, pos };
+            }
+            lay_items_some(
+                write,
+                words,
+                pairs,
+                text,
+                item,
+                level,
+                value,
+                next,
+                out,
+                pos,
+            )
+        }
+        WordScan::NoWord(r) => Place::Stopped(r),
+    }
 }

@@ -1,7 +1,7 @@
 use Prim.Native.Nat.{_<_}
 use Rattle.declaration.specs.Texts.{casesAt}
-use Rattle.laying.proofs.Passes.{Along, along-gap, along-item, along-last, along-next, along-start, along-stop, came-to}
-use Rattle.laying.specs.Passes.{came}
+use Rattle.laying.proofs.Passes.{along-gap, along-item, along-last, along-next, along-start, along-stop, came-to}
+use Rattle.laying.specs.Passes.{Along, came}
 use Rattle.rast.specs.Bytes.{ascii}
 use lib.ListN.{length}
 use mathlib.Core.Path.{_≡_, refl}

@@ -28,8 +28,8 @@ returns c =
     let start = c .before .before .before .before .before .before .before .before .before .before .before .before .before .before in
     went-runs (title-runs (start .args .words .now) (start .args .pairs .now) (start .args .text .now) (start .args .head) (start .args .at)) (went-then (came-bytes _ (c .before .before .before .before .before .before .before .before .lay-keyword .ensures)) (stops-then (c .before .before .before .before .lay-name .ensures) (c .enum-told .given .1)))
 
-lay-parameters-requires : tie.Need-lay-parameters-requires
-lay-parameters-requires c κs =
+lay-item-list-requires : tie.Need-lay-item-list-requires
+lay-item-list-requires c κs =
     let start = c .before .before .before .before .before .before .before .before .before .before .before .before .before .before .before .before in
     (start .pre .0, ready-last (ready-next (ready-next (ready-runs (title-runs (start .args .words .now) (start .args .pairs .now) (start .args .text .now) (start .args .head) (start .args .at)) (start .pre .1)) (came-bytes _ (c .before .before .before .before .before .before .before .before .before .before .lay-keyword .ensures))) (came-to (c .before .before .before .before .before .before .lay-name .ensures) (c .before .before .name .given .1))))
 
@@ -39,7 +39,7 @@ same-length-2 c = search needs
 returns-2 : tie.Need-returns-2
 returns-2 c =
     let start = c .before .before .before .before .before .before .before .before .before .before .before .before .before .before .before .before .before .before .before in
-    went-runs (title-runs (start .args .words .now) (start .args .pairs .now) (start .args .text .now) (start .args .head) (start .args .at)) (went-then (came-bytes _ (c .before .before .before .before .before .before .before .before .before .before .before .before .before .lay-keyword .ensures)) (went-then (came-to (c .before .before .before .before .before .before .before .before .before .lay-name .ensures) (c .before .before .before .before .before .name .given .1)) (went-last (c .before .before .lay-parameters .ensures))))
+    went-runs (title-runs (start .args .words .now) (start .args .pairs .now) (start .args .text .now) (start .args .head) (start .args .at)) (went-then (came-bytes _ (c .before .before .before .before .before .before .before .before .before .before .before .before .before .lay-keyword .ensures)) (went-then (came-to (c .before .before .before .before .before .before .before .before .before .lay-name .ensures) (c .before .before .before .before .before .name .given .1)) (went-last (c .before .before .lay-item-list .ensures))))
 
 pub lay-title-spec : {M : Type 1} → statement M
 lay-title-spec =
@@ -51,6 +51,6 @@ lay-title-spec =
     enum-told
     same-length
     returns
-    lay-parameters-requires
+    lay-item-list-requires
     same-length-2
     returns-2)

@@ -1,7 +1,7 @@
 use Prim.Native.Nat.{_<_}
 use Rattle.fields.specs.Texts.{entriesAt}
-use Rattle.laying.proofs.Passes.{Along, along-gap, along-item, along-last, along-next, along-start, along-stop, came-to}
-use Rattle.laying.specs.Passes.{came}
+use Rattle.laying.proofs.Passes.{along-gap, along-item, along-last, along-next, along-start, along-stop, came-to}
+use Rattle.laying.specs.Passes.{Along, came}
 use lib.ListN.{length}
 use mathlib.Core.Path.{_≡_, refl}
 use native.Mathlib.Omega.{arith}
@@ -21,9 +21,7 @@ loop-holds c =
     (refl, start .pre .1, along-start (start .pre .3))
 
 lay-entry-requires : tie.Need-lay-entry-requires Inv-loop μ-loop
-lay-entry-requires c κs =
-    let start = c .before .before .before .before .before .before in
-    (start .pre .0, along-item _ _ (c .before .loop .left) (c .before .loop .place) (c .before .loop .inv .2) (c .before .loop .inv .1))
+lay-entry-requires c κs = (c .before .before .before .before .before .before .pre .0, along-item _ _ (c .before .loop .left) (c .before .loop .place) (c .before .loop .inv .2) (c .before .loop .inv .1))
 
 enum-known-one : tie.Need-enum-known-one Inv-loop μ-loop
 enum-known-one c = search needs
@@ -47,9 +45,7 @@ returns-2 : tie.Need-returns-2 Inv-loop μ-loop
 returns-2 c = along-last _ _ (c .before .before .before .before .before .before .before .before .loop .left) (c .before .before .before .before .before .before .before .before .loop .place) (c .before .before .before .before .before .before .before .before .loop .inv .2) (omega (arith, c .if1 .taken, c .before .before .before .before .before .before .before .before .loop .inv .1)) (came (came-to (c .before .before .before .before .before .before .lay-entry .ensures) (c .before .before .one .given .1)))
 
 lay-entry-gap-requires : tie.Need-lay-entry-gap-requires Inv-loop μ-loop
-lay-entry-gap-requires c κs =
-    let start = c .before .before .before .before .before .before .before .before .before .before .before .before .before .before in
-    (start .pre .2, along-gap _ _ (c .before .before .before .before .before .before .before .before .before .loop .left) (c .before .before .before .before .before .before .before .before .before .loop .place) (c .before .before .before .before .before .before .before .before .before .loop .inv .2) (omega (arith, c .before .if1 .left, c .before .before .before .before .before .before .before .before .before .loop .inv .1)) (came-to (c .before .before .before .before .before .before .before .lay-entry .ensures) (c .before .before .before .one .given .1)))
+lay-entry-gap-requires c κs = (c .before .before .before .before .before .before .before .before .before .before .before .before .before .before .pre .2, along-gap _ _ (c .before .before .before .before .before .before .before .before .before .loop .left) (c .before .before .before .before .before .before .before .before .before .loop .place) (c .before .before .before .before .before .before .before .before .before .loop .inv .2) (omega (arith, c .before .if1 .left, c .before .before .before .before .before .before .before .before .before .loop .inv .1)) (came-to (c .before .before .before .before .before .before .before .lay-entry .ensures) (c .before .before .before .one .given .1)))
 
 loop-less : tie.Need-loop-less Inv-loop μ-loop
 loop-less c = search needs

@@ -1,6 +1,6 @@
-use Rattle.formal.proofs.Texts.{receiver-text, receiverText, self-and-type}
-use Rattle.laying.proofs.Passes.{came-bytes, ready-as, ready-bytes, went-as}
-use Rattle.laying.specs.Passes.{came}
+use Rattle.formal.proofs.Texts.{labelled-as, receiver-text, receiverText, self-and-type}
+use Rattle.laying.proofs.Passes.{came-bytes, ready-as, ready-bytes}
+use Rattle.formal.specs.Labels.{whole}
 use Rattle.output.proofs.Passes.{fits-behind, fits-front, laid-then}
 use Rattle.rast.specs.Bytes.{ascii}
 use mathlib.Core.Path.{_∙_, sym}
@@ -66,8 +66,8 @@ lay-known-requires-3 c κs =
 enum-told-4 : tie.Need-enum-told-4
 enum-told-4 c = search needs
 
-lay-with-type-requires : tie.Need-lay-with-type-requires
-lay-with-type-requires c κs =
+lay-open-requires : tie.Need-lay-open-requires
+lay-open-requires c κs =
     let start = c .before .before .before .before .before .before .before .before in
     let e = self-and-type (start .args .words .now) (start .args .pairs .now) (start .args .text .now) (start .args .name) (start .args .at) (start .pre .2) (start .pre .3 .reads) (sym (c .before .enum-told4 .given .1) ∙ c .before .before .before .self-form .ensures .says _ _ (start .pre .3 .reads)) in
     (start .pre .0, start .pre .1, ready-as e (start .pre .4))
@@ -80,7 +80,7 @@ unfolding receiverText
 returns c =
     let start = c .before .before .before .before .before .before .before .before .before .before .before in
     let e = receiver-text (start .args .words .now) (start .args .pairs .now) (start .args .text .now) (start .args .name) (start .args .at) (start .pre .2) (start .pre .3 .reads) (sym (c .before .before .before .before .enum-told .given .1) ∙ c .before .before .before .before .before .before .self-form .ensures .says _ _ (start .pre .3 .reads)) in
-    went-as (sym e) (came (came-bytes _ (c .before .before .lay-known .ensures)))
+    labelled-as (sym e) (whole (came-bytes _ (c .before .before .lay-known .ensures)))
 
 same-length-2 : tie.Need-same-length-2
 same-length-2 c = search needs
@@ -90,7 +90,7 @@ unfolding receiverText ascii
 returns-2 c =
     let start = c .before .before .before .before .before .before .before .before .before .before .before .before .before .before .before .before in
     let e = receiver-text (start .args .words .now) (start .args .pairs .now) (start .args .text .now) (start .args .name) (start .args .at) (start .pre .2) (start .pre .3 .reads) (sym (c .before .before .before .before .before .before .before .before .before .enum-told2 .given .1) ∙ c .before .before .before .before .before .before .before .before .before .before .before .self-form .ensures .says _ _ (start .pre .3 .reads)) in
-    went-as (sym e) (came (came-bytes _ (laid-then (c .before .before .before .before .before .before .lay .ensures) (c .before .before .lay-known2 .ensures))))
+    labelled-as (sym e) (whole (came-bytes _ (laid-then (c .before .before .before .before .before .before .lay .ensures) (c .before .before .lay-known2 .ensures))))
 
 same-length-3 : tie.Need-same-length-3
 same-length-3 c = search needs
@@ -100,7 +100,7 @@ unfolding receiverText ascii
 returns-3 c =
     let start = c .before .before .before .before .before .before .before .before .before .before .before .before .before .before .before .before in
     let e = receiver-text (start .args .words .now) (start .args .pairs .now) (start .args .text .now) (start .args .name) (start .args .at) (start .pre .2) (start .pre .3 .reads) (sym (c .before .before .before .before .before .before .before .before .before .enum-told3 .given .1) ∙ c .before .before .before .before .before .before .before .before .before .before .before .self-form .ensures .says _ _ (start .pre .3 .reads)) in
-    went-as (sym e) (came (came-bytes _ (laid-then (c .before .before .before .before .before .before .lay2 .ensures) (c .before .before .lay-known3 .ensures))))
+    labelled-as (sym e) (whole (came-bytes _ (laid-then (c .before .before .before .before .before .before .lay2 .ensures) (c .before .before .lay-known3 .ensures))))
 
 same-length-4 : tie.Need-same-length-4
 same-length-4 c = search needs
@@ -109,7 +109,7 @@ returns-4 : tie.Need-returns-4
 returns-4 c =
     let start = c .before .before .before .before .before .before .before .before .before .before .before in
     let e = self-and-type (start .args .words .now) (start .args .pairs .now) (start .args .text .now) (start .args .name) (start .args .at) (start .pre .2) (start .pre .3 .reads) (sym (c .before .before .before .before .enum-told4 .given .1) ∙ c .before .before .before .before .before .before .self-form .ensures .says _ _ (start .pre .3 .reads)) in
-    went-as (sym e) (c .before .before .lay-with-type .ensures)
+    labelled-as (sym e) (c .before .before .lay-open .ensures)
 
 pub lay-receiver-spec : {M : Type 1} → statement M
 lay-receiver-spec =
@@ -127,7 +127,7 @@ lay-receiver-spec =
     lay-requires-2
     lay-known-requires-3
     enum-told-4
-    lay-with-type-requires
+    lay-open-requires
     same-length
     returns
     same-length-2

@@ -1,7 +1,8 @@
 use Rattle.encoding.specs.Types.{typeAt}
-use Rattle.laying.proofs.Passes.{stops-here}
+use Rattle.formal.specs.Labels.{unread}
 use Rattle.laying.proofs.Splits.{map-stop}
 use Rattle.measure.proofs.Measured.{measured-got, measured-stop}
+use mathlib.Core.Path.{refl}
 use borrow.Author.Needs.{needs}
 use Rattle.formal.proofs.lay_self.Statement.{statement}
 use Rattle.formal.proofs.lay_self.Tie as tie
@@ -32,7 +33,7 @@ returns c = c .before .before .lay-receiver .ensures
 returns-2 : tie.Need-returns-2
 returns-2 c =
     let start = c .before .before .before .before .before .before .before .before in
-    stops-here (map-stop _ (measured-stop (typeAt (start .args .words .now) (start .args .pairs .now) (start .args .text .now) (start .args .at)) (c .before .before .before .measure-type .ensures) (c .before .r .given .1)))
+    unread (map-stop _ (measured-stop (typeAt (start .args .words .now) (start .args .pairs .now) (start .args .text .now) (start .args .at)) (c .before .before .before .measure-type .ensures) (c .before .r .given .1))) refl
 
 pub lay-self-spec : {M : Type 1} → statement M
 lay-self-spec =

@@ -1,6 +1,6 @@
-use Rattle.formal.proofs.Texts.{name-and-type, only-name}
-use Rattle.laying.proofs.Passes.{came-bytes, ready-as, ready-bytes, went-as}
-use Rattle.laying.specs.Passes.{came}
+use Rattle.formal.proofs.Texts.{labelled-as, name-and-type, only-name}
+use Rattle.laying.proofs.Passes.{came-bytes, ready-as, ready-bytes}
+use Rattle.formal.specs.Labels.{whole}
 use Rattle.writing.proofs.Accepted.{type-here}
 use mathlib.Core.Path.{_∙_, sym}
 use native.Mathlib.Omega.{arith}
@@ -31,10 +31,10 @@ returns : tie.Need-returns
 returns c =
     let start = c .before .before .before .before .before .before .before .before .before .before in
     let e = only-name (start .args .words .now) (start .args .pairs .now) (start .args .text .now) (start .args .name) (start .args .at) (start .pre .2) (c .before .before .before .before .before .is-underscore .ensures .there (c .before .before .before .before .if1 .taken)) in
-    went-as (sym e) (came (came-bytes _ (c .before .before .lay-known .ensures)))
+    labelled-as (sym e) (whole (came-bytes _ (c .before .before .lay-known .ensures)))
 
-lay-with-type-requires : tie.Need-lay-with-type-requires
-lay-with-type-requires c κs =
+lay-open-requires : tie.Need-lay-open-requires
+lay-open-requires c κs =
     let start = c .before .before .before .before .before .before .before in
     let e = name-and-type (start .args .words .now) (start .args .pairs .now) (start .args .text .now) (start .args .name) (start .args .at) (start .pre .2) (λ t n d. sym (c .before .before .is-underscore .ensures .says t n d) ∙ c .before .if1 .left) in
     (start .pre .0, start .pre .1, ready-as e (start .pre .3))
@@ -46,7 +46,7 @@ returns-2 : tie.Need-returns-2
 returns-2 c =
     let start = c .before .before .before .before .before .before .before .before .before .before in
     let e = name-and-type (start .args .words .now) (start .args .pairs .now) (start .args .text .now) (start .args .name) (start .args .at) (start .pre .2) (λ t n d. sym (c .before .before .before .before .before .is-underscore .ensures .says t n d) ∙ c .before .before .before .before .if1 .left) in
-    went-as (sym e) (c .before .before .lay-with-type .ensures)
+    labelled-as (sym e) (c .before .before .lay-open .ensures)
 
 pub lay-typed-spec : {M : Type 1} → statement M
 lay-typed-spec =
@@ -57,6 +57,6 @@ lay-typed-spec =
     lay-known-requires
     same-length
     returns
-    lay-with-type-requires
+    lay-open-requires
     same-length-2
     returns-2)

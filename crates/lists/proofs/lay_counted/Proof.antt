@@ -18,12 +18,12 @@ enum-known-value c = search needs
 returns : tie.Need-returns
 returns c =
     let start = c .before .before .before .before .before .before .before .before .before in
-    let e = word-got (readWord (start .args .words .now) (start .args .at)) (c .before .before .before .before .scan-word .ensures) (c .before .before .value .given .1) in went-as (sym (list-none (start .args .words .now) (start .args .pairs .now) (start .args .text .now) (start .args .at) e (start .args .leaf) (c .if1 .taken))) (came (came-nothing _))
+    let e = word-got (readWord (start .args .words .now) (start .args .at)) (c .before .before .before .before .scan-word .ensures) (c .before .before .value .given .1) in went-as (sym (list-none (start .args .words .now) (start .args .pairs .now) (start .args .text .now) (start .args .at) e (start .args .item) (c .if1 .taken))) (came (came-nothing _))
 
 lay-some-requires : tie.Need-lay-some-requires
 lay-some-requires c κs =
     let start = c .before .before .before .before .before .before .before .before .before .before in
-    let e = word-got (readWord (start .args .words .now) (start .args .at)) (c .before .before .before .before .before .scan-word .ensures) (c .before .before .before .value .given .1) in (start .pre .0, omega (arith, c .before .if1 .left), ready-as (list-some (start .args .words .now) (start .args .pairs .now) (start .args .text .now) (start .args .at) e (start .args .leaf) (omega (arith, c .before .if1 .left))) (start .pre .1))
+    let e = word-got (readWord (start .args .words .now) (start .args .at)) (c .before .before .before .before .before .scan-word .ensures) (c .before .before .before .value .given .1) in (start .pre .0, omega (arith, c .before .if1 .left), ready-as (list-some (start .args .words .now) (start .args .pairs .now) (start .args .text .now) (start .args .at) e (start .args .item) (omega (arith, c .before .if1 .left))) (start .pre .1))
 
 enum-known-r : tie.Need-enum-known-r
 enum-known-r c = search needs
@@ -34,12 +34,12 @@ same-length c = search needs
 returns-2 : tie.Need-returns-2
 returns-2 c =
     let start = c .before .before .before .before .before .before .before .before .before .before .before .before .before in
-    let e = word-got (readWord (start .args .words .now) (start .args .at)) (c .before .before .before .before .before .before .before .before .scan-word .ensures) (c .before .before .before .before .before .before .value .given .1) in went-as (sym (list-some (start .args .words .now) (start .args .pairs .now) (start .args .text .now) (start .args .at) e (start .args .leaf) (omega (arith, c .before .before .before .before .if1 .left)))) (c .before .before .lay-some .ensures)
+    let e = word-got (readWord (start .args .words .now) (start .args .at)) (c .before .before .before .before .before .before .before .before .scan-word .ensures) (c .before .before .before .before .before .before .value .given .1) in went-as (sym (list-some (start .args .words .now) (start .args .pairs .now) (start .args .text .now) (start .args .at) e (start .args .item) (omega (arith, c .before .before .before .before .if1 .left)))) (c .before .before .lay-some .ensures)
 
 returns-3 : tie.Need-returns-3
 returns-3 c =
     let start = c .before .before .before .before .before .before .before .before in
-    stops-here (list-stop (start .args .words .now) (start .args .pairs .now) (start .args .text .now) (start .args .leaf) (start .args .at) (word-stop (readWord (start .args .words .now) (start .args .at)) (c .before .before .before .scan-word .ensures) (c .before .r .given .1)))
+    stops-here (list-stop (start .args .words .now) (start .args .pairs .now) (start .args .text .now) (start .args .item) (start .args .at) (word-stop (readWord (start .args .words .now) (start .args .at)) (c .before .before .before .scan-word .ensures) (c .before .r .given .1)))
 
 pub lay-counted-spec : {M : Type 1} → statement M
 lay-counted-spec =

@@ -1,6 +1,6 @@
 use Prim.Native.Nat.{_<_}
-use Rattle.laying.proofs.Passes.{Along, along-gap, along-item, along-last, along-next, along-start, along-stop, came-to}
-use Rattle.laying.specs.Passes.{came}
+use Rattle.laying.proofs.Passes.{along-gap, along-item, along-last, along-next, along-start, along-stop, came-to}
+use Rattle.laying.specs.Passes.{Along, came}
 use Rattle.lists.specs.Texts.{leavesAt}
 use lib.ListN.{length}
 use mathlib.Core.Path.{_≡_, refl}
@@ -10,10 +10,10 @@ use Rattle.lists.proofs.lay_leaves.Statement.{statement}
 use Rattle.lists.proofs.lay_leaves.Tie as tie
 
 abbrev Inv-loop : tie.InvT-loop
-Inv-loop write words pairs text leaf n at out₀ pos place₀ p₀ left₀ out place p left = (length out ≡ length out₀) × (0 < left) × Along write out₀ pos (leavesAt words pairs text leaf n at) out p (leavesAt words pairs text leaf left place)
+Inv-loop write words pairs text item n at out₀ pos place₀ p₀ left₀ out place p left = (length out ≡ length out₀) × (0 < left) × Along write out₀ pos (leavesAt words pairs text item n at) out p (leavesAt words pairs text item left place)
 
 abbrev μ-loop : tie.MeasureT-loop
-μ-loop write words pairs text leaf n at out₀ pos place₀ p₀ left₀ out place p left = left
+μ-loop write words pairs text item n at out₀ pos place₀ p₀ left₀ out place p left = left
 
 loop-holds : tie.Need-loop-holds Inv-loop μ-loop
 loop-holds c =

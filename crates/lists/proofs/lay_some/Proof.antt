@@ -8,12 +8,12 @@ use Rattle.lists.proofs.lay_some.Tie as tie
 lay-mark-requires : tie.Need-lay-mark-requires
 lay-mark-requires c κs =
     let start = c .before .before .before .before .before in
-    ready-bytes (ready-first (ready-runs (some-runs (start .args .words .now) (start .args .pairs .now) (start .args .text .now) (start .args .leaf) (start .args .n) (start .args .at)) (start .pre .2)))
+    ready-bytes (ready-first (ready-runs (some-runs (start .args .words .now) (start .args .pairs .now) (start .args .text .now) (start .args .item) (start .args .n) (start .args .at)) (start .pre .2)))
 
 lay-leaves-requires : tie.Need-lay-leaves-requires
 lay-leaves-requires c κs =
     let start = c .before .before .before .before .before .before .before .before .before in
-    let r = ready-runs (some-runs (start .args .words .now) (start .args .pairs .now) (start .args .text .now) (start .args .leaf) (start .args .n) (start .args .at)) (start .pre .2) in
+    let r = ready-runs (some-runs (start .args .words .now) (start .args .pairs .now) (start .args .text .now) (start .args .item) (start .args .n) (start .args .at)) (start .pre .2) in
     (start .pre .0, start .pre .1, ready-first (ready-next r (came-bytes _ (c .before .before .before .lay-mark .ensures))))
 
 enum-known-list : tie.Need-enum-known-list
@@ -28,12 +28,12 @@ same-length c = search needs
 returns : tie.Need-returns
 returns c =
     let start = c .before .before .before .before .before .before .before .before .before .before .before .before .before .before in
-    went-runs (some-runs (start .args .words .now) (start .args .pairs .now) (start .args .text .now) (start .args .leaf) (start .args .n) (start .args .at)) (went-then (came-bytes _ (c .before .before .before .before .before .before .before .before .lay-mark .ensures)) (stops-then (c .before .before .before .before .lay-leaves .ensures) (c .enum-told .given .1)))
+    went-runs (some-runs (start .args .words .now) (start .args .pairs .now) (start .args .text .now) (start .args .item) (start .args .n) (start .args .at)) (went-then (came-bytes _ (c .before .before .before .before .before .before .before .before .lay-mark .ensures)) (stops-then (c .before .before .before .before .lay-leaves .ensures) (c .enum-told .given .1)))
 
 lay-mark-requires-2 : tie.Need-lay-mark-requires-2
 lay-mark-requires-2 c κs =
     let start = c .before .before .before .before .before .before .before .before .before .before .before .before .before .before .before .before in
-    let r = ready-runs (some-runs (start .args .words .now) (start .args .pairs .now) (start .args .text .now) (start .args .leaf) (start .args .n) (start .args .at)) (start .pre .2) in
+    let r = ready-runs (some-runs (start .args .words .now) (start .args .pairs .now) (start .args .text .now) (start .args .item) (start .args .n) (start .args .at)) (start .pre .2) in
     ready-bytes (ready-last (ready-next (ready-next r (came-bytes _ (c .before .before .before .before .before .before .before .before .before .before .lay-mark .ensures))) (came-to (c .before .before .before .before .before .before .lay-leaves .ensures) (c .before .before .list .given .1))))
 
 same-length-2 : tie.Need-same-length-2
@@ -42,7 +42,7 @@ same-length-2 c = search needs
 returns-2 : tie.Need-returns-2
 returns-2 c =
     let start = c .before .before .before .before .before .before .before .before .before .before .before .before .before .before .before .before .before .before .before in
-    went-runs (some-runs (start .args .words .now) (start .args .pairs .now) (start .args .text .now) (start .args .leaf) (start .args .n) (start .args .at))
+    went-runs (some-runs (start .args .words .now) (start .args .pairs .now) (start .args .text .now) (start .args .item) (start .args .n) (start .args .at))
     (went-then (came-bytes _ (c .before .before .before .before .before .before .before .before .before .before .before .before .before .lay-mark .ensures)) (went-then (came-to (c .before .before .before .before .before .before .before .before .before .lay-leaves .ensures) (c .before .before .before .before .before .list .given .1)) (went-last (came (came-bytes _ (c .before .before .lay-mark2 .ensures))))))
 
 pub lay-some-spec : {M : Type 1} → statement M

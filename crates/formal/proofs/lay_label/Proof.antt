@@ -1,0 +1,89 @@
+use Rattle.encoding.specs.Tables.{fixedNames, nameCount}
+use Rattle.formal.proofs.Texts.{formal-got, formal-stop, labelled-as}
+use Rattle.formal.specs.Labels.{unread}
+use Rattle.laying.proofs.Leaves.{scanned-none, scanned-word}
+use Rattle.laying.proofs.Passes.{ready-as}
+use Rattle.measure.proofs.Scans.{below-less}
+use Rattle.rast.specs.Bytes.{ascii}
+use mathlib.Core.Path.{_∙_, refl, sym}
+use native.Mathlib.Omega.{arith}
+use borrow.Author.Needs.{needs}
+use Rattle.formal.proofs.lay_label.Statement.{statement}
+use Rattle.formal.proofs.lay_label.Tie as tie
+
+name-count-requires : tie.Need-name-count-requires
+name-count-requires c κs = search needs
+
+scan-below-requires : tie.Need-scan-below-requires
+scan-below-requires c κs = search needs
+
+enum-known-value : tie.Need-enum-known-value
+enum-known-value c = search needs
+
+slice-aggregate-is-name : tie.Need-slice-aggregate-is-name
+slice-aggregate-is-name c = search needs
+
+is-name-requires : tie.Need-is-name-requires
+unfolding ascii fixedNames
+is-name-requires c κs =
+    let start = c .before .before .before .before .before .before .before .before .before .before in
+    let e = scanned-word (start .args .words .now) (nameCount (start .args .pairs .now)) (start .args .at) (c .before .before .before .before .before .name-count .ensures) (c .before .before .before .before .scan-below .ensures) (c .before .before .value .given .1) in
+    (below-less _ (start .args .words .now) (start .args .at) e, start .pre .0 .good, omega arith, refl)
+
+lay-self-requires : tie.Need-lay-self-requires
+unfolding fixedNames
+lay-self-requires c κs =
+    let start = c .before .before .before .before .before .before .before .before .before .before .before .before .before in
+    let e = scanned-word (start .args .words .now) (nameCount (start .args .pairs .now)) (start .args .at) (c .before .before .before .before .before .before .before .before .name-count .ensures) (c .before .before .before .before .before .before .before .scan-below .ensures) (c .before .before .before .before .before .value .given .1) in
+    (start .pre .0, below-less _ (start .args .words .now) (start .args .at) e, sym (c .before .before .is-name .ensures) ∙ c .before .if1 .taken, ready-as (formal-got (start .args .words .now) (start .args .pairs .now) (start .args .text .now) (start .args .at) e) (start .pre .1))
+
+same-length : tie.Need-same-length
+same-length c = search needs
+
+returns : tie.Need-returns
+returns c =
+    let start = c .before .before .before .before .before .before .before .before .before .before .before .before .before .before .before .before in
+    let e = scanned-word (start .args .words .now) (nameCount (start .args .pairs .now)) (start .args .at) (c .before .before .before .before .before .before .before .before .before .before .before .name-count .ensures) (c .before .before .before .before .before .before .before .before .before .before .scan-below .ensures) (c .before .before .before .before .before .before .before .before .value .given .1) in
+    labelled-as (sym (formal-got (start .args .words .now) (start .args .pairs .now) (start .args .text .now) (start .args .at) e)) (c .before .before .lay-self .ensures)
+
+lay-typed-requires : tie.Need-lay-typed-requires
+unfolding fixedNames
+lay-typed-requires c κs =
+    let start = c .before .before .before .before .before .before .before .before .before .before .before .before .before in
+    let e = scanned-word (start .args .words .now) (nameCount (start .args .pairs .now)) (start .args .at) (c .before .before .before .before .before .before .before .before .name-count .ensures) (c .before .before .before .before .before .before .before .scan-below .ensures) (c .before .before .before .before .before .value .given .1) in
+    (start .pre .0, below-less _ (start .args .words .now) (start .args .at) e, sym (c .before .before .is-name .ensures) ∙ c .before .if1 .left, ready-as (formal-got (start .args .words .now) (start .args .pairs .now) (start .args .text .now) (start .args .at) e) (start .pre .1))
+
+enum-known-r : tie.Need-enum-known-r
+enum-known-r c = search needs
+
+same-length-2 : tie.Need-same-length-2
+same-length-2 c = search needs
+
+returns-2 : tie.Need-returns-2
+returns-2 c =
+    let start = c .before .before .before .before .before .before .before .before .before .before .before .before .before .before .before .before in
+    let e = scanned-word (start .args .words .now) (nameCount (start .args .pairs .now)) (start .args .at) (c .before .before .before .before .before .before .before .before .before .before .before .name-count .ensures) (c .before .before .before .before .before .before .before .before .before .before .scan-below .ensures) (c .before .before .before .before .before .before .before .before .value .given .1) in
+    labelled-as (sym (formal-got (start .args .words .now) (start .args .pairs .now) (start .args .text .now) (start .args .at) e)) (c .before .before .lay-typed .ensures)
+
+returns-3 : tie.Need-returns-3
+returns-3 c =
+    let start = c .before .before .before .before .before .before .before .before .before in
+    unread (formal-stop (start .args .words .now) (start .args .pairs .now) (start .args .text .now) (start .args .at) (scanned-none (start .args .words .now) (nameCount (start .args .pairs .now)) (start .args .at) (c .before .before .before .before .name-count .ensures) (c .before .before .before .scan-below .ensures) (c .before .r .given .1))) refl
+
+pub lay-label-spec : {M : Type 1} → statement M
+lay-label-spec =
+    tie.close
+    (tie.spec
+    name-count-requires
+    scan-below-requires
+    enum-known-value
+    slice-aggregate-is-name
+    is-name-requires
+    lay-self-requires
+    same-length
+    returns
+    lay-typed-requires
+    enum-known-r
+    same-length-2
+    returns-2
+    returns-3)
