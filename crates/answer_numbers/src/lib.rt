@@ -12,7 +12,7 @@ use text::TextAnswer;
 use visits::VisitAnswer;
 
 // 2^63 and the refusal's number.
-pub fn refused(r: Refusal) -> u64
+fn refused(r: Refusal) -> u64
     ensures { λ n. ⌜ n ≡ refusedNumber r ⌝ }
 {
     9223372036854775808 + encoding::refusal_number(r) as u64

@@ -54,7 +54,7 @@ pub enum Check {
     Failed(Refusal),
 }
 
-pub fn check_level(level: u32) -> Check
+fn check_level(level: u32) -> Check
     ensures { λ r. ⌜ r ≡ checkLevel level ⌝ }
 {
     if 16 < level {

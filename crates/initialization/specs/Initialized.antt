@@ -7,7 +7,7 @@ use lib.ListN.{length, take, drop}
 use Rattle.rast.specs.Bytes.{Bytes}
 use Rattle.rast.specs.Tree.{Ty}
 use Rattle.rast.specs.DeclarationToString.{Expand}
-use Rattle.encoding.specs.Refusals.{pick, Answer, given, mapAnswer}
+use Rattle.encoding.specs.Refusals.{pick, Answer, mapAnswer}
 use Rattle.encoding.specs.Reading.{Reading, got}
 use Rattle.encoding.specs.Tables.{nameBytes}
 use Rattle.trees.specs.Encode.{encode}

@@ -15,7 +15,6 @@ use Rattle.encoding.specs.Tables.{nameBytes, nameCount}
 use Rattle.encoding.specs.Heads.{readPath}
 use Rattle.encoding.specs.Types.{pathOf, typeAt}
 use Rattle.encoding.specs.Declarations.{structHead, enumHead, synonymHead, useHead, readCounted, readVisibility, readName, readAttribute, readParameter, readFormal, readField, readNamelessField, readFields, readCase, readStruct, readEnum, readTypeSynonym, readUse, declarationAfter, readDeclaration, declarationAt}
-use Rattle.encoding.proofs.Tables.{impossible}
 use Rattle.trees.specs.Renamed.{renamed}
 use Rattle.trees.specs.Numbered.{treeAt}
 use Rattle.trees.proofs.Renaming.{map-on, path-renamed, spelled}
@@ -163,17 +162,3 @@ numberedAt ws pairs at = readDeclaration (nameCount pairs) ws (λ x. x) (treeAt 
 pub declaration-spelled : (ws pairs : List ℕ) (text : Bytes) (at : ℕ) → declarationAt ws pairs text at ≡ mapReading (renamedDeclaration (nameBytes pairs text)) (numberedAt ws pairs at)
 declaration-spelled ws pairs text at =
     declaration-renamed (nameBytes pairs text) (λ x. x) (nameCount pairs) ws (treeAt ws pairs) (typeAt ws pairs text) (spelled ws pairs text) at
-
--- the declaration by numbers behind one that was read
-pub record NumberedDeclaration (ws pairs : List ℕ) (text : Bytes) (at : ℕ) (d : Declaration Bytes) (n : ℕ) : Type 0 where
-  pub tree : Declaration ℕ
-  pub reads : numberedAt ws pairs at ≡ got tree n
-  pub spells : d ≡ renamedDeclaration (nameBytes pairs text) tree
-
-pub numbered-declaration : (ws pairs : List ℕ) (text : Bytes) (at : ℕ) {d : Declaration Bytes} {n : ℕ} → declarationAt ws pairs text at ≡ got d n → NumberedDeclaration ws pairs text at d n
-unfolding mapReading
-numbered-declaration ws pairs text at {d} {n} e = go (numberedAt ws pairs at) refl (sym (declaration-spelled ws pairs text at) ∙ e)
-  where
-    go : (x : Reading (Declaration ℕ)) → numberedAt ws pairs at ≡ x → mapReading (renamedDeclaration (nameBytes pairs text)) x ≡ got d n → NumberedDeclaration ws pairs text at d n
-    go (got u m) k h = let i : m ≡ n = cc in record { tree = u; reads = k ∙ ap (got u) i; spells = cc }
-    go (stop r) k h = impossible (cc)

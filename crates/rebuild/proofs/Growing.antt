@@ -80,10 +80,6 @@ grown-over {o} {o′} {o″} {b} {c} {p} l m = record {
   front = m .front ∙ ap (λ (x : List ℕ). x ++ c) (grown-below l);
 }
 
--- the words at the front of the buffer
-pub grown-front : {o o′ b : List ℕ} {p′ : ℕ} → Grown o 0 b o′ p′ → take p′ o′ ≡ b
-grown-front g = g .front
-
 -- ---- answers
 
 pub lays-to : {limit p q : ℕ} {o b o′ : List ℕ} {r : Laying} → Lays limit o p b o′ r → r ≡ To q → (q ≤ limit) × Grown o p b o′ q

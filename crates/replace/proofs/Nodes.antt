@@ -120,14 +120,6 @@ words-snoc (cons u us) t = let k = words-snoc us t in omega (arith, words-cons u
 -- ---- a head's type
 
 module _ {N : Type 0} (m : Ty N → Ty N) where
-  peaks-one : (t : Ty N) → peaks m (cons t nil) ≡ peak m t
-  unfolding peaks
-  peaks-one t = omega (arith, peak-least m t)
-
-  peaks-two : (t u : Ty N) → peaks m (cons t (cons u nil)) ≡ max (peak m t) (words (Replace m t) + peak m u)
-  unfolding peaks
-  peaks-two t u = omega (arith, peak-least m u)
-
   peaks-snoc : (ts : Tys N) (t : Ty N) → peaks m (snoc ts t) ≡ max (peaks m ts) (wordsAll (Replaces m ts) + peak m t)
   unfolding snoc peaks Replaces
   peaks-snoc nil t = omega (arith, peak-least m t, words-nil N)

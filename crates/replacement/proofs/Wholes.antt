@@ -1,19 +1,16 @@
 -- A type and a declaration alike: where they end, and what the call answers.
 use Prim.Native.Nat.{ℕ}
-use mathlib.Core.Path.{_≡_, refl, ap, sym, _∙_, subst}
+use mathlib.Core.Path.{_≡_, ap, sym, _∙_, subst}
 use mathlib.Core.List.{List}
 use lib.ListN.{length}
 use Rattle.rast.specs.Bytes.{Bytes}
 use Rattle.rast.specs.Tree.{Ty}
 use Rattle.encoding.specs.declared.Refusal.{Refusal}
 use Rattle.encoding.specs.declared.Refusal.the-variants.{LeftOver}
-use Rattle.encoding.specs.declared.Scan.{Scan}
 use Rattle.encoding.specs.declared.Scan.the-variants.{At, Refused as Halted}
 use Rattle.encoding.specs.Refusals.{given, refused}
 use Rattle.encoding.specs.Reading.{Reading, got, stop, mapReading}
 use Rattle.encoding.specs.Scans.{ended}
-use Rattle.encoding.specs.Types.{typeAt}
-use Rattle.encoding.specs.Declarations.{declarationAt}
 use Rattle.encoding.proofs.Tables.{impossible}
 use Rattle.trees.specs.Numbered.{treeAt}
 use Rattle.writing.specs.Written.{Readable}

@@ -4,7 +4,7 @@ ghost use Prim.Native.Nat.{_≤_, min};
 ghost use mathlib.Core.Bool.{true};
 ghost use mathlib.Core.List.{[], _∷_};
 ghost use lib.ListN.{length};
-ghost use Rattle.encoding.specs.Refusals.{given, unless};
+ghost use Rattle.encoding.specs.Refusals.{unless};
 ghost use Rattle.encoding.specs.Scans.{ended};
 ghost use Rattle.encoding.specs.declared.Scan.the-variants.{At};
 ghost use Rattle.encoding.specs.Tables.{Good};

@@ -2,11 +2,10 @@
 use Prim.Native.Nat.{ℕ, _+_, _≤_}
 use mathlib.Core.Path.{_≡_}
 use mathlib.Core.List.{List, _++_}
-use mathlib.Core.Option.{Option}
 use lib.ListN.{length}
-use Rattle.rast.specs.Bytes.{Bytes, ascii}
+use Rattle.rast.specs.Bytes.{Bytes}
 use Rattle.rast.specs.Tree.{Ty}
-use Rattle.rast.specs.ToString.{sizeText, Type·ToString}
+use Rattle.rast.specs.ToString.{Type·ToString}
 use Rattle.output.specs.Wrote.{Wrote}
 use Rattle.encoding.specs.declared.Head.{Head}
 use Rattle.encoding.specs.Tables.{nameBytes}

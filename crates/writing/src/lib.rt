@@ -1,7 +1,6 @@
 // Writing the texts of paths and types that were accepted, into a buffer that has room for them.
-ghost use mathlib.Core.Path.{_≡_};
-ghost use Prim.Native.Nat.{_+_, _≤_, _<_};
-ghost use lib.ListN.{length, getD};
+ghost use Prim.Native.Nat.{_+_, _<_};
+ghost use lib.ListN.{getD};
 ghost use Rattle.rast.specs.ToString.{Type·ToString, commaText};
 ghost use Rattle.encoding.specs.Tables.{Good, nameCount};
 ghost use Rattle.encoding.specs.Types.{readTypes, typeAt};

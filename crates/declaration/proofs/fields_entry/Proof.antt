@@ -1,7 +1,6 @@
 use Rattle.declaration.proofs.Declarations.{entry-named, entry-nameless}
 use Rattle.fields.specs.Texts.{namelessEntry}
 use mathlib.Core.Path.{ap, sym, _∙_}
-use borrow.Author.Needs.{needs}
 use Rattle.declaration.proofs.fields_entry.Statement.{statement}
 use Rattle.declaration.proofs.fields_entry.Tie as tie
 

@@ -5,7 +5,6 @@ use lib.ListN.{getD}
 use Rattle.encoding.specs.Heads.{ownEnd}
 use Rattle.encoding.proofs.HeadWords.{end-inside, word-inside}
 use native.Mathlib.Omega.{arith}
-use borrow.Author.Needs.{needs}
 use Rattle.encoding.proofs.own_end.Statement.{statement}
 use Rattle.encoding.proofs.own_end.Tie as tie
 

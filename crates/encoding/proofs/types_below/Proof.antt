@@ -4,7 +4,6 @@ use borrow.Author.Tests.{lt-ltb, le-ltb, ne-eqb}
 use Rattle.encoding.specs.Heads.{typesBelow, ownEnd}
 use Rattle.encoding.proofs.HeadWords.{end-inside, word-inside}
 use native.Mathlib.Omega.{arith}
-use borrow.Author.Needs.{needs}
 use Rattle.encoding.proofs.types_below.Statement.{statement}
 use Rattle.encoding.proofs.types_below.Tie as tie
 

@@ -3,7 +3,6 @@ use Rattle.encoding.specs.Reading.{readBelow, readWord}
 use Rattle.encoding.specs.Heads.{readPath, pathHead}
 use Rattle.encoding.proofs.Reading.{word-got, word-stop}
 use Rattle.encoding.proofs.Inside.{word-there}
-use Rattle.measure.specs.Lengths.{namesHead}
 use Rattle.measure.proofs.Scans.{scanned-stop, scanned-as, path-names}
 use native.Mathlib.Omega.{arith}
 use borrow.Author.Needs.{needs}
