@@ -101,3 +101,24 @@ end-inside ws at h =
 -- and with them the one that follows a kind
 pub word-inside : (ws : List ℕ) (at : ℕ) → HeadHere ws at → ownEnd ws at ≡ at + 2 → at + 1 < length ws
 word-inside ws at h e = omega (arith, end-inside ws at h .1, e)
+
+-- the words of a plain type's head
+apart : {n : ℕ} (k : ℕ) → n < 12 → 12 ≤ k → n ≡ k → ⊥
+apart k h l e = omega (arith, h, l, e)
+
+pub plain-end : (ws : List ℕ) (at : ℕ) → getD ws at 0 < 12 → ownEnd ws at ≡ at + 1
+unfolding ownEnd
+plain-end ws at h =
+    rw (
+      ne-eqb _ 12 (apart 12 h (omega arith)),
+      ne-eqb _ 13 (apart 13 h (omega arith)),
+      ne-eqb _ 14 (apart 14 h (omega arith)),
+      ne-eqb _ 19 (apart 19 h (omega arith)),
+      ne-eqb _ 20 (apart 20 h (omega arith)),
+      ne-eqb _ 22 (apart 22 h (omega arith)),
+      ne-eqb _ 24 (apart 24 h (omega arith)),
+    ) refl
+
+pub plain-below : (ws : List ℕ) (at : ℕ) → getD ws at 0 < 14 → typesBelow ws at ≡ 0
+unfolding typesBelow
+plain-below ws at h = rw (lt-ltb _ 14 h) refl

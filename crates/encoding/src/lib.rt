@@ -513,3 +513,38 @@ pub fn own_end(words: &[u32], at: usize) -> usize
         _ => at + 1,
     }
 }
+
+// Behind a head: where its own words end, and how many types are due there.
+pub struct Onward {
+    pub next: usize,
+    pub due: usize,
+}
+
+fn go_on(next: usize, due: usize) -> Onward
+    ensures { λ r. ⌜ (r .next ≡ next) × (r .due ≡ due) ⌝ }
+{
+    Onward { next, due }
+}
+
+// The first of `due` types has its head at `at`. One match says both what `types_below` and what `own_end` say.
+pub fn pass_head(words: &[u32], at: usize, due: usize) -> Onward
+    requires { ⌜ HeadHere (now words) at × (0 < due) × (due - 1 + typesBelow (now words) at < 2 ^ 63) ⌝ }
+    ensures { λ r. ⌜ (r .next ≡ ownEnd (now (words .entry)) at) × (r .due ≡ due - 1 + typesBelow (now (words .entry)) at) ⌝ }
+{
+    let w = words[at];
+    if w < 12 {
+        return go_on(at + 1, due - 1);
+    }
+    match w {
+        12 => go_on(at + 2, due - 1),
+        13 => go_on(at + 3 + words[at + 2] as usize, due - 1),
+        14 => go_on(at + 2, due + words[at + 1] as usize),
+        19 => go_on(at + 2, due - 1 + words[at + 1] as usize),
+        20 => go_on(at + 2, due + words[at + 1] as usize),
+        21 => go_on(at + 1, due + 1),
+        22 => go_on(at + 2, due),
+        23 => go_on(at + 1, due + 1),
+        24 => go_on(at + 2, due),
+        _ => go_on(at + 1, due),
+    }
+}

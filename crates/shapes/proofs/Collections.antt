@@ -2,7 +2,7 @@
 use Prim.Native.Nat.{ℕ, _+_}
 use mathlib.Core.Path.{_≡_, refl, ap, sym, _∙_}
 use mathlib.Core.Bool.{Bool, true, false}
-use mathlib.Core.Option.{Option, some}
+use mathlib.Core.Option.{Option, some, none}
 use native.Mathlib.Omega.{arith}
 use borrow.Author.Tests.{eqb-true}
 use lib.Dec.{eqb}
@@ -234,3 +234,29 @@ pub no-map-element : (q : Place Bytes) → found (first MapClass q) ≡ NoPart �
 no-map-element q e =
     let n : isOf MapClass (q .tpe) ≡ false = sym (first-found MapClass q) ∙ ap isFound e in
     rw n refl
+
+element-found : (q : Place Bytes) → isFound (found (element q)) ≡ (isOf Collection (q .tpe) or isOf MapClass (q .tpe))
+unfolding first found
+element-found q = go (first MapClass q) refl
+  where
+    or-true : (b : Bool) → (b or true) ≡ true
+    or-true true = refl
+    or-true false = refl
+
+    or-false : (b : Bool) → (b or false) ≡ b
+    or-false true = refl
+    or-false false = refl
+
+    go : (x : Option (Place Bytes)) → first MapClass q ≡ x → isFound (found (element q)) ≡ (isOf Collection (q .tpe) or isOf MapClass (q .tpe))
+    go none e =
+        let f : found (first MapClass q) ≡ NoPart = ap found e in
+        let n : isOf MapClass (q .tpe) ≡ false = sym (first-found MapClass q) ∙ ap isFound f in
+        ap isFound (no-map-element q f) ∙ first-found Collection q ∙ sym (rw n (or-false (isOf Collection (q .tpe))))
+    go (some p) e =
+        let n : isOf MapClass (q .tpe) ≡ true = when-some (isOf MapClass (q .tpe)) (argumentOf 0 q) e .0 in
+        ap isFound (map-element q (p .at) (p .tpe) e) ∙ sym (rw n (or-true (isOf Collection (q .tpe))))
+
+pub collection-found : (p : Place Bytes) → isFound (found (GetBuiltinCollectionElement p)) ≡ IsBuiltinCollection (p .tpe)
+unfolding expanded
+collection-found p =
+    rw (collection-first p, element-found (expanded p), expanded-tree (p .at) (p .tpe)) (collection-is (p .tpe))

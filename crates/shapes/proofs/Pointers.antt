@@ -1,6 +1,6 @@
 -- `MultiArray`, `Object` and `Ptr` by the classes of paths.
 use Prim.Native.Nat.{ℕ, _+_}
-use mathlib.Core.Path.{_≡_, refl, sym, _∙_}
+use mathlib.Core.Path.{_≡_, refl, ap, sym, _∙_}
 use mathlib.Core.Bool.{Bool, true, false}
 use mathlib.Core.Option.{Option}
 use lib.Dec.{eqb}
@@ -78,3 +78,8 @@ pointer-found p = rw (pointer-first p) (go (expanded p) (isOf PtrClass (expanded
     go : (q : Place Bytes) (b : Bool) → isOf PtrClass (q .tpe) ≡ b → isFound (found (pointed q)) ≡ (isOf PtrClass (q .tpe) or isOf ObjectClass (q .tpe))
     go q true e = rw e (first-found PtrClass q ∙ e)
     go q false e = rw e (first-found ObjectClass q)
+
+pub multi-array-found : (p : Place Bytes) → isFound (found (MultiArrayUnderlying p)) ≡ IsMultiArray (p .tpe)
+unfolding expanded
+multi-array-found p =
+    rw (multi-array-first p) (first-found ArrayClass (expanded p)) ∙ ap (isOf ArrayClass) (expanded-tree (p .at) (p .tpe)) ∙ sym (multi-array-is (p .tpe))

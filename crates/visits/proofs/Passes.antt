@@ -3,7 +3,6 @@ use Prim.Native.Nat.{ℕ, zero, suc, _+_, _-_, _≤_, _<_}
 use mathlib.Core.Path.{_≡_, refl, ap, sym, _∙_}
 use mathlib.Core.List.{List, [], _∷_, _++_, append-nil}
 use native.Mathlib.Omega.{arith}
-use borrow.Author.Tests.{lt-ltb, ne-eqb}
 use lib.ListN.{length, getD}
 use Rattle.rast.specs.Bytes.{Bytes}
 use Rattle.rast.specs.Tree.{Ty, Tys, TSynonym, nil, cons}
@@ -28,27 +27,6 @@ use Rattle.writing.proofs.Skipping.{first-of, types-fit}
 use Rattle.visits.specs.Visited.{visitedFrom, visitedAll, positions}
 use Rattle.visits.specs.Calls.{Due, Visited}
 use Rattle.visits.proofs.Lists.{append, types-join, words-cons, positions-append, listOf, list-join, list-node}
-
--- the words of a plain type's head
-apart : {n : ℕ} (k : ℕ) → n < 12 → 12 ≤ k → n ≡ k → ⊥
-apart k h l e = omega (arith, h, l, e)
-
-pub plain-end : (ws : List ℕ) (at : ℕ) → getD ws at 0 < 12 → ownEnd ws at ≡ at + 1
-unfolding ownEnd
-plain-end ws at h =
-    rw (
-      ne-eqb _ 12 (apart 12 h (omega arith)),
-      ne-eqb _ 13 (apart 13 h (omega arith)),
-      ne-eqb _ 14 (apart 14 h (omega arith)),
-      ne-eqb _ 19 (apart 19 h (omega arith)),
-      ne-eqb _ 20 (apart 20 h (omega arith)),
-      ne-eqb _ 22 (apart 22 h (omega arith)),
-      ne-eqb _ 24 (apart 24 h (omega arith)),
-    ) refl
-
-pub plain-below : (ws : List ℕ) (at : ℕ) → getD ws at 0 < 14 → typesBelow ws at ≡ 0
-unfolding typesBelow
-plain-below ws at h = rw (lt-ltb _ 14 h) refl
 
 -- the list of a type and of those behind it, by the types that follow its head
 list-behind : (at : ℕ) (vs : Tys Bytes) (t : Ty Bytes) (us : Tys Bytes) (q : ℕ) (ts : Tys Bytes) → vs ≡ cons t us → positions (visitedFrom at t) ≡ at ∷ listOf q ts

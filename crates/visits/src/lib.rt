@@ -2,11 +2,10 @@
 ghost use mathlib.Core.Path.{_≡_};
 ghost use mathlib.Core.List.{[], _∷_};
 ghost use mathlib.Core.Bool.{true};
-ghost use Prim.Native.Nat.{_+_, _-_, _≤_, _<_, _^_};
+ghost use Prim.Native.Nat.{_≤_, _<_, _^_};
 ghost use lib.ListN.{length};
 ghost use Rattle.output.specs.Wrote.{Wrote};
 ghost use Rattle.encoding.specs.Tables.{Good, nameCount};
-ghost use Rattle.encoding.specs.Heads.{HeadHere, typesBelow, ownEnd};
 ghost use Rattle.encoding.specs.Declarations.{declarationAt};
 ghost use Rattle.writing.specs.Written.{Readable};
 ghost use Rattle.visits.specs.Visited.{typeVisits, declarationVisits};
@@ -45,41 +44,6 @@ fn put_place(place: usize, out: &mut [u32], pos: usize) -> usize
     pos + 1
 }
 
-// Behind a head: where its own words end, and how many types are due there.
-struct Onward {
-    next: usize,
-    due: usize,
-}
-
-fn go_on(next: usize, due: usize) -> Onward
-    ensures { λ r. ⌜ (r .next ≡ next) × (r .due ≡ due) ⌝ }
-{
-    Onward { next, due }
-}
-
-// The first of `due` types has its head at `at`. One match says both what `types_below` and what `own_end` say.
-fn pass_head(words: &[u32], at: usize, due: usize) -> Onward
-    requires { ⌜ HeadHere (now words) at × (0 < due) × (due - 1 + typesBelow (now words) at < 2 ^ 63) ⌝ }
-    ensures { λ r. ⌜ (r .next ≡ ownEnd (now (words .entry)) at) × (r .due ≡ due - 1 + typesBelow (now (words .entry)) at) ⌝ }
-{
-    let w = words[at];
-    if w < 12 {
-        return go_on(at + 1, due - 1);
-    }
-    match w {
-        12 => go_on(at + 2, due - 1),
-        13 => go_on(at + 3 + words[at + 2] as usize, due - 1),
-        14 => go_on(at + 2, due + words[at + 1] as usize),
-        19 => go_on(at + 2, due - 1 + words[at + 1] as usize),
-        20 => go_on(at + 2, due + words[at + 1] as usize),
-        21 => go_on(at + 1, due + 1),
-        22 => go_on(at + 2, due),
-        23 => go_on(at + 1, due + 1),
-        24 => go_on(at + 2, due),
-        _ => go_on(at + 1, due),
-    }
-}
-
 // The `due` types at `at`, which were accepted. Each head leaves as many types due as follow it, but for a synonym's base: that is passed over.
 fn visit_types(
     words: &[u32],
@@ -105,7 +69,7 @@ fn visit_types(
             p = shown.pos;
             continue;
         }
-        let onward = pass_head(words, place, left);
+        let onward = encoding::pass_head(words, place, left);
         left = onward.due;
         place = onward.next;
     }

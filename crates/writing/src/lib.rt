@@ -28,8 +28,9 @@ pub fn skip_type(words: &[u32], pairs: &[u32], text: &[u8], at: usize) -> usize
     let mut due: usize = 1;
     let mut place = at;
     while 0 < due {
-        due = due - 1 + encoding::types_below(words, place);
-        place = encoding::own_end(words, place);
+        let onward = encoding::pass_head(words, place, due);
+        due = onward.due;
+        place = onward.next;
     }
     place
 }

@@ -8,7 +8,7 @@ use borrow.Fn.PlainCycle.{Measures, is, falls, and}
 use Rattle.visits.proofs.visit_types.Reads as visit-types
 use Rattle.visits.proofs.visit_types.Kinds as visit-types-kinds
 use Rattle.visits.proofs.+visit_types.Lts-visit_types as visit-types-lts
-use Rattle.visits.proofs.pass_head.Reads as pass-head-reads
+use Rattle.encoding.proofs.pass_head.Reads as pass-head-reads
 use Rattle.visits.proofs.put_place.Reads as put-place-reads
 use Rattle.writing.proofs.skip_type.Reads as skip-type-reads
 use Rattle.visits.proofs.+visit_types.{statement}

@@ -2,7 +2,6 @@ use Prim.Native.Nat.{_-_}
 use lib.ListN.{length}
 use Rattle.writing.proofs.Skipping.{Skipping, skip-start, head-due, skip-words, skip-end}
 use native.Mathlib.Omega.{arith}
-use borrow.Author.Needs.{needs}
 use Rattle.writing.proofs.skip_type.Statement.{statement}
 use Rattle.writing.proofs.skip_type.Tie as tie
 
@@ -17,29 +16,20 @@ loop-holds c =
     let s = c .before .before .before in
     skip-start (s .args .words .now) (s .args .pairs .now) (s .args .text .now) (s .args .at) (s .pre)
 
-sub-due : tie.Need-sub-due Inv-loop μ-loop
-sub-due c = search needs
-
-types-below-requires : tie.Need-types-below-requires Inv-loop μ-loop
-types-below-requires c κs = head-due (c .before .loop .inv) (c .loop-test .taken)
-
-add-due : tie.Need-add-due Inv-loop μ-loop
-add-due c =
-    let s = skip-words (c .before .before .loop .inv) (c .before .loop-test .taken) in
-    omega (arith, c .types-below .ensures, s .few)
-
-own-end-requires : tie.Need-own-end-requires Inv-loop μ-loop
-own-end-requires c κs = head-due (c .before .before .loop .inv) (c .before .loop-test .taken)
+pass-head-requires : tie.Need-pass-head-requires Inv-loop μ-loop
+pass-head-requires c κs =
+    let s = skip-words (c .before .loop .inv) (c .loop-test .taken) in
+    (head-due (c .before .loop .inv) (c .loop-test .taken), c .loop-test .taken, omega (arith, s .few))
 
 loop-less : tie.Need-loop-less Inv-loop μ-loop
 loop-less c =
-    let s = skip-words (c .before .before .before .loop .inv) (c .before .before .loop-test .taken) in
-    omega (arith, c .own-end .ensures, s .ahead, s .next .inside)
+    let s = skip-words (c .before .before .loop .inv) (c .before .loop-test .taken) in
+    omega (arith, c .pass-head .ensures .0, s .ahead, s .next .inside)
 
 loop-again : tie.Need-loop-again Inv-loop μ-loop
 loop-again c =
-    let s = skip-words (c .before .before .before .loop .inv) (c .before .before .loop-test .taken) in
-    rw (c .own-end .ensures, c .before .types-below .ensures) (s .next)
+    let s = skip-words (c .before .before .loop .inv) (c .before .loop-test .taken) in
+    rw (c .pass-head .ensures .0, c .pass-head .ensures .1) (s .next)
 
 returns : tie.Need-returns Inv-loop μ-loop
 returns c = skip-end (c .before .loop .inv) (omega (arith, c .loop-test .left))
@@ -51,10 +41,7 @@ skip-type-spec =
     Inv-loop
     μ-loop
     loop-holds
-    sub-due
-    types-below-requires
-    add-due
-    own-end-requires
+    pass-head-requires
     loop-less
     loop-again
     returns)

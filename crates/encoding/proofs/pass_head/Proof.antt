@@ -2,13 +2,12 @@ use Prim.Native.Nat.{_+_, _≤_}
 use mathlib.Core.Path.{_≡_, refl, sym, _∙_}
 use borrow.Author.Tests.{le-ltb, ne-eqb}
 use lib.ListN.{getD}
 use Rattle.encoding.specs.Heads.{typesBelow, ownEnd}
-use Rattle.encoding.proofs.HeadWords.{end-inside, word-inside}
-use Rattle.visits.proofs.Passes.{plain-below, plain-end}
+use Rattle.encoding.proofs.HeadWords.{end-inside, plain-below, plain-end, word-inside}
 use native.Mathlib.Omega.{arith}
-use Rattle.visits.proofs.pass_head.Statement.{statement}
+use Rattle.encoding.proofs.pass_head.Statement.{statement}
 use borrow.Author.Needs.{needs}
-use Rattle.visits.proofs.pass_head.Tie as tie
+use Rattle.encoding.proofs.pass_head.Tie as tie
 
 mul-w : tie.Need-mul-w
 mul-w c =
