@@ -11,9 +11,9 @@ use Rattle.rast.specs.ToString.{Primitive·ToString}
 use Rattle.encoding.specs.Types.{primitives}
 use Rattle.encoding.proofs.Tables.{everyBelow, every-at, same-eq}
 
--- by their kinds
+-- by their kinds, and where the last one ends
 unfoldable pub plainStarts : List ℕ
-plainStarts = 0 ∷ 2 ∷ 5 ∷ 8 ∷ 11 ∷ 15 ∷ 17 ∷ 20 ∷ 23 ∷ 26 ∷ 30 ∷ 35 ∷ []
+plainStarts = 0 ∷ 2 ∷ 5 ∷ 8 ∷ 11 ∷ 15 ∷ 17 ∷ 20 ∷ 23 ∷ 26 ∷ 30 ∷ 35 ∷ 39 ∷ []
 
 unfoldable pub plainLengths : List ℕ
 plainLengths = 2 ∷ 3 ∷ 3 ∷ 3 ∷ 4 ∷ 2 ∷ 3 ∷ 3 ∷ 3 ∷ 4 ∷ 5 ∷ 4 ∷ []
@@ -30,6 +30,13 @@ plain-length w h =
 pub plain-short : (w : ℕ) → w < 12 → getD plainLengths w 0 ≤ 5
 unfolding everyBelow plainLengths _and_
 plain-short w h = leb-true (getD plainLengths w 0) 5 (every-at (λ i. leb (getD plainLengths i 0) 5) 12 refl w h)
+
+-- each ends where the next one starts
+pub plain-next : (w : ℕ) → w < 12 → getD plainStarts (w + 1) 0 ≡ getD plainStarts w 0 + length (Primitive·ToString (getD primitives w U8))
+unfolding everyBelow plainStarts primitives Primitive·ToString ascii _and_
+plain-next w h =
+    eqb-true (getD plainStarts (w + 1) 0) (getD plainStarts w 0 + length (Primitive·ToString (getD primitives w U8)))
+    (every-at (λ i. eqb (getD plainStarts (i + 1) 0) (getD plainStarts i 0 + length (Primitive·ToString (getD primitives i U8)))) 12 refl w h)
 
 pub plain-inside : (w : ℕ) → w < 12 → getD plainStarts w 0 + length (Primitive·ToString (getD primitives w U8)) ≤ 39
 unfolding everyBelow plainStarts primitives Primitive·ToString ascii _and_

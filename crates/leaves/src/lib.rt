@@ -10,8 +10,8 @@ ghost use Rattle.encoding.specs.Types.{primitives, rootOf, pathOf, sizeOf};
 ghost use Rattle.leaves.specs.Texts.{memberText, endText};
 use encoding::PathAt;
 
-// Where the plain types' texts stand in the byte string below, by their kinds.
-const STARTS: [u8; 12] = [0, 2, 5, 8, 11, 15, 17, 20, 23, 26, 30, 35];
+// Where the plain types' texts stand in the byte string below, by their kinds; each ends where the next one starts.
+const STARTS: [u8; 13] = [0, 2, 5, 8, 11, 15, 17, 20, 23, 26, 30, 35, 39];
 
 // No jump to one of twelve strings: which of them comes next is hard to foresee.
 pub fn put_primitive(kind: u32, out: &mut [u8], pos: usize) -> usize
@@ -20,8 +20,8 @@ pub fn put_primitive(kind: u32, out: &mut [u8], pos: usize) -> usize
 {
     let all = b"u8u16u32u64u128i8i16i32i64i128usizebool";
     let start = STARTS[kind as usize] as usize;
-    let count = encoding::primitive_length(kind);
-    output::put_few(all, start, count, out, pos)
+    let end = STARTS[kind as usize + 1] as usize;
+    output::put_few(all, start, end - start, out, pos)
 }
 
 fn put_root(root: u32, out: &mut [u8], pos: usize) -> usize

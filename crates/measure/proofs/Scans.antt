@@ -1,35 +1,17 @@
 -- From a head's reading to the code's answer.
 use Prim.Native.Nat.{ℕ, _+_, _^_, _≤_, _<_}
 use mathlib.Core.Path.{_≡_, refl}
-use mathlib.Core.Bool.{Bool, true, false}
 use mathlib.Core.List.{List}
 use native.Mathlib.Omega.{arith}
-use borrow.Author.Tests.{ltb-true}
-use lib.Dec.{ltb}
 use Rattle.encoding.specs.declared.Refusal.{Refusal}
-use Rattle.encoding.specs.declared.Refusal.the-variants.{UnknownWord}
 use Rattle.encoding.specs.declared.Head.{Head}
-use Rattle.encoding.specs.Refusals.{pick}
 use Rattle.encoding.specs.Reading.{Reading, got, stop, _>>=_, readWord, readBelow, readNames}
 use Rattle.encoding.specs.Tables.{nameLength}
 use Rattle.encoding.specs.declared.Head.the-variants.{FromPath}
 use Rattle.encoding.specs.Heads.{kids, readPath, pathHead}
-use Rattle.encoding.proofs.Tables.{impossible}
-use Rattle.encoding.proofs.Types.{bind-got}
 use Rattle.measure.specs.declared.OwnScan.{OwnScan}
 use Rattle.measure.specs.declared.OwnScan.the-variants.{Leaf, Node, NoNode}
 use Rattle.measure.specs.Lengths.{ownLength, modeOf, namesHead, Counted, exact, many, Scanned, leaf, node, none}
-
--- a word that was read below a bound is below it
-pub below-less : (b : ℕ) (ws : List ℕ) (at : ℕ) {w n : ℕ} → readBelow b ws at ≡ got w n → w < b
-unfolding readBelow
-below-less b ws at {w} {n} e =
-    let t = bind-got (readWord ws at) _ e in
-    go (t .value) (t .end) (ltb (t .value) b) (ltb-true (t .value) b) (t .rest)
-  where
-    go : (v m : ℕ) (t : Bool) → (t ≡ true → v < b) → pick t (got v m) (stop UnknownWord) ≡ got w n → w < b
-    go v m true h d = let f : v ≡ w = cc in omega (arith, h refl)
-    go v m false h d = impossible (cc)
 
 -- a path's head, behind its root and its count
 pub path-names : (bound : ℕ) (ws : List ℕ) (at : ℕ) {root p n q : ℕ} → readBelow 3 ws at ≡ got root p → readWord ws p ≡ got n q

@@ -3,7 +3,7 @@ use Rattle.formal.proofs.Texts.{formal-got, formal-stop, labelled-as}
 use Rattle.formal.specs.Labels.{unread}
 use Rattle.laying.proofs.Leaves.{scanned-none, scanned-word}
 use Rattle.laying.proofs.Passes.{ready-as}
-use Rattle.measure.proofs.Scans.{below-less}
+use Rattle.encoding.proofs.Inside.{below-there}
 use Rattle.rast.specs.Bytes.{ascii}
 use mathlib.Core.Path.{_∙_, refl, sym}
 use native.Mathlib.Omega.{arith}
@@ -28,14 +28,14 @@ unfolding ascii fixedNames
 is-name-requires c κs =
     let start = c .before .before .before .before .before .before .before .before .before .before in
     let e = scanned-word (start .args .words .now) (nameCount (start .args .pairs .now)) (start .args .at) (c .before .before .before .before .before .name-count .ensures) (c .before .before .before .before .scan-below .ensures) (c .before .before .value .given .1) in
-    (below-less _ (start .args .words .now) (start .args .at) e, start .pre .0 .good, omega arith, refl)
+    (below-there _ (start .args .words .now) (start .args .at) e .below, start .pre .0 .good, omega arith, refl)
 
 lay-self-requires : tie.Need-lay-self-requires
 unfolding fixedNames
 lay-self-requires c κs =
     let start = c .before .before .before .before .before .before .before .before .before .before .before .before .before in
     let e = scanned-word (start .args .words .now) (nameCount (start .args .pairs .now)) (start .args .at) (c .before .before .before .before .before .before .before .before .name-count .ensures) (c .before .before .before .before .before .before .before .scan-below .ensures) (c .before .before .before .before .before .value .given .1) in
-    (start .pre .0, below-less _ (start .args .words .now) (start .args .at) e, sym (c .before .before .is-name .ensures) ∙ c .before .if1 .taken, ready-as (formal-got (start .args .words .now) (start .args .pairs .now) (start .args .text .now) (start .args .at) e) (start .pre .1))
+    (start .pre .0, below-there _ (start .args .words .now) (start .args .at) e .below, sym (c .before .before .is-name .ensures) ∙ c .before .if1 .taken, ready-as (formal-got (start .args .words .now) (start .args .pairs .now) (start .args .text .now) (start .args .at) e) (start .pre .1))
 
 same-length : tie.Need-same-length
 same-length c = search needs
@@ -51,7 +51,7 @@ unfolding fixedNames
 lay-typed-requires c κs =
     let start = c .before .before .before .before .before .before .before .before .before .before .before .before .before in
     let e = scanned-word (start .args .words .now) (nameCount (start .args .pairs .now)) (start .args .at) (c .before .before .before .before .before .before .before .before .name-count .ensures) (c .before .before .before .before .before .before .before .scan-below .ensures) (c .before .before .before .before .before .value .given .1) in
-    (start .pre .0, below-less _ (start .args .words .now) (start .args .at) e, sym (c .before .before .is-name .ensures) ∙ c .before .if1 .left, ready-as (formal-got (start .args .words .now) (start .args .pairs .now) (start .args .text .now) (start .args .at) e) (start .pre .1))
+    (start .pre .0, below-there _ (start .args .words .now) (start .args .at) e .below, sym (c .before .before .is-name .ensures) ∙ c .before .if1 .left, ready-as (formal-got (start .args .words .now) (start .args .pairs .now) (start .args .text .now) (start .args .at) e) (start .pre .1))
 
 enum-known-r : tie.Need-enum-known-r
 enum-known-r c = search needs

@@ -2,7 +2,7 @@ use Rattle.encoding.specs.Tables.{nameCount}
 use Rattle.laying.proofs.Leaves.{name-got, name-stop, scanned-none, scanned-word}
 use Rattle.laying.proofs.Passes.{came-bytes, ready-as, ready-bytes, stops-here, went-as}
 use Rattle.laying.specs.Passes.{came}
-use Rattle.measure.proofs.Scans.{below-less}
+use Rattle.encoding.proofs.Inside.{below-there}
 use mathlib.Core.Path.{sym}
 use borrow.Author.Needs.{needs}
 use Rattle.laying.proofs.lay_name.Statement.{statement}
@@ -21,7 +21,7 @@ lay-known-requires : tie.Need-lay-known-requires
 lay-known-requires c κs =
     let a = c .before .before .before .before .before .before .before .before .before .before .args in
     let e = scanned-word (a .words .now) (nameCount (a .pairs .now)) (a .at) (c .before .before .before .before .before .name-count .ensures) (c .before .before .before .before .scan-below .ensures) (c .before .before .value .given .1) in
-    (below-less _ (a .words .now) (a .at) e, c .before .before .before .before .before .before .before .before .before .before .pre .0 .good, ready-bytes (ready-as (name-got (a .words .now) (a .pairs .now) (a .text .now) (a .at) e) (c .before .before .before .before .before .before .before .before .before .before .pre .1)))
+    (below-there _ (a .words .now) (a .at) e .below, c .before .before .before .before .before .before .before .before .before .before .pre .0 .good, ready-bytes (ready-as (name-got (a .words .now) (a .pairs .now) (a .text .now) (a .at) e) (c .before .before .before .before .before .before .before .before .before .before .pre .1)))
 
 enum-known-r : tie.Need-enum-known-r
 enum-known-r c = search needs

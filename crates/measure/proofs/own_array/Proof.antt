@@ -3,7 +3,8 @@ use Rattle.encoding.specs.declared.Head.the-variants.{ArrayOf}
 use Rattle.encoding.specs.Reading.{readBelow}
 use Rattle.encoding.proofs.Reading.{word-got, word-stop}
 use Rattle.measure.specs.Lengths.{worded, ownLength}
-use Rattle.measure.proofs.Scans.{below-less, scanned-node, scanned-stop}
+use Rattle.encoding.proofs.Inside.{below-there}
+use Rattle.measure.proofs.Scans.{scanned-node, scanned-stop}
 use Prim.Native.Nat.{_+_}
 use native.Mathlib.Omega.{arith}
 use borrow.Author.Needs.{needs}
@@ -24,7 +25,7 @@ array-length-requires c κs =
     let s = c .before .before .before .before .before .before in
     let a = s .args in
     let e = word-got (readBelow (a .bound + 1) (a .words .now) (a .at)) (c .before .before .before .scan-below .ensures) (c .before .value .given .1) in
-    omega (arith, s .pre, below-less (a .bound + 1) (a .words .now) (a .at) e)
+    omega (arith, s .pre, below-there (a .bound + 1) (a .words .now) (a .at) e .below)
 
 own-node-requires : tie.Need-own-node-requires
 own-node-requires c κs = search needs

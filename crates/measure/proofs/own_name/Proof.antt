@@ -3,7 +3,8 @@ use Rattle.encoding.specs.declared.Head.the-variants.{Name}
 use Rattle.encoding.specs.Reading.{readBelow}
 use Rattle.encoding.proofs.Reading.{word-got, word-stop}
 use Rattle.measure.specs.Lengths.{worded, ownLength}
-use Rattle.measure.proofs.Scans.{below-less, scanned-leaf, scanned-stop}
+use Rattle.encoding.proofs.Inside.{below-there}
+use Rattle.measure.proofs.Scans.{scanned-leaf, scanned-stop}
 use Rattle.measure.proofs.Lengths.{name-fits}
 use native.Mathlib.Omega.{arith}
 use borrow.Author.Needs.{needs}
@@ -21,7 +22,7 @@ name-length-requires c κs =
     let s = c .before .before .before .before .before .before in
     let a = s .args in
     let e = word-got (readBelow (a .bound) (a .words .now) (a .at)) (c .before .before .before .scan-below .ensures) (c .before .value .given .1) in
-    omega (arith, s .pre, below-less (a .bound) (a .words .now) (a .at) e)
+    omega (arith, s .pre, below-there (a .bound) (a .words .now) (a .at) e .below)
 
 own-leaf-requires : tie.Need-own-leaf-requires
 own-leaf-requires c κs = search needs
