@@ -1,0 +1,3 @@
+-- Laws of heads that were read and of the walk.
+pub mod Scans
+pub mod Walks
