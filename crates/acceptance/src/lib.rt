@@ -7,7 +7,7 @@ ghost use Rattle.encoding.specs.Tables.{Good, nameBytes, nameCount};
 ghost use Rattle.encoding.specs.Heads.{pathHead, headAfter, readHead};
 ghost use Rattle.encoding.specs.Types.{readType};
 ghost use Rattle.encoding.specs.declared.Head.the-variants.{Name, Apply, Tuple, Function, ArrayOf, Meta};
-ghost use Rattle.measure.specs.Lengths.{worded, namesHead};
+ghost use Rattle.measure.specs.Lengths.{worded, namesPath, headOfPath};
 ghost use Rattle.measure.specs.Levels.{leaving, beside, under, pushed, Outward, Kept, Stepped};
 ghost use Rattle.acceptance.specs.Walks.{acceptanceOf, Scanned, passOf, passLevels, passStep};
 use encoding::PathAt;
@@ -54,7 +54,7 @@ fn own_name(words: &[u32], bound: usize, at: usize) -> OwnScan
 // The head of a path, from its names.
 fn own_names(words: &[u32], bound: usize, path: PathAt) -> OwnScan
     requires { ⌜ (length (now words) ≤ 8192) × (path .start ≤ length (now words)) ⌝ }
-    ensures { λ r. ⌜ Scanned (namesHead bound (now (words .entry)) path) r ⌝ }
+    ensures { λ r. ⌜ Scanned (headOfPath (namesPath bound (now (words .entry)) path)) r ⌝ }
 {
     let mut i = path.start;
     let end = i + path.count as usize;

@@ -19,19 +19,16 @@ use Rattle.encoding.specs.declared.Refusal.the-variants.{EndsEarly}
 use Rattle.encoding.specs.declared.Head.the-variants.{Name}
 use Rattle.encoding.specs.declared.WordScan.{WordScan}
 use Rattle.encoding.specs.declared.WordScan.the-variants.{Word, NoWord}
-use Rattle.encoding.specs.declared.PathAt.{PathAt}
-use Rattle.encoding.specs.declared.PathScan.{PathScan}
-use Rattle.encoding.specs.declared.PathScan.the-variants.{OwnPath, NoPath}
 use Rattle.encoding.specs.Reading.{Reading, got, stop, _>>=_, mapReading, readBelow}
-use Rattle.encoding.specs.Scans.{wordScan, pathScan}
+use Rattle.encoding.specs.Scans.{wordScan}
 use Rattle.encoding.specs.Tables.{fixedNames, nameBytes, nameCount}
-use Rattle.encoding.specs.Heads.{readPath, headAfter}
+use Rattle.encoding.specs.Heads.{headAfter}
 use Rattle.encoding.specs.Types.{primitives, readNode, readType}
 use Rattle.encoding.specs.Declarations.{visibilityOf, readVisibility, readName}
 use Rattle.encoding.proofs.Tables.{impossible, everyBelow, every-at, name-fixed}
 use Rattle.encoding.proofs.Heads.{head-at, head-plain}
 use Rattle.encoding.proofs.Types.{type-end}
-use Rattle.encoding.proofs.Reading.{word-got, word-stop, path-got, path-stop}
+use Rattle.encoding.proofs.Reading.{word-got, word-stop}
 use Rattle.measure.specs.declared.Measure.{Measure}
 use Rattle.measure.specs.declared.Measure.the-variants.{Measured, Stopped as Refused}
 use Rattle.measure.specs.Lengths.{measureOf}
@@ -52,12 +49,6 @@ scanned-word ws bound at {b} q e d = ap (λ (c : ℕ). readBelow c ws at) (sym q
 
 pub scanned-none : (ws : List ℕ) (bound at : ℕ) {b : ℕ} {r : WordScan} {k : Refusal} → b ≡ bound → r ≡ wordScan (readBelow b ws at) → r ≡ NoWord k → readBelow bound ws at ≡ stop k
 scanned-none ws bound at {b} q e d = ap (λ (c : ℕ). readBelow c ws at) (sym q) ∙ word-stop (readBelow b ws at) e d
-
-pub scanned-path : (ws : List ℕ) (bound at : ℕ) {b : ℕ} {r : PathScan} {x : PathAt} {n : ℕ} → b ≡ bound → r ≡ pathScan (readPath b ws at) → r ≡ OwnPath x n → readPath bound ws at ≡ got x n
-scanned-path ws bound at {b} q e d = ap (λ (c : ℕ). readPath c ws at) (sym q) ∙ path-got (readPath b ws at) e d
-
-pub scanned-no-path : (ws : List ℕ) (bound at : ℕ) {b : ℕ} {r : PathScan} {k : Refusal} → b ≡ bound → r ≡ pathScan (readPath b ws at) → r ≡ NoPath k → readPath bound ws at ≡ stop k
-scanned-no-path ws bound at {b} q e d = ap (λ (c : ℕ). readPath c ws at) (sym q) ∙ path-stop (readPath b ws at) e d
 
 -- ---- names and docs
 

@@ -1,7 +1,8 @@
 // Passes over the words of a declaration: names, docs, types and paths. A pass reads what stands there and lays its text: it writes the
 // bytes, or only counts them.
+ghost use mathlib.Core.Path.{_≡_};
 ghost use Prim.Native.Nat.{_<_};
-ghost use lib.ListN.{getD};
+ghost use lib.ListN.{length, getD};
 ghost use Rattle.rast.specs.Tree.{U8};
 ghost use Rattle.rast.specs.ToString.{Path·ToString, Primitive·ToString};
 ghost use Rattle.rast.specs.Indent.{indent};
@@ -13,10 +14,10 @@ ghost use Rattle.encoding.specs.Types.{primitives, pathOf};
 ghost use Rattle.laying.specs.Passes.{Checked, Ready, Went};
 ghost use Rattle.laying.specs.Texts.{visibilityAt, nameAt, typeTextAt, pathTextAt, docAt};
 use encoding::PathAt;
-use encoding::PathScan;
 use encoding::Refusal;
 use encoding::WordScan;
 use measure::Measure;
+use measure::PathMeasure;
 
 // Where a pass has come to, in the words and in the text; or the refusal that it met.
 pub enum Place {
@@ -42,24 +43,26 @@ pub fn lay_known(
     output::count_on(pos, encoding::name_length(pairs, name))
 }
 
-// A path that was read.
+// A path that was read, with so many bytes of text.
 fn lay_known_path(
     write: bool,
     words: &[u32],
     pairs: &[u32],
     text: &[u8],
     path: PathAt,
+    bytes: usize,
     out: &mut [u8],
     pos: usize,
 ) -> usize
     requires { ⌜ Checked (now words) (now pairs) (now text) × InsidePath (nameCount (now pairs)) (now words) path
+        × (bytes ≡ length (Path·ToString (pathOf (now words) (nameBytes (now pairs) (now text)) path)))
         × Fits write (now out) pos (Path·ToString (pathOf (now words) (nameBytes (now pairs) (now text)) path)) ⌝ }
     ensures { λ r. ⌜ Laid write (now (out .entry)) pos (Path·ToString (pathOf (now (words .entry)) (nameBytes (now (pairs .entry)) (now (text .entry))) path)) (now (out .exit)) r ⌝ }
 {
     if write {
         return leaves::put_path(words, pairs, text, path, out, pos);
     }
-    output::count_on(pos, measure::path_length(words, pairs, text, path))
+    output::count_on(pos, bytes)
 }
 
 // A doc that is a fixed name: its bytes are put where they can be lent.
@@ -211,12 +214,12 @@ pub fn lay_path(
     requires { ⌜ Checked (now words) (now pairs) (now text) × Ready write (now out) pos (pathTextAt (now words) (now pairs) (now text) at) ⌝ }
     ensures { λ r. ⌜ Went write (now (out .entry)) pos (pathTextAt (now (words .entry)) (now (pairs .entry)) (now (text .entry)) at) (now (out .exit)) r ⌝ }
 {
-    match encoding::scan_path(words, encoding::name_count(pairs), at) {
-        PathScan::OwnPath { path, next } => Place::At {
+    match measure::measure_path(words, pairs, text, at) {
+        PathMeasure::MeasuredPath { path, next, bytes } => Place::At {
             next,
-            pos: lay_known_path(write, words, pairs, text, path, out, pos),
+            pos: lay_known_path(write, words, pairs, text, path, bytes, out, pos),
         },
-        PathScan::NoPath(r) => Place::Stopped(r),
+        PathMeasure::NoPath(r) => Place::Stopped(r),
     }
 }
 

@@ -1,28 +1,52 @@
--- From a head's reading to the code's answer.
+-- From the reading of a head or a path to the code's answer.
 use Prim.Native.Nat.{ℕ, _+_, _^_, _≤_, _<_}
-use mathlib.Core.Path.{_≡_, refl}
+use mathlib.Core.Path.{_≡_}
 use mathlib.Core.List.{List}
 use native.Mathlib.Omega.{arith}
 use Rattle.encoding.specs.declared.Refusal.{Refusal}
 use Rattle.encoding.specs.declared.Head.{Head}
-use Rattle.encoding.specs.Reading.{Reading, got, stop, _>>=_, readWord, readBelow, readNames}
+use Rattle.encoding.specs.Reading.{Reading, got, stop, readWord, readBelow}
 use Rattle.encoding.specs.Tables.{nameLength}
-use Rattle.encoding.specs.declared.Head.the-variants.{FromPath}
-use Rattle.encoding.specs.Heads.{kids, readPath, pathHead}
+use Rattle.encoding.specs.declared.PathAt.{PathAt}
+use Rattle.encoding.specs.Heads.{kids, readPath}
+use Rattle.encoding.proofs.Tables.{impossible}
+use Rattle.measure.specs.declared.PathMeasure.{PathMeasure}
+use Rattle.measure.specs.declared.PathMeasure.the-variants.{MeasuredPath, NoPath}
 use Rattle.measure.specs.declared.OwnScan.{OwnScan}
 use Rattle.measure.specs.declared.OwnScan.the-variants.{Leaf, Node, NoNode}
-use Rattle.measure.specs.Lengths.{ownLength, modeOf, namesHead, Counted, exact, many, Scanned, leaf, node, none}
+use Rattle.measure.specs.Lengths.{pathLength, ownLength, modeOf, namesPath, Counted, exact, many, PathScanned, read, unread, Scanned, leaf, node, none}
 
--- a path's head, behind its root and its count
+-- a path, behind its root and its count
 pub path-names : (bound : ℕ) (ws : List ℕ) (at : ℕ) {root p n q : ℕ} → readBelow 3 ws at ≡ got root p → readWord ws p ≡ got n q
-    → pathHead bound ws at ≡ namesHead bound ws (record { root = root; start = q; count = n })
-unfolding pathHead readPath namesHead
-path-names bound ws at {root} {p} {n} {q} e d = rw (e, d) (go (readNames bound ws n q))
-  where
-    go : (x : Reading (Unit {0})) → ((x >>= λ u r. got (record { root = root; start = q; count = n }) r) >>= λ x r. got (FromPath x) r)
-        ≡ (x >>= λ u r. got (FromPath (record { root = root; start = q; count = n })) r)
-    go (got u r) = refl
-    go (stop r) = refl
+    → readPath bound ws at ≡ namesPath bound ws (record { root = root; start = q; count = n })
+unfolding readPath namesPath
+path-names bound ws at e d = rw (e, d)
+
+module _ (ws pairs : List ℕ) {x : Reading PathAt} where
+  pub path-read : (p : PathAt) {r : PathMeasure} {n b : ℕ} → x ≡ got p n → r ≡ MeasuredPath p n b → b ≡ pathLength ws (nameLength pairs) p → b ≤ 2 ^ 46
+      → PathScanned ws pairs x r
+  path-read p e d b short = rw d (read e b short)
+
+  pub path-unread : {r : PathMeasure} {k : Refusal} → x ≡ stop k → r ≡ NoPath k → PathScanned ws pairs x r
+  path-unread e d = rw d (unread e)
+
+  pub path-as : {y : Reading PathAt} {r : PathMeasure} → x ≡ y → PathScanned ws pairs y r → PathScanned ws pairs x r
+  path-as e s = rw e s
+
+-- what an answer about a path says
+module _ {ws pairs : List ℕ} {x : Reading PathAt} where
+  pub path-got : {r : PathMeasure} {p : PathAt} {n b : ℕ} → PathScanned ws pairs x r → r ≡ MeasuredPath p n b
+      → (x ≡ got p n) × (b ≡ pathLength ws (nameLength pairs) p) × (b ≤ 2 ^ 46)
+  path-got {p = p′} {n = n′} {b = b′} (read {p} {n} {b} e l s) d =
+      let f : p′ ≡ p = cc in
+      let g : n′ ≡ n = cc in
+      let h : b′ ≡ b = cc in
+      rw (f, g, h) (e, l, s)
+  path-got (unread e) d = impossible (cc)
+
+  pub path-stop : {r : PathMeasure} {k : Refusal} → PathScanned ws pairs x r → r ≡ NoPath k → x ≡ stop k
+  path-stop (read e l s) d = impossible (cc)
+  path-stop {k = k} (unread {r} e) d = let f : r ≡ k = cc in rw f at e
 
 -- one type more, by a count that may be cut down
 pub counted-more : {k n : ℕ} → Counted k n → Counted (k + 1) (n + 1)

@@ -15,9 +15,11 @@ use Rattle.encoding.specs.Refusals.{pick}
 use Rattle.encoding.specs.Reading.{Reading, got, stop, _>>=_, readNames}
 use Rattle.encoding.specs.Tables.{nameLength}
 use Rattle.encoding.specs.Heads.{kids}
-use Rattle.encoding.specs.Types.{primitives, rootOf}
+use Rattle.encoding.specs.Types.{primitives, rootOf, pathOf}
 use Rattle.measure.specs.declared.Measure.{Measure}
 use Rattle.measure.specs.declared.Measure.the-variants.{Measured, Stopped}
+use Rattle.measure.specs.declared.PathMeasure.{PathMeasure}
+use Rattle.measure.specs.declared.PathMeasure.the-variants.{MeasuredPath, NoPath}
 use Rattle.measure.specs.declared.OwnScan.{OwnScan}
 use Rattle.measure.specs.declared.OwnScan.the-variants.{Leaf, Node, NoNode}
 
@@ -25,6 +27,11 @@ use Rattle.measure.specs.declared.OwnScan.the-variants.{Leaf, Node, NoNo
 abbrev pub measureOf : Reading (Ty Bytes) → Measure
 measureOf (got t n) = Measured n (length (Type·ToString t))
 measureOf (stop r) = Stopped r
+
+-- where a path ends and how long its text is
+abbrev pub pathMeasureOf : List ℕ → (ℕ → Bytes) → Reading PathAt → PathMeasure
+pathMeasureOf ws name (got p n) = MeasuredPath p n (length (Path·ToString (pathOf ws name p)))
+pathMeasureOf ws name (stop r) = NoPath r
 
 -- `::` and a name, for each of the names; `len` says how long a name is
 unfoldable pub namesLength : (ℕ → ℕ) → List ℕ → ℕ
@@ -42,9 +49,13 @@ arrayLength len s = pick (eqb s 0) 2 (4 + len (s - 1))
 abbrev pub worded : (ℕ → Head) → Reading ℕ → Reading Head
 worded f x = x >>= λ w n. got (f w) n
 
--- a path's head, from its names
-unfoldable pub namesHead : ℕ → List ℕ → PathAt → Reading Head
-namesHead bound ws p = readNames bound ws (p .count) (p .start) >>= λ u r. got (FromPath p) r
+-- a path, from its names
+unfoldable pub namesPath : ℕ → List ℕ → PathAt → Reading PathAt
+namesPath bound ws p = readNames bound ws (p .count) (p .start) >>= λ u r. got p r
+
+-- the head of a path
+abbrev pub headOfPath : Reading PathAt → Reading Head
+headOfPath x = x >>= λ p n. got (FromPath p) n
 
 -- what a head adds to the texts of its types
 unfoldable pub ownLength : List ℕ → (ℕ → ℕ) → Head → ℕ
@@ -84,6 +95,11 @@ modeOf (Meta x) = 1
 pub data Counted (k n : ℕ) : Type 0 where
   exact : k ≡ n → Counted k n
   many : 8192 ≤ k → 8192 ≤ n → Counted k n
+
+-- the answer says what the reading of a path says, and its bytes are few enough that no sum over the words overflows
+pub data PathScanned (ws pairs : List ℕ) (x : Reading PathAt) : PathMeasure → Type 0 where
+  read : {p : PathAt} {n b : ℕ} → x ≡ got p n → b ≡ pathLength ws (nameLength pairs) p → b ≤ 2 ^ 46 → PathScanned ws pairs x (MeasuredPath p n b)
+  unread : {r : Refusal} → x ≡ stop r → PathScanned ws pairs x (NoPath r)
 
 -- the answer says what the reading of a head says, with few enough types and bytes that no sum over the words overflows
 pub data Scanned (ws pairs : List ℕ) (x : Reading Head) : OwnScan → Type 0 where

@@ -7,10 +7,10 @@ ghost use Rattle.rast.specs.ToString.{Path·ToString};
 ghost use Rattle.encoding.specs.Refusals.{pick};
 ghost use Rattle.encoding.specs.Reading.{readWord, readBelow};
 ghost use Rattle.encoding.specs.Tables.{Good, nameBytes, nameLength, nameCount};
-ghost use Rattle.encoding.specs.Heads.{InsidePath, pathHead, headAfter, readHead};
-ghost use Rattle.encoding.specs.Types.{rootOf, pathOf, typeAt};
+ghost use Rattle.encoding.specs.Heads.{readPath, pathHead, headAfter, readHead};
+ghost use Rattle.encoding.specs.Types.{rootOf, typeAt};
 ghost use Rattle.encoding.specs.declared.Head.the-variants.{Name, Apply, Tuple, Function, ArrayOf, Meta};
-ghost use Rattle.measure.specs.Lengths.{measureOf, pathLength, arrayLength, namesHead, worded, Counted, Scanned};
+ghost use Rattle.measure.specs.Lengths.{measureOf, pathMeasureOf, arrayLength, namesPath, worded, Counted, PathScanned, Scanned};
 ghost use Rattle.measure.specs.Levels.{leaving, beside, under, pushed, Outward, Kept, Stepped};
 use encoding::PathAt;
 use encoding::Refusal;
@@ -20,6 +20,16 @@ use encoding::WordScan;
 pub enum Measure {
     Measured { next: usize, bytes: usize },
     Stopped(Refusal),
+}
+
+// A path: where its names stand, where it ends and how long its text is, or the refusal that is met first.
+pub enum PathMeasure {
+    MeasuredPath {
+        path: PathAt,
+        next: usize,
+        bytes: usize,
+    },
+    NoPath(Refusal),
 }
 
 // A head: where its own words end, how many bytes it adds to the texts of the types that follow, and if there are any, how many they are and which of them show
@@ -87,29 +97,61 @@ fn array_length(pairs: &[u32], size: u32) -> usize
     4 + encoding::name_length(pairs, size - 1)
 }
 
-// How long a path's text is, from the lengths of its names.
-fn path_bytes(words: &[u32], pairs: &[u32], path: PathAt) -> usize
-    requires { ⌜ InsidePath (nameCount (now pairs)) (now words) path × (length (now words) ≤ 8192) ⌝ }
-    ensures { λ r. ⌜ (r ≡ pathLength (now (words .entry)) (nameLength (now (pairs .entry))) path) × (r ≤ 2 ^ 46) ⌝ }
+// A path whose root and count were read, from its names: they are read and measured in one loop.
+fn measure_names(words: &[u32], pairs: &[u32], bound: usize, path: PathAt) -> PathMeasure
+    requires { ⌜ (bound ≡ nameCount (now pairs)) × (length (now words) ≤ 8192) × (path .start ≤ length (now words)) ⌝ }
+    ensures { λ r. ⌜ PathScanned (now (words .entry)) (now (pairs .entry)) (namesPath bound (now (words .entry)) path) r ⌝ }
 {
-    let start = path.start;
-    let end = start + path.count as usize;
+    let mut i = path.start;
+    let end = i + path.count as usize;
     let mut bytes = root_length(path.root);
-    let mut i = start;
     while i < end {
-        bytes += 2 + encoding::name_length(pairs, words[i]);
-        i += 1;
+        match encoding::scan_below(words, bound, i) {
+            WordScan::Word { value, next } => {
+                bytes += 2 + encoding::name_length(pairs, value);
+                i = next;
+            }
+            WordScan::NoWord(r) => {
+                return PathMeasure::NoPath(r);
+            }
+        }
     }
-    bytes
+    PathMeasure::MeasuredPath {
+        path,
+        next: end,
+        bytes,
+    }
 }
 
-// How long a path's text is.
-pub fn path_length(words: &[u32], pairs: &[u32], text: &[u8], path: PathAt) -> usize
-    requires { ⌜ InsidePath (nameCount (now pairs)) (now words) path × Good (now pairs) (now text)
-        × (length (now words) ≤ 8192) ⌝ }
-    ensures { λ r. ⌜ r ≡ length (Path·ToString (pathOf (now (words .entry)) (nameBytes (now (pairs .entry)) (now (text .entry))) path)) ⌝ }
+// The path at `at`.
+fn path_at(words: &[u32], pairs: &[u32], bound: usize, at: usize) -> PathMeasure
+    requires { ⌜ (bound ≡ nameCount (now pairs)) × (length (now words) ≤ 8192) ⌝ }
+    ensures { λ r. ⌜ PathScanned (now (words .entry)) (now (pairs .entry)) (readPath bound (now (words .entry)) at) r ⌝ }
 {
-    path_bytes(words, pairs, path)
+    match encoding::scan_below(words, 3, at) {
+        WordScan::Word {
+            value: root,
+            next: p,
+        } => match encoding::scan_word(words, p) {
+            WordScan::Word {
+                value: count,
+                next: start,
+            } => {
+                let path = PathAt { root, start, count };
+                measure_names(words, pairs, bound, path)
+            }
+            WordScan::NoWord(r) => PathMeasure::NoPath(r),
+        },
+        WordScan::NoWord(r) => PathMeasure::NoPath(r),
+    }
+}
+
+// Where the path at `at` ends and how long its text is, or the refusal that is met first.
+pub fn measure_path(words: &[u32], pairs: &[u32], text: &[u8], at: usize) -> PathMeasure
+    requires { ⌜ Good (now pairs) (now text) × (length (now words) ≤ 8192) ⌝ }
+    ensures { λ r. ⌜ r ≡ pathMeasureOf (now (words .entry)) (nameBytes (now (pairs .entry)) (now (text .entry))) (readPath (nameCount (now (pairs .entry))) (now (words .entry)) at) ⌝ }
+{
+    path_at(words, pairs, encoding::name_count(pairs), at)
 }
 
 // A head with no type behind it.
@@ -145,48 +187,18 @@ fn own_name(words: &[u32], pairs: &[u32], bound: usize, at: usize) -> OwnScan
     }
 }
 
-// The head of a path, from its names: they are read and measured in one loop.
-fn own_names(words: &[u32], pairs: &[u32], bound: usize, path: PathAt) -> OwnScan
-    requires { ⌜ (bound ≡ nameCount (now pairs)) × (length (now words) ≤ 8192) × (path .start ≤ length (now words)) ⌝ }
-    ensures { λ r. ⌜ Scanned (now (words .entry)) (now (pairs .entry)) (namesHead bound (now (words .entry)) path) r ⌝ }
-{
-    let mut i = path.start;
-    let end = i + path.count as usize;
-    let mut bytes = root_length(path.root);
-    while i < end {
-        match encoding::scan_below(words, bound, i) {
-            WordScan::Word { value, next } => {
-                bytes += 2 + encoding::name_length(pairs, value);
-                i = next;
-            }
-            WordScan::NoWord(r) => {
-                return OwnScan::NoNode(r);
-            }
-        }
-    }
-    own_leaf(end, bytes)
-}
-
 // A path's head.
 fn own_path(words: &[u32], pairs: &[u32], bound: usize, at: usize) -> OwnScan
     requires { ⌜ (bound ≡ nameCount (now pairs)) × (length (now words) ≤ 8192) ⌝ }
     ensures { λ r. ⌜ Scanned (now (words .entry)) (now (pairs .entry)) (pathHead bound (now (words .entry)) at) r ⌝ }
 {
-    match encoding::scan_below(words, 3, at) {
-        WordScan::Word {
-            value: root,
-            next: p,
-        } => match encoding::scan_word(words, p) {
-            WordScan::Word {
-                value: count,
-                next: start,
-            } => {
-                let path = PathAt { root, start, count };
-                own_names(words, pairs, bound, path)
-            }
-            WordScan::NoWord(r) => OwnScan::NoNode(r),
-        },
-        WordScan::NoWord(r) => OwnScan::NoNode(r),
+    match path_at(words, pairs, bound, at) {
+        PathMeasure::MeasuredPath {
+            path: _,
+            next,
+            bytes,
+        } => own_leaf(next, bytes),
+        PathMeasure::NoPath(r) => OwnScan::NoNode(r),
     }
 }
 

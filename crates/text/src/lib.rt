@@ -5,9 +5,9 @@ ghost use lib.ListN.{length};
 ghost use Rattle.encoding.specs.Tables.{Good};
 ghost use Rattle.text.specs.Calls.{filled, typeText, pathText, wholeTypeText, wholePathText};
 use encoding::Check;
-use encoding::PathScan;
 use encoding::Refusal;
 use measure::Measure;
+use measure::PathMeasure;
 
 // The length of the text that fills the front of the buffer, or a refusal: then the buffer is as it was.
 pub enum TextAnswer {
@@ -39,20 +39,18 @@ fn fill_path(words: &[u32], pairs: &[u32], text: &[u8], out: &mut [u8]) -> TextA
     requires { ⌜ Good (now pairs) (now text) × (length (now words) ≤ 8192) ⌝ }
     ensures { λ r. ⌜ (r, now (out .exit)) ≡ filled (now (out .entry)) (wholePathText (now (words .entry)) (now (pairs .entry)) (now (text .entry))) ⌝ }
 {
-    let bound = encoding::name_count(pairs);
-    match encoding::scan_path(words, bound, 0) {
-        PathScan::OwnPath { path, next } => {
+    match measure::measure_path(words, pairs, text, 0) {
+        PathMeasure::MeasuredPath { path, next, bytes } => {
             if next != words.len() {
                 return TextAnswer::Refused(Refusal::LeftOver);
             }
-            let size = measure::path_length(words, pairs, text, path);
-            if out.len() < size {
+            if out.len() < bytes {
                 return TextAnswer::Refused(Refusal::BufferTooShort);
             }
             leaves::put_path(words, pairs, text, path, out, 0);
-            TextAnswer::Length(size)
+            TextAnswer::Length(bytes)
         }
-        PathScan::NoPath(r) => TextAnswer::Refused(r),
+        PathMeasure::NoPath(r) => TextAnswer::Refused(r),
     }
 }
 

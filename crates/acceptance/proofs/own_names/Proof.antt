@@ -5,7 +5,7 @@ use Rattle.encoding.specs.declared.Head.the-variants.{FromPath}
 use Rattle.encoding.specs.Reading.{readBelow, readNames}
 use Rattle.encoding.proofs.Reading.{word-got, word-stop, names-more, names-stop, names-none}
 use Rattle.encoding.proofs.Inside.{below-there}
-use Rattle.measure.specs.Lengths.{namesHead}
+use Rattle.measure.specs.Lengths.{namesPath}
 use Rattle.acceptance.proofs.Scans.{scanned-leaf, scanned-stop}
 use native.Mathlib.Omega.{arith}
 use borrow.Author.Needs.{needs}
@@ -54,7 +54,7 @@ enum-known-r : tie.Need-enum-known-r Inv-loop μ-loop
 enum-known-r c = search needs
 
 returns : tie.Need-returns Inv-loop μ-loop
-unfolding namesHead
+unfolding namesPath
 returns c =
     let a = c .before .before .before .before .before .before .before .before .args in
     let l = c .before .before .before .before .before .loop in
@@ -65,7 +65,7 @@ returns c =
     scanned-stop (rw (sym (rw n at f))) refl
 
 returns-2 : tie.Need-returns-2 Inv-loop μ-loop
-unfolding namesHead
+unfolding namesPath
 returns-2 c =
     let a = c .before .before .before .before .args in
     let l = c .before .loop in

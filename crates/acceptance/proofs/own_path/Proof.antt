@@ -1,8 +1,9 @@
-use mathlib.Core.Path.{refl}
+use mathlib.Core.Path.{refl, ap}
 use Rattle.encoding.specs.Reading.{readBelow, readWord}
 use Rattle.encoding.specs.Heads.{readPath, pathHead}
 use Rattle.encoding.proofs.Reading.{word-got, word-stop}
 use Rattle.encoding.proofs.Inside.{word-there}
+use Rattle.measure.specs.Lengths.{headOfPath}
 use Rattle.measure.proofs.Scans.{path-names}
 use Rattle.acceptance.proofs.Scans.{scanned-stop, scanned-as}
 use native.Mathlib.Omega.{arith}
@@ -36,11 +37,12 @@ enum-known-r-2 : tie.Need-enum-known-r-2
 enum-known-r-2 c = search needs
 
 returns : tie.Need-returns
+unfolding pathHead
 returns c =
     let a = c .before .before .before .before .before .before .before .before .before .before .args in
     let e = word-got (readBelow 3 (a .words .now) (a .at)) (c .before .before .before .before .before .before .before .before .scan-below .ensures) (c .before .before .before .before .before .before .root .given .1) in
     let d = word-got (readWord (a .words .now) _) (c .before .before .before .before .scan-word .ensures) (c .before .before .count .given .1) in
-    scanned-as (path-names (a .bound) (a .words .now) (a .at) e d) (c .own-names .ensures)
+    scanned-as (ap headOfPath (path-names (a .bound) (a .words .now) (a .at) e d)) (c .own-names .ensures)
 
 returns-2 : tie.Need-returns-2
 unfolding pathHead readPath

@@ -1,29 +1,28 @@
 use Prim.Native.Nat.{_+_, _-_, _*_, _^_, _≤_}
 use mathlib.Core.Path.{_≡_, refl, sym, ap, _∙_}
 use lib.ListN.{length, take, drop}
-use Rattle.encoding.specs.declared.Head.the-variants.{FromPath}
 use Rattle.encoding.specs.Tables.{nameLength}
 use Rattle.encoding.specs.Reading.{readBelow, readNames}
 use Rattle.encoding.proofs.Reading.{word-got, word-stop, names-more as reads-more, names-stop, names-none as reads-none}
 use Rattle.encoding.proofs.Inside.{below-there}
-use Rattle.measure.specs.Lengths.{namesLength, pathLength, ownLength, namesHead}
+use Rattle.measure.specs.Lengths.{namesLength, pathLength, namesPath}
 use Rattle.measure.proofs.Lengths.{name-fits, names-more, names-none}
-use Rattle.measure.proofs.Scans.{scanned-leaf, scanned-stop}
+use Rattle.measure.proofs.Scans.{path-read, path-unread}
 use native.Mathlib.Omega.{arith}
 use borrow.Author.Needs.{needs}
-use Rattle.measure.proofs.own_names.Statement.{statement}
-use Rattle.measure.proofs.own_names.Tie as tie
+use Rattle.measure.proofs.measure_names.Statement.{statement}
+use Rattle.measure.proofs.measure_names.Tie as tie
 
 -- what is left of the names is read as all of them are, and their lengths add up
 abbrev Inv-loop : tie.InvT-loop
-Inv-loop words pairs bound i₀ end bytes₀ i bytes =
+Inv-loop words pairs bound path i₀ end bytes₀ i bytes =
     (i ≤ end) × (i ≤ length words) × (bytes ≤ 5 + i * (2 ^ 32 + 2))
     × (readNames bound words (end - i) i ≡ readNames bound words (end - i₀) i₀)
     × (bytes + namesLength (nameLength pairs) (take (end - i) (drop i words))
     ≡ bytes₀ + namesLength (nameLength pairs) (take (end - i₀) (drop i₀ words)))
 
 abbrev μ-loop : tie.MeasureT-loop
-μ-loop words pairs bound i₀ end bytes₀ i bytes = end - i
+μ-loop words pairs bound path i₀ end bytes₀ i bytes = end - i
 
 cast-end : tie.Need-cast-end Inv-loop μ-loop
 cast-end c = search needs
@@ -95,7 +94,7 @@ enum-known-r : tie.Need-enum-known-r Inv-loop μ-loop
 enum-known-r c = search needs
 
 returns : tie.Need-returns Inv-loop μ-loop
-unfolding namesHead
+unfolding namesPath
 returns c =
     let a = c .before .before .before .before .before .before .before .before .before .before .args in
     let l = c .before .before .before .before .before .loop in
@@ -103,29 +102,26 @@ returns c =
     let e = word-stop (readBelow (a .bound) (a .words .now) (l .i)) (c .before .before .before .scan-below .ensures) (c .before .r .given .1) in
     let f = sym (names-stop (a .bound) (a .words .now) (l .i) (end - l .i) _ (omega arith) e) ∙ l .inv .3 in
     let n : end - a .path .start ≡ a .path .count = omega arith in
-    scanned-stop (a .words .now) (a .pairs .now) (rw (sym (rw n at f))) refl
-
-own-leaf-requires : tie.Need-own-leaf-requires Inv-loop μ-loop
-own-leaf-requires c κs = search needs
+    path-unread (a .words .now) (a .pairs .now) (rw (sym (rw n at f))) refl
 
 returns-2 : tie.Need-returns-2 Inv-loop μ-loop
-unfolding namesHead ownLength pathLength
+unfolding namesPath pathLength
 returns-2 c =
-    let s = c .before .before .before .before .before .before .before in
+    let s = c .before .before .before .before .before .before in
     let a = s .args in
-    let l = c .before .before .loop in
+    let l = c .before .loop in
     let end = a .path .start + a .path .count in
     let z : end - l .i ≡ 0 = omega arith in
     let n : end - a .path .start ≡ a .path .count = omega arith in
     let i : l .i ≡ end = omega arith in
     let f = sym (reads-none (a .bound) (a .words .now) (l .i) (end - l .i) z) ∙ l .inv .3 in
     let m = names-none (nameLength (a .pairs .now)) (a .words .now) (l .i) end (search needs) in
-    scanned-leaf (a .words .now) (a .pairs .now) (FromPath (a .path)) (rw (sym (rw (n, i) at f))) (c .own-leaf .ensures) refl
-    (omega (arith, c .before .before .before .root-length .ensures .0, m, rw n at (l .inv .4)))
+    path-read (a .words .now) (a .pairs .now) (a .path) (rw (sym (rw (n, i) at f))) refl
+    (omega (arith, c .before .before .root-length .ensures .0, m, rw n at (l .inv .4)))
     (omega (arith, l .inv .2, l .inv .1, s .pre .1))
 
-pub own-names-spec : {M : Type 1} → statement M
-own-names-spec =
+pub measure-names-spec : {M : Type 1} → statement M
+measure-names-spec =
     tie.close
     (tie.spec
     Inv-loop
@@ -143,5 +139,4 @@ own-names-spec =
     loop-again
     enum-known-r
     returns
-    own-leaf-requires
     returns-2)
