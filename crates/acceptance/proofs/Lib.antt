@@ -1,4 +1,3 @@
--- Laws of heads that were read, of the walk, and of what it gives.
+-- Laws of heads that were read and of the walk.
 pub mod Scans
 pub mod Walks
-pub mod Accepted

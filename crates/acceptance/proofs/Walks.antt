@@ -10,12 +10,11 @@ use Rattle.rast.specs.Tree.{Ty, nil, cons}
 use Rattle.encoding.specs.declared.Refusal.the-variants.{EndsEarly}
 use Rattle.encoding.specs.Reading.{Reading, got, stop, _>>=_}
 use Rattle.encoding.specs.Tables.{nameBytes, nameCount}
+use Rattle.encoding.specs.Scans.{ended}
 use Rattle.encoding.specs.Types.{readTypes, readType}
 use Rattle.encoding.proofs.Heads.{head-end}
 use Rattle.measure.specs.Levels.{shownLength, levelsAt, restAt, stacked, restOf}
-use Rattle.acceptance.specs.declared.Acceptance.{Acceptance}
-use Rattle.acceptance.specs.declared.Acceptance.the-variants.{Accepted, Denied}
-use Rattle.acceptance.specs.Walks.{acceptanceOf, passOf, passLevels}
+use Rattle.acceptance.specs.Walks.{passOf, passLevels}
 
 -- ---- levels
 
@@ -40,10 +39,6 @@ zero-levels i = zero-level 64 i
 
 -- ---- the start
 
-abbrev pub accepted : Reading ℕ → Acceptance
-accepted (got n p) = Accepted p
-accepted (stop r) = Denied r
-
 -- levels at which nothing is due are left at once
 levels-none : (f : ℕ → ℕ → Reading (Ty Bytes)) (levels : List ℕ) → ((i : ℕ) → getD levels i 0 ≡ 0) → (d i p total : ℕ) → levelsAt f d (stacked levels i) p total ≡ got total p
 unfolding levelsAt stacked readTypes shownLength
@@ -54,15 +49,15 @@ module _ (ws pairs : List ℕ) (text : Bytes) where
   -- what is left at the start is the type
   pub start : (levels : List ℕ) (at inside : ℕ) → ((i : ℕ) → getD levels i 0 ≡ 0) → {x : Reading ℕ}
       → restOf ws pairs text levels (passOf (record { place = at; depth = inside; due = 1 })) ≡ x
-      → accepted x ≡ acceptanceOf (readType (nameCount pairs) ws (nameBytes pairs text) (64 - inside) at)
+      → ended x ≡ ended (readType (nameCount pairs) ws (nameBytes pairs text) (64 - inside) at)
   unfolding restOf restAt readTypes
-  start levels at inside z e = sym (ap accepted e) ∙ go (types (64 - inside) at)
+  start levels at inside z e = sym (ap ended e) ∙ go (types (64 - inside) at)
     where
       types : ℕ → ℕ → Reading (Ty Bytes)
       types = readType (nameCount pairs) ws (nameBytes pairs text)
 
-      go : (y : Reading (Ty Bytes)) → accepted ((y >>= λ t q. got nil q >>= λ ts r. got (cons t ts) r) >>= λ ts q. levelsAt types (64 - inside) (stacked levels inside) q (0 + shownLength 0 1 ts)) ≡ acceptanceOf y
-      go (got t n) = ap accepted (levels-none types levels z (64 - inside) inside n _)
+      go : (y : Reading (Ty Bytes)) → ended ((y >>= λ t q. got nil q >>= λ ts r. got (cons t ts) r) >>= λ ts q. levelsAt types (64 - inside) (stacked levels inside) q (0 + shownLength 0 1 ts)) ≡ ended y
+      go (got t n) = ap ended (levels-none types levels z (64 - inside) inside n _)
       go (stop r) = refl
 
   -- no type begins behind the words

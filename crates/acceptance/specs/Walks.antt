@@ -2,8 +2,6 @@
 use Prim.Native.Nat.{ℕ, _*_, _/_, _^_, _≤_, _<_}
 use mathlib.Core.Path.{_≡_}
 use mathlib.Core.List.{List, map}
-use Rattle.rast.specs.Bytes.{Bytes}
-use Rattle.rast.specs.Tree.{Ty}
 use Rattle.encoding.specs.declared.Refusal.{Refusal}
 use Rattle.encoding.specs.declared.Head.{Head}
 use Rattle.encoding.specs.Reading.{Reading, got, stop}
@@ -12,18 +10,11 @@ use Rattle.measure.specs.declared.Pass.{Pass}
 use Rattle.measure.specs.declared.Step.{Step as PassStep}
 use Rattle.measure.specs.declared.Step.the-variants.{On as PassOn, Ended as PassEnded, Halt as PassHalt}
 use Rattle.measure.specs.Lengths.{Counted}
-use Rattle.acceptance.specs.declared.Acceptance.{Acceptance}
-use Rattle.acceptance.specs.declared.Acceptance.the-variants.{Accepted, Denied}
 use Rattle.acceptance.specs.declared.OwnScan.{OwnScan}
 use Rattle.acceptance.specs.declared.OwnScan.the-variants.{Leaf, Node, NoNode}
 use Rattle.acceptance.specs.declared.Walk.{Walk}
 use Rattle.acceptance.specs.declared.Step.{Step}
 use Rattle.acceptance.specs.declared.Step.the-variants.{On, Ended, Halt}
-
--- where a type that was read ends
-abbrev pub acceptanceOf : Reading (Ty Bytes) → Acceptance
-acceptanceOf (got t n) = Accepted n
-acceptanceOf (stop r) = Denied r
 
 -- the answer says what the reading of a head says; how many types follow may be cut down
 pub data Scanned (x : Reading Head) : OwnScan → Type 0 where

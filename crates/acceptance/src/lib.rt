@@ -5,20 +5,16 @@ ghost use lib.ListN.{length};
 ghost use Rattle.encoding.specs.Reading.{readWord, readBelow};
 ghost use Rattle.encoding.specs.Tables.{Good, nameBytes, nameCount};
 ghost use Rattle.encoding.specs.Heads.{pathHead, headAfter, readHead};
+ghost use Rattle.encoding.specs.Scans.{ended};
 ghost use Rattle.encoding.specs.Types.{readType};
 ghost use Rattle.encoding.specs.declared.Head.the-variants.{Name, Apply, Tuple, Function, ArrayOf, Meta};
 ghost use Rattle.measure.specs.Lengths.{worded, namesPath, headOfPath};
 ghost use Rattle.measure.specs.Levels.{leaving, beside, under, pushed, Outward, Kept, Stepped};
-ghost use Rattle.acceptance.specs.Walks.{acceptanceOf, Scanned, passOf, passLevels, passStep};
+ghost use Rattle.acceptance.specs.Walks.{Scanned, passOf, passLevels, passStep};
 use encoding::PathAt;
 use encoding::Refusal;
+use encoding::Scan;
 use encoding::WordScan;
-
-// Where an accepted type ends, or the refusal that is met first.
-pub enum Acceptance {
-    Accepted(usize),
-    Denied(Refusal),
-}
 
 // A head: where its own words end, and if types follow, how many.
 enum OwnScan {
@@ -254,19 +250,13 @@ fn advance(
     }
 }
 
-// The type at `at`, which `inside` types stand around: it may be so much less deep.
-pub fn accept_type(
-    words: &[u32],
-    pairs: &[u32],
-    text: &[u8],
-    at: usize,
-    inside: usize,
-) -> Acceptance
+// Where the type at `at` ends, or the refusal that is met first. `inside` types stand around it: it may be so much less deep.
+pub fn accept_type(words: &[u32], pairs: &[u32], text: &[u8], at: usize, inside: usize) -> Scan
     requires { ⌜ Good (now pairs) (now text) × (length (now words) ≤ 8192) × (inside < 64) ⌝ }
-    ensures { λ r. ⌜ r ≡ acceptanceOf (readType (nameCount (now (pairs .entry))) (now (words .entry)) (nameBytes (now (pairs .entry)) (now (text .entry))) (64 - inside) at) ⌝ }
+    ensures { λ r. ⌜ r ≡ ended (readType (nameCount (now (pairs .entry))) (now (words .entry)) (nameBytes (now (pairs .entry)) (now (text .entry))) (64 - inside) at) ⌝ }
 {
     if words.len() < at {
-        return Acceptance::Denied(Refusal::EndsEarly);
+        return Scan::Refused(Refusal::EndsEarly);
     }
     let bound = encoding::name_count(pairs);
     let mut levels = [0u16; 64];
@@ -281,10 +271,10 @@ pub fn accept_type(
                 walk = p;
             }
             Step::Ended(next) => {
-                return Acceptance::Accepted(next);
+                return Scan::At(next);
             }
             Step::Halt(r) => {
-                return Acceptance::Denied(r);
+                return Scan::Refused(r);
             }
         }
     }

@@ -52,6 +52,15 @@ pub names-got : (x : Reading (Unit {0})) {r : Scan} {n : ℕ} → r ≡ ended x 
 names-got (got a m) {r} {n} e d = let q : m ≡ n = cc in ap (got tt) q
 names-got (stop k) e d = impossible (cc)
 
+-- something was read that ends at n
+pub record Read {A : Type 0} (x : Reading A) (n : ℕ) : Type 0 where
+  pub value : A
+  pub reads : x ≡ got value n
+
+pub scan-got : {A : Type 0} (x : Reading A) {r : Scan} {n : ℕ} → r ≡ ended x → r ≡ At n → Read x n
+scan-got (got a m) {r} {n} e d = let q : m ≡ n = cc in record { value = a; reads = ap (got a) q }
+scan-got (stop k) e d = impossible (cc)
+
 pub scan-stop : {A : Type 0} (x : Reading A) {r : Scan} {k : Refusal} → r ≡ ended x → r ≡ Refused k → x ≡ stop k
 scan-stop (got a m) e d = impossible (cc)
 scan-stop (stop k) e d = cc

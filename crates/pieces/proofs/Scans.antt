@@ -10,6 +10,7 @@ use Rattle.encoding.specs.declared.Refusal.{Refusal}
 use Rattle.encoding.specs.declared.Refusal.the-variants.{UnknownWord}
 use Rattle.encoding.specs.declared.Scan.{Scan}
 use Rattle.encoding.specs.declared.Scan.the-variants.{At, Refused}
+use Rattle.encoding.proofs.Reading.{scan-got}
 use Rattle.encoding.specs.Reading.{Reading, got, stop, _>>=_, mapReading, readWord, readBelow, readNames}
 use Rattle.encoding.specs.Scans.{ended}
 use Rattle.encoding.specs.Declarations.{readList, readCounted, readAttribute, readName, structHead, enumHead, synonymHead, useHead}
@@ -32,8 +33,7 @@ two-stop (got e m) h d = impossible (cc)
 two-stop (stop k) h d = cc
 
 pub end-got : {A : Type 0} (x : Reading A) {r : Scan} {n : ℕ} → r ≡ ended x → r ≡ At n → EndsAt x n
-end-got (got a m) {r} {n} e d = let q : m ≡ n = cc in record { value = a; reads = ap (got a) q }
-end-got (stop k) e d = impossible (cc)
+end-got x e d = let u = scan-got x e d in record { value = u .value; reads = u .reads }
 
 -- ---- ends: what is made of what was read does not matter
 

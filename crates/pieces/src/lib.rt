@@ -9,7 +9,6 @@ ghost use Rattle.encoding.specs.Scans.{ended};
 ghost use Rattle.pieces.specs.declared.After.the-variants.{FieldList, CaseList, NoMore};
 ghost use Rattle.pieces.specs.Walks.{readEntry, readTwo, twoScan, moved, inField, Stepped, readOneAttribute, readAttributes, readUsing, readOpening, startedAt, titled, started};
 ghost use Rattle.pieces.specs.Ends.{parameterAt, formalAt, fieldEnd, eachFieldEnd, fieldsAt, caseAt, signatureEnd, headingEnd, structAt, enumAt, synonymAt, useEnd, heldAt};
-use acceptance::Acceptance;
 use encoding::PathScan;
 use encoding::Refusal;
 use encoding::Scan;
@@ -433,10 +432,7 @@ fn scan_type(words: &[u32], pairs: &[u32], text: &[u8], at: usize) -> Scan
     if words[at] < 12 {
         return Scan::At(at + 1);
     }
-    match acceptance::accept_type(words, pairs, text, at, 0) {
-        Acceptance::Accepted(next) => Scan::At(next),
-        Acceptance::Denied(r) => Scan::Refused(r),
-    }
+    acceptance::accept_type(words, pairs, text, at, 0)
 }
 
 // `count` types.

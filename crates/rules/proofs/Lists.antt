@@ -20,10 +20,10 @@ use Rattle.encoding.specs.Tables.{overlong, goodPairs, checkTables, nameBytes, 
 use Rattle.encoding.specs.Types.{readTypes, typeAt}
 use Rattle.encoding.specs.Declarations.{readList}
 use Rattle.encoding.proofs.Tables.{impossible, tables-passed}
-use Rattle.acceptance.specs.declared.Acceptance.{Acceptance}
-use Rattle.acceptance.specs.declared.Acceptance.the-variants.{Accepted, Denied}
-use Rattle.acceptance.specs.Walks.{acceptanceOf}
-use Rattle.acceptance.proofs.Accepted.{accepted-got, accepted-stop}
+use Rattle.encoding.specs.declared.Scan.{Scan}
+use Rattle.encoding.specs.declared.Scan.the-variants.{At, Refused}
+use Rattle.encoding.specs.Scans.{ended}
+use Rattle.encoding.proofs.Reading.{scan-got, scan-stop}
 use Rattle.trees.specs.Renamed.{renamed}
 use Rattle.trees.specs.Numbered.{treeAt}
 use Rattle.trees.specs.Encode.{encode}
@@ -44,12 +44,12 @@ use Rattle.rules.proofs.Tables.{tabled-kept, tabled-more, same-tabled, 
 
 -- ---- from the acceptance of a type to its tree
 
-pub accepted-tree : (ws pairs : List ℕ) (text : Bytes) (at : ℕ) {r : Acceptance} {n : ℕ} → r ≡ acceptanceOf (typeAt ws pairs text at) → r ≡ Accepted n → (t : Ty ℕ) × (treeAt ws pairs at ≡ got t n)
-accepted-tree ws pairs text at e d = let u = numbered ws pairs text at (accepted-got (typeAt ws pairs text at) e d .reads) in (u .tree, u .reads)
+pub accepted-tree : (ws pairs : List ℕ) (text : Bytes) (at : ℕ) {r : Scan} {n : ℕ} → r ≡ ended (typeAt ws pairs text at) → r ≡ At n → (t : Ty ℕ) × (treeAt ws pairs at ≡ got t n)
+accepted-tree ws pairs text at e d = let u = numbered ws pairs text at (scan-got (typeAt ws pairs text at) e d .reads) in (u .tree, u .reads)
 
-pub accepted-no-tree : (ws pairs : List ℕ) (text : Bytes) (at : ℕ) {r : Acceptance} {k : Refusal} → r ≡ acceptanceOf (typeAt ws pairs text at) → r ≡ Denied k → treeAt ws pairs at ≡ stop k
+pub accepted-no-tree : (ws pairs : List ℕ) (text : Bytes) (at : ℕ) {r : Scan} {k : Refusal} → r ≡ ended (typeAt ws pairs text at) → r ≡ Refused k → treeAt ws pairs at ≡ stop k
 unfolding mapReading
-accepted-no-tree ws pairs text at {r} {k} e d = go (treeAt ws pairs at) (sym (spelled ws pairs text at) ∙ accepted-stop (typeAt ws pairs text at) e d)
+accepted-no-tree ws pairs text at {r} {k} e d = go (treeAt ws pairs at) (sym (spelled ws pairs text at) ∙ scan-stop (typeAt ws pairs text at) e d)
   where
     go : (x : Reading (Ty ℕ)) → mapReading (renamed (nameBytes pairs text)) x ≡ stop k → x ≡ stop k
     go (got t m) g = impossible (cc)

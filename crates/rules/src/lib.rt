@@ -9,7 +9,6 @@ ghost use Rattle.replace.specs.Rules.{checkAll};
 ghost use Rattle.writing.specs.Written.{Readable};
 ghost use Rattle.rules.specs.Table.{entered, slot, slotOf, linked, isFound, firstAlong, isFrom, stands, someStands, noneStands, fromWords, foundFrom, amongFrom, repeatedFrom, Fits, Links, Along, Unlinked, Entries};
 ghost use Rattle.rules.specs.Scans.{Deepens, Spans, depthOf, RuleRead, Listed, RulesRead};
-use acceptance::Acceptance;
 use encoding::Check;
 use encoding::Refusal;
 use encoding::Scan;
@@ -85,17 +84,11 @@ fn scan_rule(rules: &[u32], pairs: &[u32], text: &[u8], at: usize) -> RuleScan
     ensures { λ r. ⌜ RuleRead (now (rules .entry)) (now (pairs .entry)) at r ⌝ }
 {
     match acceptance::accept_type(rules, pairs, text, at, 0) {
-        Acceptance::Accepted(middle) => match acceptance::accept_type(
-            rules,
-            pairs,
-            text,
-            middle,
-            0,
-        ) {
-            Acceptance::Accepted(end) => RuleScan::OneRule { middle, end },
-            Acceptance::Denied(r) => RuleScan::NoRule(r),
+        Scan::At(middle) => match acceptance::accept_type(rules, pairs, text, middle, 0) {
+            Scan::At(end) => RuleScan::OneRule { middle, end },
+            Scan::Refused(r) => RuleScan::NoRule(r),
         },
-        Acceptance::Denied(r) => RuleScan::NoRule(r),
+        Scan::Refused(r) => RuleScan::NoRule(r),
     }
 }
 

@@ -12,7 +12,6 @@ ghost use Rattle.visits.specs.Visited.{typeVisits, declarationVisits};
 ghost use Rattle.visits.specs.Calls.{filled, Due, Visited, enteredAfter, enteredWalk, FieldNext, fieldType, pastField, Ahead, Entered, AllVisited, Fills, wholeVisits};
 ghost use Rattle.pieces.specs.Ends.{heldAt};
 ghost use Rattle.pieces.specs.declared.Whole.the-variants.{AType, ADeclaration};
-use acceptance::Acceptance;
 use encoding::Check;
 use encoding::Refusal;
 use encoding::Scan;
@@ -254,7 +253,7 @@ fn fill_type(words: &[u32], pairs: &[u32], text: &[u8], out: &mut [u32]) -> Visi
     ensures { λ r. ⌜ (r, now (out .exit)) ≡ filled (now (out .entry)) (wholeVisits AType (now (words .entry)) (now (pairs .entry)) (now (text .entry))) ⌝ }
 {
     match acceptance::accept_type(words, pairs, text, 0, 0) {
-        Acceptance::Accepted(next) => {
+        Scan::At(next) => {
             if next != words.len() {
                 return VisitAnswer::Refused(Refusal::LeftOver);
             }
@@ -264,7 +263,7 @@ fn fill_type(words: &[u32], pairs: &[u32], text: &[u8], out: &mut [u32]) -> Visi
             let all = visit_types(words, pairs, text, 0, 1, out, 0);
             VisitAnswer::Count(all.pos)
         }
-        Acceptance::Denied(r) => VisitAnswer::Refused(r),
+        Scan::Refused(r) => VisitAnswer::Refused(r),
     }
 }
 

@@ -1,9 +1,10 @@
 use Prim.Native.Nat.{_-_}
 use mathlib.Core.Path.{_∙_, _≡_, ap, refl, sym}
 use lib.ListN.{length}
+use Rattle.encoding.specs.Scans.{ended}
 use Rattle.measure.specs.Levels.{Kept, restOf}
 use Rattle.measure.proofs.Steps.{came-to-end, was-halted, went-on}
-use Rattle.acceptance.specs.Walks.{acceptanceOf, passOf, passLevels, passStep}
+use Rattle.acceptance.specs.Walks.{passOf, passLevels, passStep}
 use Rattle.acceptance.proofs.Walks.{start, zero-levels, end-early}
 use native.Mathlib.Omega.{arith}
 use borrow.Author.Needs.{needs}
@@ -20,7 +21,7 @@ returns : tie.Need-returns Inv-loop μ-loop
 returns c =
     let s = c .before .before .before .before in
     let a = s .args in
-    ap acceptanceOf (sym (end-early (a .words .now) (a .pairs .now) (a .text .now) (a .inside) (a .at) (s .pre .2) (omega (arith, c .if1 .taken))))
+    ap ended (sym (end-early (a .words .now) (a .pairs .now) (a .text .now) (a .inside) (a .at) (s .pre .2) (omega (arith, c .if1 .taken))))
 
 name-count-requires : tie.Need-name-count-requires Inv-loop μ-loop
 name-count-requires c κs = search needs

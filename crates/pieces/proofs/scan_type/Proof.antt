@@ -1,7 +1,5 @@
 use Rattle.encoding.specs.Scans.{ended}
-use Rattle.encoding.specs.Types.{typeAt}
 use Rattle.encoding.proofs.Types.{type-end}
-use Rattle.acceptance.proofs.Accepted.{accepted-got, accepted-stop}
 use Rattle.pieces.proofs.Ends.{type-plain}
 use mathlib.Core.Path.{ap, sym}
 use borrow.Author.Needs.{needs}
@@ -19,8 +17,8 @@ mul-if2 c = search needs
 shared-slice-read-if2 : tie.Need-shared-slice-read-if2
 shared-slice-read-if2 c = search needs
 
-add-t12 : tie.Need-add-t12
-add-t12 c = search needs
+add-t10 : tie.Need-add-t10
+add-t10 c = search needs
 
 returns-2 : tie.Need-returns-2
 returns-2 c =
@@ -30,21 +28,8 @@ returns-2 c =
 accept-type-requires : tie.Need-accept-type-requires
 accept-type-requires c κs = search needs
 
-enum-known-next : tie.Need-enum-known-next
-enum-known-next c = search needs
-
-enum-known-r : tie.Need-enum-known-r
-enum-known-r c = search needs
-
 returns-3 : tie.Need-returns-3
-returns-3 c =
-    let a = c .before .before .before .before .before .before .before .before .before .before .args in
-    ap ended (sym (accepted-got (typeAt (a .words .now) (a .pairs .now) (a .text .now) (a .at)) (c .before .before .before .accept-type .ensures) (c .before .next .given .1) .reads))
-
-returns-4 : tie.Need-returns-4
-returns-4 c =
-    let a = c .before .before .before .before .before .before .before .before .before .before .args in
-    ap ended (sym (accepted-stop (typeAt (a .words .now) (a .pairs .now) (a .text .now) (a .at)) (c .before .before .before .accept-type .ensures) (c .before .r .given .1)))
+returns-3 c = c .accept-type .ensures
 
 pub scan-type-spec : {M : Type 1} → statement M
 scan-type-spec =
@@ -53,10 +38,7 @@ scan-type-spec =
     returns
     mul-if2
     shared-slice-read-if2
-    add-t12
+    add-t10
     returns-2
     accept-type-requires
-    enum-known-next
-    enum-known-r
-    returns-3
-    returns-4)
+    returns-3)
