@@ -39,7 +39,7 @@ pub fn lay_known(
     if write {
         return encoding::put_name(pairs, text, name, out, pos);
     }
-    output::count_on(pos, encoding::name_length(pairs, name))
+    output::count_few(pos, encoding::name_length(pairs, name))
 }
 
 // A path that was read.
@@ -95,6 +95,9 @@ fn lay_known_doc(
         × Fits write (now out) pos (ToDocstringPrefix (nameBytes (now pairs) (now text) name) (indent level)) ⌝ }
     ensures { λ r. ⌜ Laid write (now (out .entry)) pos (ToDocstringPrefix (nameBytes (now (pairs .entry)) (now (text .entry)) name) (indent level)) (now (out .exit)) r ⌝ }
 {
+    if name == 0 {
+        return pos;
+    }
     if name < 16 {
         return lay_fixed_doc(write, pairs, text, name, level, out, pos);
     }
@@ -158,6 +161,25 @@ pub fn lay_type(
     }
 }
 
+// How long a plain type's text is. A match compiles to a table among the constants.
+fn plain_length(kind: u32) -> usize
+{
+    match kind {
+        0 => 2,
+        1 => 3,
+        2 => 3,
+        3 => 3,
+        4 => 4,
+        5 => 2,
+        6 => 3,
+        7 => 3,
+        8 => 3,
+        9 => 4,
+        10 => 5,
+        _ => 4,
+    }
+}
+
 // A plain type that was read.
 fn lay_plain(write: bool, kind: u32, out: &mut [u8], pos: usize) -> usize
     requires { ⌜ (kind < 12) × Fits write (now out) pos (Primitive·ToString (getD primitives kind U8)) ⌝ }
@@ -166,7 +188,7 @@ fn lay_plain(write: bool, kind: u32, out: &mut [u8], pos: usize) -> usize
     if write {
         return leaves::put_primitive(kind, out, pos);
     }
-    output::count_on(pos, encoding::primitive_length(kind))
+    output::count_few(pos, plain_length(kind))
 }
 
 // The type at `at` of a field: most have a plain type or a name, for which neither the measuring pass nor the writer is called.
