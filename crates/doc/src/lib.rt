@@ -11,7 +11,7 @@ ghost use Rattle.rast.specs.Indent.{indent};
 ghost use Rattle.rast.specs.Doc.{ConvertDocstring, ToDocstringPrefix};
 ghost use Rattle.output.specs.Laid.{Laid, Fits};
 ghost use Rattle.output.specs.Wrote.{Wrote};
-ghost use Rattle.doc.specs.Steps.{runOf, lineLength, Passed, Nearest, isFence, lineStays, copied, pieceText, Splits, copyStep};
+ghost use Rattle.doc.specs.Steps.{runOf, lineLength, Passed, Nearest, Fence, NoFence, Stays, Changes, copied, pieceText, Splits, copyStep};
 
 // Where the conversion stands: at a byte, at a line's start or not, and in code (behind a fence of `fence` backticks) or not (0).
 struct Place {
@@ -288,7 +288,7 @@ fn open_step(doc: &[u8], at: usize, count: usize) -> Step
 
 // Whether `count` backticks at a line's start are a fence: outside code one that opens it, in code the one that ends it.
 fn is_fence(count: usize, fence: usize) -> bool
-    ensures { λ r. ⌜ r ≡ isFence count fence ⌝ }
+    ensures { λ r. ⌜ (r ≡ true → Fence count fence) × (r ≡ false → NoFence count fence) ⌝ }
 {
     if fence == 0 {
         return 3 <= count;
@@ -299,7 +299,7 @@ fn is_fence(count: usize, fence: usize) -> bool
 // Whether the line stays from `at` on, where there is no newline: only spaces and a fence at its start are changed.
 fn stays(doc: &[u8], at: usize, started: bool, fence: usize) -> bool
     requires { ⌜ at < length (now doc) ⌝ }
-    ensures { λ r. ⌜ r ≡ lineStays (drop at (now (doc .entry))) started fence ⌝ }
+    ensures { λ r. ⌜ (r ≡ true → Stays (now (doc .entry)) at started fence) × (r ≡ false → Changes (now (doc .entry)) at started fence) ⌝ }
 {
     if !started {
         return true;
@@ -312,7 +312,7 @@ fn stays(doc: &[u8], at: usize, started: bool, fence: usize) -> bool
 
 // A fence at a line's start.
 fn fence_step(doc: &[u8], at: usize, fence: usize) -> Step
-    requires { ⌜ (at < length (now doc)) × (isFence (runOf 96 (drop at (now doc))) fence ≡ true) ⌝ }
+    requires { ⌜ (at < length (now doc)) × Fence (runOf 96 (drop at (now doc))) fence ⌝ }
     ensures { λ r. ⌜ Splits (now (doc .entry)) at true fence r ⌝ }
 {
     if fence == 0 {
@@ -323,7 +323,7 @@ fn fence_step(doc: &[u8], at: usize, fence: usize) -> Step
 
 // The step at a line's start where the line does not stay.
 fn start_step(doc: &[u8], at: usize, fence: usize) -> Step
-    requires { ⌜ (at < length (now doc)) × (lineStays (drop at (now doc)) true fence ≡ false) ⌝ }
+    requires { ⌜ (at < length (now doc)) × Changes (now doc) at true fence ⌝ }
     ensures { λ r. ⌜ Splits (now (doc .entry)) at true fence r ⌝ }
 {
     if doc[at] == b' ' {
