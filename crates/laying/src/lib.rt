@@ -161,25 +161,6 @@ pub fn lay_type(
     }
 }
 
-// How long a plain type's text is. A match compiles to a table among the constants.
-fn plain_length(kind: u32) -> usize
-{
-    match kind {
-        0 => 2,
-        1 => 3,
-        2 => 3,
-        3 => 3,
-        4 => 4,
-        5 => 2,
-        6 => 3,
-        7 => 3,
-        8 => 3,
-        9 => 4,
-        10 => 5,
-        _ => 4,
-    }
-}
-
 // A plain type that was read.
 fn lay_plain(write: bool, kind: u32, out: &mut [u8], pos: usize) -> usize
     requires { ⌜ (kind < 12) × Fits write (now out) pos (Primitive·ToString (getD primitives kind U8)) ⌝ }
@@ -188,7 +169,7 @@ fn lay_plain(write: bool, kind: u32, out: &mut [u8], pos: usize) -> usize
     if write {
         return leaves::put_primitive(kind, out, pos);
     }
-    output::count_few(pos, plain_length(kind))
+    output::count_few(pos, encoding::primitive_length(kind))
 }
 
 // The type at `at` of a field: most have a plain type or a name, for which neither the measuring pass nor the writer is called.
