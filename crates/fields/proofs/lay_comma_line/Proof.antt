@@ -1,39 +1,68 @@
-use Rattle.fields.proofs.Fields.{comma-line}
-use Rattle.output.proofs.Passes.{fits-as, fits-behind, fits-front, laid-as, laid-then}
-use Rattle.rast.specs.Bytes.{ascii}
-use mathlib.Core.Path.{sym}
 use borrow.Author.Needs.{needs}
 use Rattle.fields.proofs.lay_comma_line.Statement.{statement}
 use Rattle.fields.proofs.lay_comma_line.Tie as tie
+use Rattle.fields.proofs.lay_comma_line.Reads as reads
+use Rattle.fields.proofs.lay_comma_line.Lts as lts
+use Rattle.doc.proofs.put_line.Reads as put-line-reads
+use Rattle.output.proofs.count_few.Reads as count-few-reads
+use Rattle.output.proofs.put.Reads as put-reads
 
-slice-aggregate-lay : tie.Need-slice-aggregate-lay
-slice-aggregate-lay c = search needs
+-- src/lib.rt:128:17
+add-inner : tie.Need-add-inner
+add-inner c = search needs
 
-lay-requires : tie.Need-lay-requires
-unfolding ascii
-lay-requires c κs =
-    let start = c .before .before .before in
-    fits-front _ (fits-as (comma-line (start .args .level)) (start .pre .1))
+-- src/lib.rt:130:29
+slice-aggregate-put : tie.Need-slice-aggregate-put
+slice-aggregate-put c = search needs
 
-add-lay-line : tie.Need-add-lay-line
-add-lay-line c = search needs
+-- src/lib.rt:130:13
+put-requires : tie.Need-put-requires
+put-requires c κs = ?
 
-lay-line-requires : tie.Need-lay-line-requires
-unfolding ascii
-lay-line-requires c κs =
-    let start = c .before .before .before .before .before .before .before in
-    fits-behind _ (fits-as (comma-line (start .args .level)) (start .pre .1)) (c .before .before .before .lay .ensures)
+-- src/lib.rt:131:9
+put-line-requires : tie.Need-put-line-requires
+put-line-requires c κs = ?
 
+-- src/lib.rt:131:9
 same-length : tie.Need-same-length
 same-length c = search needs
 
+-- src/lib.rt:131:9
 returns : tie.Need-returns
-unfolding ascii
-returns c =
-    let start = c .before .before .before .before .before .before .before .before .before .before in
-    laid-as (sym (comma-line (start .args .level))) (laid-then (c .before .before .before .before .before .before .lay .ensures) (c .before .before .lay-line .ensures))
+returns c = ?
+
+-- src/lib.rt:133:36
+cast-count-few : tie.Need-cast-count-few
+cast-count-few c = search needs
+
+-- src/lib.rt:133:32
+mul-count-few : tie.Need-mul-count-few
+mul-count-few c = search needs
+
+-- src/lib.rt:133:28
+add-count-few : tie.Need-add-count-few
+add-count-few c = search needs
+
+-- src/lib.rt:133:5
+count-few-requires : tie.Need-count-few-requires
+count-few-requires c κs = search needs
+
+-- src/lib.rt:124:1
+returns-2 : tie.Need-returns-2
+returns-2 c = ?
 
 pub lay-comma-line-spec : {M : Type 1} → statement M
 lay-comma-line-spec =
     tie.close
-    (tie.spec slice-aggregate-lay lay-requires add-lay-line lay-line-requires same-length returns)
+    (tie.spec
+    add-inner
+    slice-aggregate-put
+    put-requires
+    put-line-requires
+    same-length
+    returns
+    cast-count-few
+    mul-count-few
+    add-count-few
+    count-few-requires
+    returns-2)
