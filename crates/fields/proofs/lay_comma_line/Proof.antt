@@ -1,55 +1,66 @@
+use Prim.Native.Nat.{_+_, _*_, ℕ}
+use Rattle.doc.proofs.Laying.{indent-length}
+use Rattle.fields.proofs.Fields.{comma-line}
+use Rattle.output.proofs.Laws.{room-last, wrote-then}
+use Rattle.output.proofs.Passes.{fits-as, laid-as, laid-counted, laid-wrote}
+use Rattle.output.specs.Laid.{clamp}
+use Rattle.rast.specs.Bytes.{ascii}
+use Rattle.rast.specs.Indent.{indent}
+use lib.ListN.{length}
+use mathlib.Core.List.{_++_}
+use mathlib.Core.Path.{_∙_, _≡_, ap, refl, sym}
+use native.Mathlib.Omega.{arith}
 use borrow.Author.Needs.{needs}
 use Rattle.fields.proofs.lay_comma_line.Statement.{statement}
 use Rattle.fields.proofs.lay_comma_line.Tie as tie
-use Rattle.fields.proofs.lay_comma_line.Reads as reads
-use Rattle.fields.proofs.lay_comma_line.Lts as lts
-use Rattle.doc.proofs.put_line.Reads as put-line-reads
-use Rattle.output.proofs.count_few.Reads as count-few-reads
-use Rattle.output.proofs.put.Reads as put-reads
 
--- src/lib.rt:128:17
 add-inner : tie.Need-add-inner
 add-inner c = search needs
 
--- src/lib.rt:130:29
 slice-aggregate-put : tie.Need-slice-aggregate-put
 slice-aggregate-put c = search needs
 
--- src/lib.rt:130:13
 put-requires : tie.Need-put-requires
-put-requires c κs = ?
+unfolding ascii
+put-requires c κs = 
+    let start = c .before .before .before .before in
+    let room = fits-as (comma-line (start .args .level)) (start .pre .1) .room (c .before .before .if1 .taken) in
+    omega (arith, room)
 
--- src/lib.rt:131:9
 put-line-requires : tie.Need-put-line-requires
-put-line-requires c κs = ?
+unfolding ascii
+put-line-requires c κs = 
+    let start = c .before .before .before .before .before .before .before .before in
+    let room = fits-as (comma-line (start .args .level)) (start .pre .1) .room (c .before .before .before .before .before .before .if1 .taken) in
+    room-last (ascii "\n" ++ indent (start .args .level + 1)) room (c .before .before .before .put .ensures) refl
 
--- src/lib.rt:131:9
 same-length : tie.Need-same-length
 same-length c = search needs
 
--- src/lib.rt:131:9
 returns : tie.Need-returns
-returns c = ?
+unfolding ascii
+returns c = 
+    let start = c .before .before .before .before .before .before .before .before .before .before .before in
+    laid-as (sym (comma-line (start .args .level))) (laid-wrote (c .before .before .before .before .before .before .before .before .before .if1 .taken) (wrote-then (c .before .before .before .before .before .before .put .ensures) (c .before .before .put-line .ensures)))
 
--- src/lib.rt:133:36
 cast-count-few : tie.Need-cast-count-few
 cast-count-few c = search needs
 
--- src/lib.rt:133:32
 mul-count-few : tie.Need-mul-count-few
 mul-count-few c = search needs
 
--- src/lib.rt:133:28
 add-count-few : tie.Need-add-count-few
 add-count-few c = search needs
 
--- src/lib.rt:133:5
 count-few-requires : tie.Need-count-few-requires
 count-few-requires c κs = search needs
 
--- src/lib.rt:124:1
 returns-2 : tie.Need-returns-2
-returns-2 c = ?
+unfolding ascii
+returns-2 c = 
+    let a = c .before .before .before .args in
+    let e : 2 + 4 * (a .level + 1) ≡ length (ascii "," ++ (ascii "\n" ++ indent (a .level + 1))) = omega (arith, indent-length (a .level + 1)) in
+    laid-as (sym (comma-line (a .level))) (laid-counted (c .before .if1 .left) (c .count-few .ensures ∙ ap (λ (n : ℕ). clamp (a .pos + n)) e))
 
 pub lay-comma-line-spec : {M : Type 1} → statement M
 lay-comma-line-spec =
