@@ -11,7 +11,8 @@ use encoding::Refusal;
 use laying::Place;
 use text::TextAnswer;
 
-// A declaration is accepted and its text counted before a byte is written, since a refusal leaves the buffer unchanged.
+// A declaration is accepted and its text counted before a byte is written, since a refusal leaves the buffer unchanged. Both turns make the same call, so that it is
+// inlined.
 fn fill(words: &[u32], pairs: &[u32], text: &[u8], level: u32, out: &mut [u8]) -> TextAnswer
     requires { ⌜ Checked (now words) (now pairs) (now text) × (level < 2 ^ 30) ⌝ }
     ensures { λ r. ⌜ (r, now (out .exit)) ≡ filled (now (out .entry)) (wholeDeclarationText (now (words .entry)) (now (pairs .entry)) (now (text .entry)) level) ⌝ }

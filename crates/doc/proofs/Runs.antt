@@ -236,14 +236,14 @@ module _ (l : Bytes) (at : ℕ) where
 
 pub fence-outside : (count fence : ℕ) → fence ≡ 0 → (leb 3 count ≡ true → Fence count fence) × (leb 3 count ≡ false → NoFence count fence)
 fence-outside count fence e = (
-    λ t. record { opens = λ k. leb-true 3 count t; closes = λ k. absurd (let z : ⊥ = omega arith in z) },
-    λ t. record { opens = λ k. leb-false 3 count t; closes = λ k. absurd (let z : ⊥ = omega arith in z) },
+  λ t. record { opens = λ k. leb-true 3 count t; closes = λ k. absurd (let z : ⊥ = omega arith in z) },
+  λ t. record { opens = λ k. leb-false 3 count t; closes = λ k. absurd (let z : ⊥ = omega arith in z) },
 )
 
 pub fence-inside : (count fence : ℕ) → (fence ≡ 0 → ⊥) → (leb fence count ≡ true → Fence count fence) × (leb fence count ≡ false → NoFence count fence)
 fence-inside count fence h = (
-    λ t. record { opens = λ k. absurd (h k); closes = λ k. leb-true fence count t },
-    λ t. record { opens = λ k. absurd (h k); closes = λ k. leb-false fence count t },
+  λ t. record { opens = λ k. absurd (h k); closes = λ k. leb-true fence count t },
+  λ t. record { opens = λ k. absurd (h k); closes = λ k. leb-false fence count t },
 )
 
 -- ---- `rs`, and a blank behind it

@@ -142,7 +142,7 @@ fn newline_from(doc: &[u8], at: usize) -> usize
     i
 }
 
-// The place `i` of a newline, 255 of another byte.
+// The place `i`, if a newline stands there, else 255.
 fn newline_place(i: u8, byte: u8) -> u8
     ensures { λ r. ⌜ (byte ≡ 10 → r ≡ i) × ((byte ≡ 10 → ⊥) → r ≡ 255) ⌝ }
 {
@@ -161,8 +161,8 @@ fn least(a: u8, b: u8) -> u8
     a
 }
 
-// How many of the next `count` bytes stand before the first newline, 255 if there is none. No early exit here either: the least place of a newline is found by wide
-// compares too.
+// How many of the next `count` bytes stand before the first newline, 255 if there is none. The least place of a newline is found by wide compares too, and costs
+// no jump that is hard to foresee.
 fn near_length(doc: &[u8], at: usize, count: u8) -> usize
     requires { ⌜ (count ≤ 64) × (at + count ≤ length (now doc)) ⌝ }
     ensures { λ r. ⌜ Nearest (now (doc .entry)) at count r ⌝ }
@@ -176,7 +176,7 @@ fn near_length(doc: &[u8], at: usize, count: u8) -> usize
     found as usize
 }
 
-// The same up to the end of a doc that has fewer than 64 bytes left: there are too few for wide compares, or the line may be the last.
+// How many bytes stand before the next newline where the doc has fewer than 64 left. For fewer than 16 wide compares do not pay.
 fn last_length(doc: &[u8], at: usize) -> usize
     requires { ⌜ (at ≤ length (now doc)) × (length (now doc) < at + 64) ⌝ }
     ensures { λ r. ⌜ (r ≡ lineLength (drop at (now (doc .entry)))) × (at + r ≤ length (now (doc .entry))) ⌝ }
@@ -192,7 +192,7 @@ fn last_length(doc: &[u8], at: usize) -> usize
     found
 }
 
-// How many bytes stand from `at` on before the next newline. Most lines are short.
+// How many bytes stand from `at` on before the next newline. Most lines end within 64 bytes; in a longer one whole blocks are skipped.
 fn line_length(doc: &[u8], at: usize) -> usize
     requires { ⌜ at ≤ length (now doc) ⌝ }
     ensures { λ r. ⌜ (r ≡ lineLength (drop at (now (doc .entry)))) × (at + r ≤ length (now (doc .entry))) ⌝ }

@@ -111,6 +111,7 @@ pub fn put(bytes: &[u8], out: &mut [u8], pos: usize) -> usize
     pos + bytes.len()
 }
 
+// `count` spaces, one by one.
 fn fill_spaces(count: usize, out: &mut [u8], pos: usize) -> usize
     requires { ⌜ pos + count ≤ length (now out) ⌝ }
     ensures { λ r. ⌜ Wrote (now (out .entry)) pos (spaces count) (now (out .exit)) r ⌝ }
@@ -123,7 +124,7 @@ fn fill_spaces(count: usize, out: &mut [u8], pos: usize) -> usize
     pos + count
 }
 
-// Eight spaces, and the last eight of `count`, which may overlap.
+// The same, as the first eight and the last eight, which may overlap.
 fn put_space_ends(count: usize, out: &mut [u8], pos: usize) -> usize
     requires { ⌜ (8 ≤ count) × (count ≤ 16) × (pos + count ≤ length (now out)) ⌝ }
     ensures { λ r. ⌜ Wrote (now (out .entry)) pos (spaces count) (now (out .exit)) r ⌝ }
@@ -132,7 +133,7 @@ fn put_space_ends(count: usize, out: &mut [u8], pos: usize) -> usize
     put(b"        ", out, pos + (count - 8))
 }
 
-// `count` spaces: an indent is mostly of few levels, and a call that fills memory costs more than these.
+// The same, for any count: an indent is mostly of few levels, for which a call that fills memory costs more than a move or two.
 pub fn put_spaces(count: usize, out: &mut [u8], pos: usize) -> usize
     requires { ⌜ pos + count ≤ length (now out) ⌝ }
     ensures { λ r. ⌜ Wrote (now (out .entry)) pos (spaces count) (now (out .exit)) r ⌝ }
@@ -166,7 +167,7 @@ pub fn count_on(pos: usize, count: usize) -> usize
     pos + count
 }
 
-// The same for fewer than the limit, with one test.
+// The same for fewer than the limit, with one test: a count that has reached the limit stays where it is.
 pub fn count_few(pos: usize, count: usize) -> usize
     requires { ⌜ count < 2 ^ 63 ⌝ }
     ensures { λ r. ⌜ clamp r ≡ clamp (pos + count) ⌝ }

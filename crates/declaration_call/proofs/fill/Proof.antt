@@ -23,7 +23,7 @@ loop-holds : tie.Need-loop-holds Inv-loop μ-loop
 loop-holds c = let start = c .before .before .before .before in (search needs, turn-start (Declaration·ToString (start .args .level)) (declarationAt (start .args .words .now) (start .args .pairs .now) (start .args .text .now) 0) (length (start .args .words .now)) (start .args .out .now))
 
 lay-declaration-requires : tie.Need-lay-declaration-requires Inv-loop μ-loop
-lay-declaration-requires c κs = 
+lay-declaration-requires c κs =
     let start = c .before .before .before .before .before .before in
     let small : length (start .args .out .now) < 2 ^ 63 = search needs in
     (start .pre .0, start .pre .1, turn-ready (Declaration·ToString (start .args .level)) (declarationAt (start .args .words .now) (start .args .pairs .now) (start .args .text .now) 0) (length (start .args .words .now)) (start .args .out .now) small (c .before .loop .inv .1))
@@ -35,7 +35,7 @@ same-length : tie.Need-same-length Inv-loop μ-loop
 same-length c = search needs
 
 returns : tie.Need-returns Inv-loop μ-loop
-returns c = 
+returns c =
     let start = c .before .before .before .before .before .before .before .before .before .before .before .before .before in
     let small : length (start .args .out .now) < 2 ^ 63 = search needs in
     turn-done (Declaration·ToString (start .args .level)) (declarationAt (start .args .words .now) (start .args .pairs .now) (start .args .text .now) 0) (length (start .args .words .now)) (start .args .out .now) small (c .before .before .before .before .before .before .before .before .loop .inv .1) (c .before .before .before .before .before .before .lay-declaration .ensures) (c .if1 .taken) (c .before .before .next .given .1)
@@ -44,7 +44,7 @@ same-length-2 : tie.Need-same-length-2 Inv-loop μ-loop
 same-length-2 c = search needs
 
 returns-2 : tie.Need-returns-2 Inv-loop μ-loop
-returns-2 c = 
+returns-2 c =
     let start = c .before .before .before .before .before .before .before .before .before .before .before .before .before .before in
     let small : length (start .args .out .now) < 2 ^ 63 = search needs in
     let k = turn-counted (Declaration·ToString (start .args .level)) (declarationAt (start .args .words .now) (start .args .pairs .now) (start .args .text .now) 0) (length (start .args .words .now)) (start .args .out .now) small (c .before .before .before .before .before .before .before .before .before .loop .inv .1) (c .before .before .before .before .before .before .before .lay-declaration .ensures) (c .before .if1 .left) (c .before .before .before .next .given .1) in
@@ -54,7 +54,7 @@ same-length-3 : tie.Need-same-length-3 Inv-loop μ-loop
 same-length-3 c = search needs
 
 returns-3 : tie.Need-returns-3 Inv-loop μ-loop
-returns-3 c = 
+returns-3 c =
     let start = c .before .before .before .before .before .before .before .before .before .before .before .before .before .before .before in
     let small : length (start .args .out .now) < 2 ^ 63 = search needs in
     let k = turn-counted (Declaration·ToString (start .args .level)) (declarationAt (start .args .words .now) (start .args .pairs .now) (start .args .text .now) 0) (length (start .args .words .now)) (start .args .out .now) small (c .before .before .before .before .before .before .before .before .before .before .loop .inv .1) (c .before .before .before .before .before .before .before .before .lay-declaration .ensures) (c .before .before .if1 .left) (c .before .before .before .before .next .given .1) in
@@ -65,7 +65,7 @@ loop-less : tie.Need-loop-less Inv-loop μ-loop
 loop-less c = turns-less _ (c .before .before .if1 .left)
 
 loop-again : tie.Need-loop-again Inv-loop μ-loop
-loop-again c = 
+loop-again c =
     let start = c .before .before .before .before .before .before .before .before .before .before .before .before .before .before .before in
     let small : length (start .args .out .now) < 2 ^ 63 = search needs in
     let w = c .before .before .before .before .before .before .before .before .lay-declaration .ensures in
@@ -81,7 +81,7 @@ same-length-4 : tie.Need-same-length-4 Inv-loop μ-loop
 same-length-4 c = search needs
 
 returns-4 : tie.Need-returns-4 Inv-loop μ-loop
-returns-4 c = 
+returns-4 c =
     let start = c .before .before .before .before .before .before .before .before .before .before .before .before in
     let small : length (start .args .out .now) < 2 ^ 63 = search needs in
     let s = turn-stopped (Declaration·ToString (start .args .level)) (declarationAt (start .args .words .now) (start .args .pairs .now) (start .args .text .now) 0) (length (start .args .words .now)) (start .args .out .now) small (c .before .before .before .before .before .before .before .loop .inv .1) (c .before .before .before .before .before .lay-declaration .ensures) (c .before .r .given .1) in

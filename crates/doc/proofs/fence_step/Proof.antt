@@ -10,7 +10,7 @@ run-requires : tie.Need-run-requires
 run-requires c κs = search needs
 
 open-step-requires : tie.Need-open-step-requires
-open-step-requires c κs = 
+open-step-requires c κs =
     let r = c .run .ensures in
     (omega (arith, r .0, c .before .before .before .pre .1 .opens (c .before .if1 .taken)), r .0, r .1)
 
@@ -18,13 +18,13 @@ returns : tie.Need-returns
 returns c = rw (c .before .before .if1 .taken) (c .open-step .ensures)
 
 copy-step-requires : tie.Need-copy-step-requires
-copy-step-requires c κs = 
+copy-step-requires c κs =
     let s = c .before .before in
     let d = drop (s .args .at) (s .args .doc .now) in
     omega (arith, s .pre .1 .closes (omega (arith, c .if1 .left)), run-inside 96 d, length-drop (s .args .at) (s .args .doc .now))
 
 returns-2 : tie.Need-returns-2
-returns-2 c = 
+returns-2 c =
     let s = c .before .before .before in
     let d = drop (s .args .at) (s .args .doc .now) in
     let k = s .pre .1 .closes (omega (arith, c .before .if1 .left)) in

@@ -14,7 +14,7 @@ sub-result : tie.Need-sub-result
 sub-result c = search needs
 
 returns : tie.Need-returns
-returns c = 
+returns c =
     let n = c .newline-from .ensures in
     (passed-all (c .before .before .before .args .doc .now) (n .0) (n .1), omega (arith, n .0 .order, n .0 .inside))
 
@@ -25,7 +25,7 @@ near-length-requires : tie.Need-near-length-requires
 near-length-requires c κs = search needs
 
 returns-2 : tie.Need-returns-2
-returns-2 c = 
+returns-2 c =
     let s = c .before .before .before .before in
     let p = c .before .near-length .ensures .none (c .if2 .taken) in
     (omega (arith, passed-all (s .args .doc .now) p (λ h. absurd (let z : ⊥ = omega arith in z))), search needs)

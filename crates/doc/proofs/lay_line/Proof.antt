@@ -26,7 +26,7 @@ count-few-requires : tie.Need-count-few-requires
 count-few-requires c κs = search needs
 
 returns-2 : tie.Need-returns-2
-returns-2 c = 
+returns-2 c =
     let a = c .before .before .before .args in
     laid-counted (c .before .if1 .left) (c .count-few .ensures ∙ ap (λ (n : ℕ). clamp (a .pos + n)) (sym (line-size (a .level))))
 

@@ -1,6 +1,4 @@
-use Prim.Native.Nat.{_+_}
 use Rattle.doc.proofs.Runs.{nearest-line, passed-all, passed-then}
-use mathlib.Core.Path.{_≡_}
 use native.Mathlib.Omega.{arith}
 use borrow.Author.Needs.{needs}
 use Rattle.doc.proofs.line_length.Statement.{statement}
@@ -34,7 +32,7 @@ sub-result : tie.Need-sub-result
 sub-result c = search needs
 
 returns-3 : tie.Need-returns-3
-returns-3 c = 
+returns-3 c =
     let l = c .before .before .before .before .before .before .args .doc .now in
     let near = c .before .before .before .near-length .ensures .none (c .before .before .if2 .left) in
     let n = c .newline-from .ensures in

@@ -1,4 +1,4 @@
-use Prim.Native.Nat.{_+_, _-_, _≤_}
+use Prim.Native.Nat.{_-_, _≤_}
 use Rattle.doc.proofs.Runs.{nearest-more, nearest-none}
 use Rattle.doc.specs.Steps.{Nearest}
 use mathlib.Core.Path.{_≡_}
@@ -38,7 +38,7 @@ loop-less : tie.Need-loop-less Inv-loop μ-loop
 loop-less c = search needs
 
 loop-again : tie.Need-loop-again Inv-loop μ-loop
-loop-again c = 
+loop-again c =
     let s = c .before .before .before .before .before .before in
     let l = c .before .before .before .before .loop in
     (search needs, nearest-more (s .args .doc .now) (s .args .at) (l .i) (l .found) _ _ (l .inv .1) (search needs) (search needs) (c .before .newline-place .ensures) (c .least .ensures))
@@ -47,7 +47,7 @@ cast-result : tie.Need-cast-result Inv-loop μ-loop
 cast-result c = search needs
 
 returns : tie.Need-returns Inv-loop μ-loop
-returns c = 
+returns c =
     let s = c .before .before .before in
     let l = c .before .loop in
     let z : l .i ≡ s .args .count = omega arith in

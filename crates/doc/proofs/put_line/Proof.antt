@@ -18,7 +18,7 @@ mul-put-spaces : tie.Need-mul-put-spaces
 mul-put-spaces c = search needs
 
 put-spaces-requires : tie.Need-put-spaces-requires
-put-spaces-requires c κs = 
+put-spaces-requires c κs =
     let s = c .before .before .before .before .before .before .before in
     let w = c .before .before .before .put .ensures in
     omega (arith, s .pre, line-size (s .args .level), w .next, wrote-kept w)
@@ -28,7 +28,7 @@ same-length c = search needs
 
 returns : tie.Need-returns
 unfolding ascii
-returns c = 
+returns c =
     let e = sym (indent-spaces (c .before .before .before .before .before .before .before .before .before .before .args .level)) in
     wrote-as (ap (λ (x : Bytes). ascii "\n" ++ x) e) (wrote-then (c .before .before .before .before .before .before .put .ensures) (c .before .before .put-spaces .ensures))
 

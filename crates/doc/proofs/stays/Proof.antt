@@ -8,7 +8,7 @@ use Rattle.doc.proofs.stays.Statement.{statement}
 use Rattle.doc.proofs.stays.Tie as tie
 
 returns : tie.Need-returns
-returns c = 
+returns c =
     let n = not-true _ (c .if1 .taken) in
     (λ e. record { no-space = λ s k. impossible (sym s ∙ n); no-fence = λ s. impossible (sym s ∙ n) }, λ e. impossible e)
 
@@ -25,7 +25,7 @@ is-fence-requires : tie.Need-is-fence-requires
 is-fence-requires c κs = search needs
 
 returns-3 : tie.Need-returns-3
-returns-3 c = 
+returns-3 c =
     let s = c .before .before .before .before .before .before in
     let r = c .before .run .ensures .0 in
     let space = c .before .before .if2 .left in

@@ -10,7 +10,7 @@ add-t9 : tie.Need-add-t9
 add-t9 c = search needs
 
 returns : tie.Need-returns
-returns c = 
+returns c =
     let s = c .before .before .before in
     let p = s .args .place in
     newline-splits (s .args .doc .now) (p .at) (s .pre) (p .started) (p .fence) (c .if1 .taken)
@@ -25,7 +25,7 @@ copy-step-requires : tie.Need-copy-step-requires
 copy-step-requires c κs = search needs
 
 returns-2 : tie.Need-returns-2
-returns-2 c = 
+returns-2 c =
     let s = c .before .before .before .before .before .before .before in
     let p = s .args .place in
     let n = c .before .line-length .ensures in

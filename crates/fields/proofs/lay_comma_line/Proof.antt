@@ -22,14 +22,14 @@ slice-aggregate-put c = search needs
 
 put-requires : tie.Need-put-requires
 unfolding ascii
-put-requires c κs = 
+put-requires c κs =
     let start = c .before .before .before .before in
     let room = fits-as (comma-line (start .args .level)) (start .pre .1) .room (c .before .before .if1 .taken) in
     omega (arith, room)
 
 put-line-requires : tie.Need-put-line-requires
 unfolding ascii
-put-line-requires c κs = 
+put-line-requires c κs =
     let start = c .before .before .before .before .before .before .before .before in
     let room = fits-as (comma-line (start .args .level)) (start .pre .1) .room (c .before .before .before .before .before .before .if1 .taken) in
     room-last (ascii "\n" ++ indent (start .args .level + 1)) room (c .before .before .before .put .ensures) refl
@@ -39,7 +39,7 @@ same-length c = search needs
 
 returns : tie.Need-returns
 unfolding ascii
-returns c = 
+returns c =
     let start = c .before .before .before .before .before .before .before .before .before .before .before in
     laid-as (sym (comma-line (start .args .level))) (laid-wrote (c .before .before .before .before .before .before .before .before .before .if1 .taken) (wrote-then (c .before .before .before .before .before .before .put .ensures) (c .before .before .put-line .ensures)))
 
@@ -57,7 +57,7 @@ count-few-requires c κs = search needs
 
 returns-2 : tie.Need-returns-2
 unfolding ascii
-returns-2 c = 
+returns-2 c =
     let a = c .before .before .before .args in
     let e : 2 + 4 * (a .level + 1) ≡ length (ascii "," ++ (ascii "\n" ++ indent (a .level + 1))) = omega (arith, indent-length (a .level + 1)) in
     laid-as (sym (comma-line (a .level))) (laid-counted (c .before .if1 .left) (c .count-few .ensures ∙ ap (λ (n : ℕ). clamp (a .pos + n)) e))

@@ -16,7 +16,7 @@ use Rattle.formal.proofs.lay_open.Statement.{statement}
 use Rattle.formal.proofs.lay_open.Tie as tie
 
 put-name-requires : tie.Need-put-name-requires
-put-name-requires c κs = 
+put-name-requires c κs =
     let start = c .before .before .before .before .before .before in
     (start .pre .1, start .pre .0 .good, ready-bytes (ready-first (typed-chain (start .args .words .now) (start .args .pairs .now) (start .args .text .now) (start .args .name) (start .args .at) (start .pre .2))) .room (c .before .if1 .taken))
 
@@ -25,7 +25,7 @@ slice-aggregate-put c = search needs
 
 put-requires : tie.Need-put-requires
 unfolding ascii
-put-requires c κs = 
+put-requires c κs =
     let start = c .before .before .before .before .before .before .before .before .before .before .before in
     let taken = c .before .before .before .before .before .before .if1 .taken in
     let name = laid-wrote taken (c .before .before .before .before .put-name .ensures) in
@@ -36,7 +36,7 @@ same-length c = search needs
 
 returns : tie.Need-returns
 unfolding ascii
-returns c = 
+returns c =
     let start = c .before .before .before .before .before .before .before .before .before .before .before .before .before .before in
     let taken = c .before .before .before .before .before .before .before .before .before .if1 .taken in
     opened (typed-along (start .args .words .now) (start .args .pairs .now) (start .args .text .now) (start .args .name) (start .args .at) (start .pre .2) (laid-wrote taken (c .before .before .before .before .before .before .before .put-name .ensures)) (laid-wrote taken (c .before .before .put .ensures)))
@@ -45,18 +45,18 @@ name-length-requires : tie.Need-name-length-requires
 name-length-requires c κs = search needs
 
 add-count-few : tie.Need-add-count-few
-add-count-few c = 
+add-count-few c =
     let pairs = c .before .before .before .before .before .before .args .pairs .now in
     omega (arith, name-fits pairs (λ i. omega (arith, c .before .before .before .before .shared-slice-known2 .given i)) _ _ (c .name-length .ensures))
 
 count-few-requires : tie.Need-count-few-requires
-count-few-requires c κs = 
+count-few-requires c κs =
     let pairs = c .before .before .before .before .before .before .args .pairs .now in
     omega (arith, name-fits pairs (λ i. omega (arith, c .before .before .before .before .shared-slice-known2 .given i)) _ _ (c .name-length .ensures))
 
 returns-2 : tie.Need-returns-2
 unfolding ascii
-returns-2 c = 
+returns-2 c =
     let start = c .before .before .before .before .before .before .before in
     let a = start .args in
     let left = c .before .before .if1 .left in

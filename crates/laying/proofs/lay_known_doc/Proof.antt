@@ -9,7 +9,7 @@ use Rattle.laying.proofs.lay_known_doc.Statement.{statement}
 use Rattle.laying.proofs.lay_known_doc.Tie as tie
 
 returns : tie.Need-returns
-returns c = 
+returns c =
     let a = c .before .before .before .before .args in
     laid-as (no-doc-text (a .pairs .now) (a .text .now) (a .name) (indent (a .level)) (c .if1 .taken)) (laid-nothing (a .out .now) (a .pos))
 

@@ -42,7 +42,7 @@ count-few-requires c κs = search needs
 
 returns-2 : tie.Need-returns-2
 unfolding ascii
-returns-2 c = 
+returns-2 c =
     let a = c .before .before .before .args in
     let e : 2 + 4 * a .level ≡ length (ascii "]" ++ (ascii "\n" ++ indent (a .level))) = omega (arith, indent-length (a .level)) in
     laid-counted (c .before .if1 .left) (c .count-few .ensures ∙ ap (λ (n : ℕ). clamp (a .pos + n)) e)

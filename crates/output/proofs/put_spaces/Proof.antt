@@ -1,4 +1,3 @@
-use Prim.Native.Nat.{ℕ}
 use Rattle.output.proofs.Laws.{wrote-as, wrote-nothing}
 use Rattle.output.specs.Laid.{spaces}
 use mathlib.Core.Path.{ap, sym}
