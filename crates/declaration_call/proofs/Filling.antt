@@ -1,6 +1,6 @@
 -- From a pass that counted and one that wrote to the answer and the buffer.
 use Prim.Native.Nat.{ℕ, _+_, _^_, _≤_, _<_}
-use mathlib.Core.Path.{_≡_, refl, ap, _∙_}
+use mathlib.Core.Path.{_≡_, refl, ap, sym, _∙_, subst}
 use mathlib.Core.Bool.{Bool, true, false}
 use mathlib.Core.List.{List}
 use native.Mathlib.Omega.{arith}
@@ -14,10 +14,14 @@ use Rattle.output.proofs.Passes.{Clamped, small, large, clamped}
 use Rattle.encoding.specs.declared.Refusal.{Refusal}
 use Rattle.encoding.specs.declared.Refusal.the-variants.{BadLevel}
 use Rattle.encoding.specs.declared.Check.the-variants.{Passed, Failed}
-use Rattle.encoding.specs.Refusals.{pick}
+use Rattle.encoding.specs.Refusals.{mapAnswer, pick}
 use Rattle.encoding.specs.Tables.{checkLevel}
-use Rattle.encoding.specs.Reading.{Reading, got, stop, mapReading}
+use Rattle.encoding.specs.Reading.{Reading, got, stop, mapReading, whole}
 use Rattle.encoding.proofs.Tables.{impossible}
+use Rattle.encoding.proofs.Answers.{filled-done}
+use Rattle.text.specs.declared.TextAnswer.{TextAnswer}
+use Rattle.text.specs.declared.TextAnswer.the-variants.{Length, Refused}
+use Rattle.text.specs.Calls.{filled}
 use Rattle.laying.specs.declared.Place.{Place}
 use Rattle.laying.specs.declared.Place.the-variants.{At, Stopped}
 use Rattle.laying.specs.Passes.{Ready, Came, Went}
@@ -88,6 +92,14 @@ module _ {A : Type 0} (f : A → Bytes) (x : Reading A) {o o′ : List ℕ} {n b
     };
   }
 
+  pub wrote-size : {o″ : List ℕ} {r : Place} {m p : ℕ} → Went true o′ 0 (mapReading f x) o″ r → r ≡ At m p → p ≡ length (f (c .value))
+  unfolding mapReading
+  wrote-size w e =
+      let d = came-to w e in
+      let v : d .bytes ≡ f (c .value) = cc (d .reads, ap (mapReading f) (c .reads)) in
+      let l = ap length v in
+      omega (arith, d .laid .wrote refl .next, l)
+
   pub written : {o″ : List ℕ} {r : Place} → Went true o′ 0 (mapReading f x) o″ r → o″ ≡ sets o 0 (f (c .value))
   unfolding mapReading
   written {o″} {r} w = go r w
@@ -99,9 +111,67 @@ module _ {A : Type 0} (f : A → Bytes) (x : Reading A) {o o′ : List ℕ} {n b
           d .laid .wrote refl .bytes ∙ ap (λ (s : List ℕ). sets s 0 (d .bytes)) (c .kept) ∙ ap (sets o 0) v
       go (Stopped k) w = impossible (let d = was-stopped w refl .0 in let e = ap (mapReading f) (c .reads) in cc)
 
--- nothing is asked of a pass that counts
-pub ready-to-count : {o : List ℕ} {p : ℕ} (x : Reading Bytes) → Ready false o p x
-ready-to-count x = record { room = λ e. impossible (let z : _≡_ {A = ℕ} 0 1 = cc in z) }
+-- ---- the two turns: one counts, and if all is well the next one writes
+
+differ : {A : Type 0} → true ≡ false → A
+differ e = impossible (let z : _≡_ {A = ℕ} 0 1 = cc in z)
+
+-- how many turns come behind this one
+unfoldable pub turns : Bool → ℕ
+turns true = 0
+turns false = 1
+
+pub turns-less : (write : Bool) → write ≡ false → turns true < turns write
+unfolding turns
+turns-less write e = rw e (omega arith)
+
+-- before a turn that counts nothing has happened; before one that writes, the text was counted, and there is room for it
+pub record Turn {A : Type 0} (f : A → Bytes) (x : Reading A) (size : ℕ) (o : List ℕ) (write : Bool) (o′ : List ℕ) : Type 0 where
+  pub kept : write ≡ false → o′ ≡ o
+  pub bytes : ℕ
+  pub counts : write ≡ true → Counts f x o o′ size bytes
+  pub fits : write ≡ true → bytes ≤ length o
+
+module _ {A : Type 0} (f : A → Bytes) (x : Reading A) (size : ℕ) (o : List ℕ) where
+  pub turn-start : Turn f x size o false o
+  turn-start = record { kept = λ e. refl; bytes = 0; counts = λ e. differ (sym e); fits = λ e. differ (sym e) }
+
+  module _ (small : length o < 2 ^ 63) {write : Bool} {o′ : List ℕ} (t : Turn f x size o write o′) where
+    pub turn-ready : Ready write o′ 0 (mapReading f x)
+    turn-ready = record { room = λ e. ready f x (t .counts e) small (t .fits e) .room refl }
+
+    module _ {o″ : List ℕ} {r : Place} (w : Went write o′ 0 (mapReading f x) o″ r) where
+      as-counted : write ≡ false → Went false o 0 (mapReading f x) o″ r
+      as-counted e =
+          subst (λ (l : List ℕ). Went false l 0 (mapReading f x) o″ r) (t .kept e) (subst (λ (b : Bool). Went b o′ 0 (mapReading f x) o″ r) e w)
+
+      as-written : write ≡ true → Went true o′ 0 (mapReading f x) o″ r
+      as-written e = subst (λ (b : Bool). Went b o′ 0 (mapReading f x) o″ r) e w
+
+      pub turn-counted : {n bytes : ℕ} → write ≡ false → r ≡ At n bytes → Counts f x o o″ n bytes
+      turn-counted e d = counted f x (as-counted e) d
+
+      pub turn-next : {n bytes : ℕ} → write ≡ false → r ≡ At n bytes → n ≡ size → bytes ≤ length o → Turn f x size o true o″
+      turn-next {n} {bytes} e d q l = record {
+        kept = λ k. differ k;
+        bytes = bytes;
+        counts = λ k. subst (λ (m : ℕ). Counts f x o o″ m bytes) q (turn-counted e d);
+        fits = λ k. l;
+      }
+
+      pub turn-done : {n bytes : ℕ} → write ≡ true → r ≡ At n bytes → _≡_ {A = TextAnswer × List ℕ} (Length bytes, o″) (filled o (mapAnswer f (whole size x)))
+      turn-done {n} {bytes} e d =
+          let k = t .counts e in
+          let s = same-size f x k small (t .fits e) in
+          filled-done Length Refused o f size x bytes (k .reads) refl (omega (arith, s, t .fits e)) (wrote-size f x k (as-written e) d) (written f x k (as-written e))
+
+      pub turn-stopped : {k : Refusal} → r ≡ Stopped k → (x ≡ stop k) × (o″ ≡ o)
+      unfolding mapReading
+      turn-stopped {k} d = go write refl
+        where
+          go : (b : Bool) → write ≡ b → (x ≡ stop k) × (o″ ≡ o)
+          go true e = impossible (let s = was-stopped (as-written e) d .0 in let m = ap (mapReading f) (t .counts e .reads) in cc)
+          go false e = not-counted f x (as-counted e) d
 
 -- a level that was tested is small
 pub level-passed : (level : ℕ) → checkLevel level ≡ Passed → level < 2 ^ 30

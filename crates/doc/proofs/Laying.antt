@@ -1,5 +1,5 @@
 -- Laws of laying a doc's pieces one behind the other.
-use Prim.Native.Nat.{ℕ, zero, suc, _*_, _≤_, _<_}
+use Prim.Native.Nat.{ℕ, zero, suc, _+_, _*_, _≤_, _<_}
 use mathlib.Core.Path.{_≡_, refl, ap, sym, _∙_}
 use mathlib.Core.Bool.{Bool, true}
 use mathlib.Core.List.{List, [], _∷_, _++_, append-nil, append-assoc}
@@ -11,7 +11,7 @@ use Rattle.rast.specs.Indent.{IND, indent}
 use Rattle.rast.specs.Doc.{DocStringPrefix, ConvertDocstring, ToDocstringPrefix}
 use Rattle.rast.proofs.DocBranches.{at-end}
 use Rattle.output.specs.Laid.{Laid, Fits, spaces}
-use Rattle.output.proofs.Passes.{laid-nothing, laid-then, laid-as, fits-as, fits-front, fits-behind}
+use Rattle.output.proofs.Passes.{length-spaces, laid-nothing, laid-then, laid-as, fits-as, fits-front, fits-behind}
 use Rattle.doc.specs.declared.Place.{Place}
 use Rattle.doc.specs.declared.Step.{Step}
 use Rattle.doc.specs.Steps.{marker, pieceText, Splits}
@@ -28,6 +28,13 @@ indent-spaces zero = refl
 indent-spaces (suc level) =
     let e : 4 * suc level ≡ suc (suc (suc (suc (4 * level)))) = omega arith in
     rw (indent-spaces level, e) (spaces-four (4 * level))
+
+pub indent-length : (level : ℕ) → length (indent level) ≡ 4 * level
+indent-length level = rw (indent-spaces level) (length-spaces (4 * level))
+
+pub line-size : (level : ℕ) → length (ascii "\n" ++ indent level) ≡ 1 + 4 * level
+unfolding ascii
+line-size level = let e = indent-length level in omega (arith, e)
 
 -- what remains of a doc at a place
 abbrev pub rest : Bytes → Bytes → Place → Bytes

@@ -1,17 +1,18 @@
 -- Laws of what a text begins with: runs of one byte, and lines.
 use Prim.Native.Nat.{ℕ, zero, suc, _+_, _-_, _≤_, _<_}
-use mathlib.Core.Path.{_≡_, refl, ap, sym, _∙_}
+use mathlib.Core.Path.{_≡_, refl, ap, sym, _∙_, subst}
 use mathlib.Core.Bool.{Bool, true, false}
 use mathlib.Core.List.{[], _∷_, _++_, append-nil, append-assoc}
 use native.Mathlib.Omega.{arith}
+use native.Mathlib.Nat.{add-zero}
 use native.Mathlib.Numerals.{add-one}
-use borrow.Author.Tests.{eq-eqb, ne-eqb, eqb-true, le-leb, lt-leb, ltb-true, ltb-false}
+use borrow.Author.Tests.{eq-eqb, ne-eqb, eqb-true, eqb-false, le-leb, lt-leb, leb-true, leb-false, ltb-true, ltb-false}
 use lib.Dec.{eqb, leb, ltb, leb·zero, leb·suc-zero, leb·suc-suc}
 use lib.ListN.{length, getD, take, drop, replicate, length-drop, drop-of-length-le}
 use lib.Seq.{drop-cons}
 use Rattle.rast.specs.Bytes.{Bytes, ascii, _and_, _or_, same, begins}
 use Rattle.rast.specs.Doc.{isEmptyText, GatherSimpleQuotes}
-use Rattle.doc.specs.Steps.{runOf, lineLength, Passed}
+use Rattle.doc.specs.Steps.{runOf, lineLength, Passed, Nearest, Fence, NoFence}
 
 pub impossible : {A : Type 0} → _≡_ {A = Bool} true false → A
 impossible e = absurd (let z : _≡_ {A = ℕ} 0 1 = cc in let y : ⊥ = omega arith in y)
@@ -178,6 +179,72 @@ module _ (l : Bytes) where
       go : (t : Bool) → ltb j (length l) ≡ t → j - i ≡ lineLength (drop i l)
       go true e = let k = ltb-true j (length l) e in omega (arith, p .line, line-stops l j k (h k))
       go false e = omega (arith, p .line, line-none l j (ltb-false j (length l) e))
+
+-- ---- the first newline of a block
+
+module _ (l : Bytes) (at : ℕ) where
+  pub nearest-none : at ≤ length l → Nearest l at 0 255
+  nearest-none h = record { none = λ e. rw (add-zero at) (passed-none l at h); some = λ k. absurd (let z : ⊥ = omega arith in z); most = omega arith }
+
+  nearest-as : {n r f : ℕ} → r ≡ f → Nearest l at n f → Nearest l at n r
+  nearest-as {n} e k = subst (λ (x : ℕ). Nearest l at n x) (sym e) k
+
+  nearest-kept : {i f : ℕ} → f < 255 → Nearest l at i f → Nearest l at (i + 1) f
+  nearest-kept h n =
+      let s = n .some h in
+      record { none = λ e. absurd (let z : ⊥ = omega arith in z); some = λ k. (omega (arith, s .0), s .1, s .2); most = n .most }
+
+  -- one byte more: p is its place if it is a newline, and r the lesser of p and what was found before
+  module _ (i f p r : ℕ) (n : Nearest l at i f) (inside : at + i < length l) (short : i < 255)
+      (place : (getD l (at + i) 0 ≡ 10 → p ≡ i) × ((getD l (at + i) 0 ≡ 10 → ⊥) → p ≡ 255)) (choice : (p < f → r ≡ p) × (f ≤ p → r ≡ f)) where
+    nearest-found : getD l (at + i) 0 ≡ 10 → f ≡ 255 → Nearest l at (i + 1) i
+    nearest-found e k = record { none = λ q. absurd (let z : ⊥ = omega arith in z); some = λ q. (omega arith, n .none k, e); most = omega arith }
+
+    nearest-passed : (getD l (at + i) 0 ≡ 10 → ⊥) → f ≡ 255 → Nearest l at (i + 1) f
+    nearest-passed h k =
+        let e : at + (i + 1) ≡ at + i + 1 = omega arith in
+        record { none = λ q. rw e (passed-more l (n .none k) inside h); some = λ q. absurd (let z : ⊥ = omega arith in z); most = omega arith }
+
+    pub nearest-more : Nearest l at (i + 1) r
+    nearest-more = go (eqb (getD l (at + i) 0) 10) refl (ltb f 255) refl
+      where
+        go : (b : Bool) → eqb (getD l (at + i) 0) 10 ≡ b → (t : Bool) → ltb f 255 ≡ t → Nearest l at (i + 1) r
+        go true e true d =
+            let k = ltb-true f 255 d in
+            nearest-as (choice .1 (omega (arith, n .some k .0, place .0 (eqb-true _ 10 e)))) (nearest-kept k n)
+        go true e false d =
+            let q = eqb-true _ 10 e in
+            let k : f ≡ 255 = omega (arith, ltb-false f 255 d, n .most) in
+            let pi = place .0 q in
+            nearest-as (choice .0 (omega arith) ∙ pi) (nearest-found q k)
+        go false e true d =
+            let k = ltb-true f 255 d in
+            nearest-as (choice .1 (omega (arith, place .1 (eqb-false _ 10 e)))) (nearest-kept k n)
+        go false e false d =
+            let q = eqb-false (getD l (at + i) 0) 10 e in
+            let k : f ≡ 255 = omega (arith, ltb-false f 255 d, n .most) in
+            nearest-as (choice .1 (omega (arith, place .1 q))) (nearest-passed q k)
+
+  -- what was found is the line's length
+  pub nearest-line : {n f : ℕ} → Nearest l at n f → (f ≡ 255 → ⊥) → (f ≡ lineLength (drop at l)) × (at + f ≤ length l)
+  nearest-line {n} {f} m h =
+      let s = m .some (omega (arith, m .most)) in
+      let e : at + f - at ≡ f = omega arith in
+      (sym e ∙ passed-all l (s .1) (λ k. s .2), s .1 .inside)
+
+-- ---- whether backticks are a fence, by the code's tests
+
+pub fence-outside : (count fence : ℕ) → fence ≡ 0 → (leb 3 count ≡ true → Fence count fence) × (leb 3 count ≡ false → NoFence count fence)
+fence-outside count fence e = (
+  λ t. record { opens = λ k. leb-true 3 count t; closes = λ k. absurd (let z : ⊥ = omega arith in z) },
+  λ t. record { opens = λ k. leb-false 3 count t; closes = λ k. absurd (let z : ⊥ = omega arith in z) },
+)
+
+pub fence-inside : (count fence : ℕ) → (fence ≡ 0 → ⊥) → (leb fence count ≡ true → Fence count fence) × (leb fence count ≡ false → NoFence count fence)
+fence-inside count fence h = (
+  λ t. record { opens = λ k. absurd (h k); closes = λ k. leb-true fence count t },
+  λ t. record { opens = λ k. absurd (h k); closes = λ k. leb-false fence count t },
+)
 
 -- ---- `rs`, and a blank behind it
 

@@ -15,7 +15,7 @@ use Rattle.rast.specs.Doc.{DocStringPrefix, isEmptyText, ConvertDocstring}
 use Rattle.rast.proofs.DocBranches.{newline}
 use Rattle.doc.specs.declared.Piece.the-variants.{Newline, Bar, Unnamed}
 use Rattle.doc.specs.declared.Step.{Step}
-use Rattle.doc.specs.Steps.{runOf, lineLength, marker, copied, pieceText, copyStep, Splits}
+use Rattle.doc.specs.Steps.{runOf, lineLength, marker, Stays, Changes, copied, pieceText, copyStep, Splits}
 use Rattle.doc.proofs.Runs.{begins-one, begins-at, run-more, line-more}
 use Rattle.doc.proofs.Steps.{marker-none, marker-some, line, code-spaces, few-spaces, bar, text-line}
 use Rattle.doc.proofs.Steps.{no-fence-opens, no-fence-closes, fence-closes, unnamed-opens, rust-opens, other-opens}
@@ -24,6 +24,9 @@ use Rattle.doc.proofs.Steps.{no-fence-opens, no-fence-closes, fence-clo
 pub splits-as : {doc : Bytes} {at fence : ℕ} {started : Bool} {step step′ : Step} → step ≡ step′
     → Splits doc at started fence step′ → Splits doc at started fence step
 splits-as {doc} {at} {fence} {started} e s = subst (λ (x : Step). Splits doc at started fence x) (sym e) s
+
+pub changes-start : {doc : Bytes} {at fence : ℕ} {started : Bool} → Changes doc at started fence → Changes doc at true fence
+changes-start c = record { starts = refl; quotes = c .quotes }
 
 module _ (doc : Bytes) (at : ℕ) where
   abbrev C : Bytes → Bytes → Bool → Option Bytes → Bytes
@@ -87,6 +90,10 @@ module _ (doc : Bytes) (at : ℕ) where
           go : (n : ℕ) → n ≡ fence → (ind : Bytes) → C ind (c ∷ s) true (marker fence) ≡ c ∷ C ind s false (marker fence)
           go zero e ind = rw (marker-none fence (sym e)) (no-fence-opens ind c s no-newline no-space (omega (arith, run, opens (sym e))))
           go (suc n) e ind = rw (marker-some fence (omega arith)) (no-fence-closes ind c s no-newline no-space fence (omega (arith, run, closes (omega arith))))
+
+      pub stay-splits : (started : Bool) → Stays doc at started fence → Splits doc at started fence (copyStep count (at + count) false fence)
+      stay-splits true s = start-splits (s .no-space refl) (s .no-fence refl .opens) (s .no-fence refl .closes)
+      stay-splits false s = inside-splits
 
     -- ---- spaces
 

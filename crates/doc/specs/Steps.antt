@@ -5,7 +5,7 @@ use mathlib.Core.Bool.{Bool, true, false}
 use mathlib.Core.List.{[], _∷_, _++_}
 use mathlib.Core.Option.{Option, some, none}
 use lib.Dec.{eqb}
-use lib.ListN.{length, take, drop, replicate}
+use lib.ListN.{length, getD, take, drop, replicate}
 use Rattle.rast.specs.Bytes.{Bytes, ascii}
 use Rattle.rast.specs.Doc.{DocStringPrefix, ConvertDocstring}
 use Rattle.doc.specs.declared.Piece.{Piece}
@@ -28,10 +28,34 @@ pub record Passed (doc : Bytes) (start end : ℕ) : Type 0 where
   pub inside : end ≤ length doc
   pub line : lineLength (drop start doc) ≡ end - start + lineLength (drop end doc)
 
+-- the first newline among the bytes from `start` to `start + count` is found there, or none (255)
+pub record Nearest (doc : Bytes) (start count found : ℕ) : Type 0 where
+  pub none : found ≡ 255 → Passed doc start (start + count)
+  pub some : found < 255 → (found < count) × Passed doc start (start + found) × (getD doc (start + found) 0 ≡ 10)
+  pub most : found ≤ 255
+
+-- backticks at a line's start are a fence outside code, which opens it, or in code, which it ends; or no fence
+pub record Fence (count fence : ℕ) : Type 0 where
+  pub opens : fence ≡ 0 → 3 ≤ count
+  pub closes : 0 < fence → fence ≤ count
+
+pub record NoFence (count fence : ℕ) : Type 0 where
+  pub opens : fence ≡ 0 → count < 3
+  pub closes : 0 < fence → count < fence
+
 -- a code marker is a fence's backticks, so its length is all that is kept of it, and 0 is none
 unfoldable pub marker : ℕ → Option Bytes
 marker zero = none
 marker (suc n) = some (replicate (suc n) 96)
+
+-- from here on the line stays, or a space or a fence at its start does not
+pub record Stays (doc : Bytes) (at : ℕ) (started : Bool) (fence : ℕ) : Type 0 where
+  pub no-space : started ≡ true → getD doc at 0 ≡ 32 → ⊥
+  pub no-fence : started ≡ true → NoFence (runOf 96 (drop at doc)) fence
+
+pub record Changes (doc : Bytes) (at : ℕ) (started : Bool) (fence : ℕ) : Type 0 where
+  pub starts : started ≡ true
+  pub quotes : (getD doc at 0 ≡ 32 → ⊥) → Fence (runOf 96 (drop at doc)) fence
 
 -- how many bytes of the doc a piece takes over
 unfoldable pub copied : Piece → ℕ

@@ -10,7 +10,8 @@ ghost use Rattle.rast.specs.Bytes.{ascii, _and_, _or_, same, begins};
 ghost use Rattle.rast.specs.Indent.{indent};
 ghost use Rattle.rast.specs.Doc.{ConvertDocstring, ToDocstringPrefix};
 ghost use Rattle.output.specs.Laid.{Laid, Fits};
-ghost use Rattle.doc.specs.Steps.{runOf, lineLength, Passed, copied, pieceText, Splits, copyStep};
+ghost use Rattle.output.specs.Wrote.{Wrote};
+ghost use Rattle.doc.specs.Steps.{runOf, lineLength, Passed, Nearest, Fence, NoFence, Stays, Changes, copied, pieceText, Splits, copyStep};
 
 // Where the conversion stands: at a byte, at a line's start or not, and in code (behind a fence of `fence` backticks) or not (0).
 struct Place {
@@ -97,14 +98,14 @@ fn newline_or(found: u8, byte: u8) -> u8
     found
 }
 
-// A newline stands among the next 32 bytes. The loop has no early exit, so that it compiles to wide compares.
+// A newline stands among the next 64 bytes. The loop has no early exit, so that it compiles to wide compares.
 fn newline_in_block(doc: &[u8], at: usize) -> bool
-    requires { ⌜ at + 32 ≤ length (now doc) ⌝ }
-    ensures { λ r. ⌜ (r ≡ false → Passed (now (doc .entry)) at (at + 32)) ⌝ }
+    requires { ⌜ at + 64 ≤ length (now doc) ⌝ }
+    ensures { λ r. ⌜ (r ≡ false → Passed (now (doc .entry)) at (at + 64)) ⌝ }
 {
     let mut found: u8 = 0;
     let mut i = 0;
-    while i < 32 {
+    while i < 64 {
         found = newline_or(found, doc[at + i]);
         i += 1;
     }
@@ -117,11 +118,11 @@ fn skip_blocks(doc: &[u8], at: usize) -> usize
     ensures { λ r. ⌜ Passed (now (doc .entry)) at r ⌝ }
 {
     let mut i = at;
-    while 32 <= doc.len() - i {
+    while 64 <= doc.len() - i {
         if newline_in_block(doc, i) {
             return i;
         }
-        i += 32;
+        i += 64;
     }
     i
 }
@@ -131,7 +132,7 @@ fn newline_from(doc: &[u8], at: usize) -> usize
     requires { ⌜ at ≤ length (now doc) ⌝ }
     ensures { λ r. ⌜ Passed (now (doc .entry)) at r × (r < length (now (doc .entry)) → getD (now (doc .entry)) r 0 ≡ 10) ⌝ }
 {
-    let mut i = skip_blocks(doc, at);
+    let mut i = at;
     while i < doc.len() {
         if doc[i] == b'\n' {
             return i;
@@ -141,22 +142,69 @@ fn newline_from(doc: &[u8], at: usize) -> usize
     i
 }
 
-// How many bytes stand from `at` on before the next newline. In a short line a look at whole blocks does not pay.
+// The place `i`, if a newline stands there, else 255.
+fn newline_place(i: u8, byte: u8) -> u8
+    ensures { λ r. ⌜ (byte ≡ 10 → r ≡ i) × ((byte ≡ 10 → ⊥) → r ≡ 255) ⌝ }
+{
+    if byte == b'\n' {
+        return i;
+    }
+    255
+}
+
+fn least(a: u8, b: u8) -> u8
+    ensures { λ r. ⌜ (b < a → r ≡ b) × (a ≤ b → r ≡ a) ⌝ }
+{
+    if b < a {
+        return b;
+    }
+    a
+}
+
+// How many of the next `count` bytes stand before the first newline, 255 if there is none. The least place of a newline is found by wide compares too, and costs
+// no jump that is hard to foresee.
+fn near_length(doc: &[u8], at: usize, count: u8) -> usize
+    requires { ⌜ (count ≤ 64) × (at + count ≤ length (now doc)) ⌝ }
+    ensures { λ r. ⌜ Nearest (now (doc .entry)) at count r ⌝ }
+{
+    let mut found: u8 = 255;
+    let mut i: u8 = 0;
+    while i < count {
+        found = least(found, newline_place(i, doc[at + i as usize]));
+        i += 1;
+    }
+    found as usize
+}
+
+// How many bytes stand before the next newline where the doc has fewer than 64 left. For fewer than 16 wide compares do not pay.
+fn last_length(doc: &[u8], at: usize) -> usize
+    requires { ⌜ (at ≤ length (now doc)) × (length (now doc) < at + 64) ⌝ }
+    ensures { λ r. ⌜ (r ≡ lineLength (drop at (now (doc .entry)))) × (at + r ≤ length (now (doc .entry))) ⌝ }
+{
+    let left = doc.len() - at;
+    if left < 16 {
+        return newline_from(doc, at) - at;
+    }
+    let found = near_length(doc, at, left as u8);
+    if found == 255 {
+        return left;
+    }
+    found
+}
+
+// How many bytes stand from `at` on before the next newline. Most lines end within 64 bytes; in a longer one whole blocks are skipped.
 fn line_length(doc: &[u8], at: usize) -> usize
     requires { ⌜ at ≤ length (now doc) ⌝ }
     ensures { λ r. ⌜ (r ≡ lineLength (drop at (now (doc .entry)))) × (at + r ≤ length (now (doc .entry))) ⌝ }
 {
-    if doc.len() - at < 16 {
-        return newline_from(doc, at) - at;
+    if doc.len() - at < 64 {
+        return last_length(doc, at);
     }
-    let end = at + 16;
-    let mut i = at;
-    while i < end {
-        if doc[i] == b'\n' {
-            return i - at;
-        }
-        i += 1;
+    let found = near_length(doc, at, 64);
+    if found != 255 {
+        return found;
     }
+    let i = skip_blocks(doc, at + 64);
     newline_from(doc, i) - at
 }
 
@@ -238,37 +286,50 @@ fn open_step(doc: &[u8], at: usize, count: usize) -> Step
     copy_step(at, count, false, count)
 }
 
-// Backticks at a line's start: a fence, or text.
-fn quote_step(doc: &[u8], at: usize, fence: usize) -> Step
-    requires { ⌜ (at < length (now doc)) × (getD (now doc) at 0 ≡ 96) ⌝ }
+// Whether `count` backticks at a line's start are a fence: outside code one that opens it, in code the one that ends it.
+fn is_fence(count: usize, fence: usize) -> bool
+    ensures { λ r. ⌜ (r ≡ true → Fence count fence) × (r ≡ false → NoFence count fence) ⌝ }
+{
+    if fence == 0 {
+        return 3 <= count;
+    }
+    fence <= count
+}
+
+// Whether the line stays from `at` on, where there is no newline: only spaces and a fence at its start are changed.
+fn stays(doc: &[u8], at: usize, started: bool, fence: usize) -> bool
+    requires { ⌜ at < length (now doc) ⌝ }
+    ensures { λ r. ⌜ (r ≡ true → Stays (now (doc .entry)) at started fence) × (r ≡ false → Changes (now (doc .entry)) at started fence) ⌝ }
+{
+    if !started {
+        return true;
+    }
+    if doc[at] == b' ' {
+        return false;
+    }
+    !is_fence(run(doc, at, b'`'), fence)
+}
+
+// A fence at a line's start.
+fn fence_step(doc: &[u8], at: usize, fence: usize) -> Step
+    requires { ⌜ (at < length (now doc)) × Fence (runOf 96 (drop at (now doc))) fence ⌝ }
     ensures { λ r. ⌜ Splits (now (doc .entry)) at true fence r ⌝ }
 {
-    let count = run(doc, at, b'`');
     if fence == 0 {
-        if count < 3 {
-            return copy_step(at, line_length(doc, at), false, fence);
-        }
-        return open_step(doc, at, count);
-    }
-    if count < fence {
-        return copy_step(at, line_length(doc, at), false, fence);
+        return open_step(doc, at, run(doc, at, b'`'));
     }
     copy_step(at, fence, false, 0)
 }
 
-// The step at a byte that is no newline, at a line's start.
+// The step at a line's start where the line does not stay.
 fn start_step(doc: &[u8], at: usize, fence: usize) -> Step
-    requires { ⌜ (at < length (now doc)) × (getD (now doc) at 0 ≡ 10 → ⊥) ⌝ }
+    requires { ⌜ (at < length (now doc)) × Changes (now doc) at true fence ⌝ }
     ensures { λ r. ⌜ Splits (now (doc .entry)) at true fence r ⌝ }
 {
-    let byte = doc[at];
-    if byte == b' ' {
+    if doc[at] == b' ' {
         return space_step(doc, at, fence);
     }
-    if byte == b'`' {
-        return quote_step(doc, at, fence);
-    }
-    copy_step(at, line_length(doc, at), false, fence)
+    fence_step(doc, at, fence)
 }
 
 fn step_at(doc: &[u8], place: Place) -> Step
@@ -287,21 +348,32 @@ fn step_at(doc: &[u8], place: Place) -> Step
             },
         };
     }
-    if place.started {
-        return start_step(doc, at, fence);
+    if stays(doc, at, place.started, fence) {
+        return copy_step(at, line_length(doc, at), false, fence);
     }
-    copy_step(at, line_length(doc, at), false, fence)
+    start_step(doc, at, fence)
 }
 
 // ---- laying it
 
-// A newline, and the indent of `level`.
+// A newline, and the indent of `level`, where there is room for them.
+pub fn put_line(level: u32, out: &mut [u8], pos: usize) -> usize
+    requires { ⌜ pos + length (ascii "\n" ++ indent level) ≤ length (now out) ⌝ }
+    ensures { λ r. ⌜ Wrote (now (out .entry)) pos (ascii "\n" ++ indent level) (now (out .exit)) r ⌝ }
+{
+    let next = output::put(b"\n", out, pos);
+    output::put_spaces(4 * level as usize, out, next)
+}
+
+// The same, written or counted.
 pub fn lay_line(write: bool, level: u32, out: &mut [u8], pos: usize) -> usize
     requires { ⌜ Fits write (now out) pos (ascii "\n" ++ indent level) ⌝ }
     ensures { λ r. ⌜ Laid write (now (out .entry)) pos (ascii "\n" ++ indent level) (now (out .exit)) r ⌝ }
 {
-    let next = output::lay(write, b"\n", out, pos);
-    output::lay_spaces(write, 4 * level as usize, out, next)
+    if write {
+        return put_line(level, out, pos);
+    }
+    output::count_few(pos, 1 + 4 * level as usize)
 }
 
 fn lay_piece(

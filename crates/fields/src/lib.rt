@@ -125,8 +125,12 @@ fn lay_comma_line(write: bool, level: u32, out: &mut [u8], pos: usize) -> usize
     requires { ⌜ (level < 2 ^ 31) × Fits write (now out) pos (separatorText (indent level) true) ⌝ }
     ensures { λ r. ⌜ Laid write (now (out .entry)) pos (separatorText (indent level) true) (now (out .exit)) r ⌝ }
 {
-    let p = output::lay(write, b",", out, pos);
-    doc::lay_line(write, level + 1, out, p)
+    let inner = level + 1;
+    if write {
+        let p = output::put(b",", out, pos);
+        return doc::put_line(inner, out, p);
+    }
+    output::count_few(pos, 2 + 4 * inner as usize)
 }
 
 // What stands between two of them.

@@ -109,10 +109,16 @@ fn lay_open(
     requires { ⌜ Checked (now words) (now pairs) (now text) × (name < nameCount (now pairs)) × Ready write (now out) pos (typedAt (now words) (now pairs) (now text) name at) ⌝ }
     ensures { λ r. ⌜ Labelled (typeTextAt (now (words .entry)) (now (pairs .entry)) (now (text .entry))) write (now (out .entry)) pos (typedAt (now (words .entry)) (now (pairs .entry)) (now (text .entry)) name at) (now (out .exit)) r ⌝ }
 {
-    let p = laying::lay_known(write, pairs, text, name, out, pos);
+    if write {
+        let p = encoding::put_name(pairs, text, name, out, pos);
+        return Label::Open {
+            next: at,
+            pos: output::put(b": ", out, p),
+        };
+    }
     Label::Open {
         next: at,
-        pos: output::lay(write, b": ", out, p),
+        pos: output::count_few(pos, encoding::name_length(pairs, name) + 2),
     }
 }
 

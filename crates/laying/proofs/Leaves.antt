@@ -3,6 +3,7 @@ use Prim.Native.Nat.{ℕ, _+_, _≤_, _<_}
 use mathlib.Core.Path.{_≡_, refl, ap, sym, _∙_, subst}
 use mathlib.Core.Bool.{Bool, true, false}
 use mathlib.Core.List.{List, []}
+use native.Mathlib.Omega.{arith}
 use borrow.Author.Tests.{eq-eqb, ne-eqb, leb-true}
 use lib.Dec.{leb}
 use lib.ListN.{length, getD}
@@ -134,3 +135,8 @@ module _ (ws pairs : List ℕ) (text : Bytes) (at : ℕ) where
   pub named-text : at < length ws → getD ws at 0 ≡ 12 → typeTextAt ws pairs text at ≡ nameAt ws pairs text (at + 1)
   unfolding readType readName headAfter
   named-text h k = rw (head-at (nameCount pairs) ws at h, k) (name-map ws (nameBytes pairs text) (readType (nameCount pairs) ws (nameBytes pairs text) 63) (readBelow (nameCount pairs) ws (at + 1)))
+
+-- the empty name is no doc
+pub no-doc-text : (pairs : List ℕ) (text : Bytes) (x : ℕ) (ind : Bytes) → x ≡ 0 → [] ≡ ToDocstringPrefix (nameBytes pairs text x) ind
+unfolding ToDocstringPrefix fixedNames ascii
+no-doc-text pairs text x ind e = rw (name-fixed pairs text x (omega arith), e)

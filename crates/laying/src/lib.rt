@@ -40,7 +40,7 @@ pub fn lay_known(
     if write {
         return encoding::put_name(pairs, text, name, out, pos);
     }
-    output::count_on(pos, encoding::name_length(pairs, name))
+    output::count_few(pos, encoding::name_length(pairs, name))
 }
 
 // A path that was read, with so many bytes of text.
@@ -98,6 +98,9 @@ fn lay_known_doc(
         × Fits write (now out) pos (ToDocstringPrefix (nameBytes (now pairs) (now text) name) (indent level)) ⌝ }
     ensures { λ r. ⌜ Laid write (now (out .entry)) pos (ToDocstringPrefix (nameBytes (now (pairs .entry)) (now (text .entry)) name) (indent level)) (now (out .exit)) r ⌝ }
 {
+    if name == 0 {
+        return pos;
+    }
     if name < 16 {
         return lay_fixed_doc(write, pairs, text, name, level, out, pos);
     }
@@ -169,7 +172,7 @@ fn lay_plain(write: bool, kind: u32, out: &mut [u8], pos: usize) -> usize
     if write {
         return leaves::put_primitive(kind, out, pos);
     }
-    output::count_on(pos, encoding::primitive_length(kind))
+    output::count_few(pos, encoding::primitive_length(kind))
 }
 
 // The type at `at` of a field: most have a plain type or a name, for which neither the measuring pass nor the writer is called.

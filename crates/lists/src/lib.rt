@@ -160,8 +160,11 @@ fn lay_attribute_end(write: bool, level: u32, out: &mut [u8], pos: usize) -> usi
     requires { ⌜ Fits write (now out) pos (ascii "]" ++ (ascii "\n" ++ indent level)) ⌝ }
     ensures { λ r. ⌜ Laid write (now (out .entry)) pos (ascii "]" ++ (ascii "\n" ++ indent level)) (now (out .exit)) r ⌝ }
 {
-    let p = output::lay(write, b"]", out, pos);
-    doc::lay_line(write, level, out, p)
+    if write {
+        let p = output::put(b"]", out, pos);
+        return doc::put_line(level, out, p);
+    }
+    output::count_few(pos, 2 + 4 * level as usize)
 }
 
 // What stands behind an item: an attribute has a line of its own.

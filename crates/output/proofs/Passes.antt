@@ -2,16 +2,16 @@
 use Prim.Native.Nat.{ℕ, zero, suc, _+_, _-_, _^_, _≤_, _<_}
 use mathlib.Core.Path.{_≡_, refl, ap, sym, _∙_, subst}
 use mathlib.Core.Bool.{Bool, true, false}
-use mathlib.Core.List.{List, [], _++_}
+use mathlib.Core.List.{List, [], _∷_, _++_}
 use native.Mathlib.Omega.{arith}
-use native.Mathlib.Nat.{add-zero}
+use native.Mathlib.Nat.{add-zero, sub-zero}
 use borrow.Author.Tests.{lt-ltb, le-ltb, ltb-true, ltb-false}
 use lib.Dec.{ltb}
-use lib.ListN.{length, length-append, set}
+use lib.ListN.{length, length-append, set, take, drop}
 use lib.Seq.{sets}
 use Rattle.output.specs.Wrote.{Wrote}
 use Rattle.output.specs.Laid.{at-most, clamp, Laid, Fits, spaces}
-use Rattle.output.proofs.Laws.{wrote-nothing, wrote-then, wrote-kept}
+use Rattle.output.proofs.Laws.{wrote-nothing, wrote-then, wrote-kept, ends-meet}
 
 pub clamp-small : (n : ℕ) → n < 2 ^ 63 → clamp n ≡ n
 unfolding clamp at-most
@@ -109,3 +109,31 @@ spaces-more o count p i h =
     let e₁ : p + (i + 1) ≡ suc (p + i) = omega arith in
     let e₂ : count - i ≡ suc (count - (i + 1)) = omega arith in
     rw (e₁, e₂)
+
+take-spaces : (n m : ℕ) → n ≤ m → take n (spaces m) ≡ spaces n
+unfolding spaces
+take-spaces zero m h = refl
+take-spaces (suc n) zero h = absurd (let z : ⊥ = omega arith in z)
+take-spaces (suc n) (suc m) h = ap (_∷_ 32) (take-spaces n m (omega arith))
+
+drop-spaces : (n m : ℕ) → n ≤ m → drop n (spaces m) ≡ spaces (m - n)
+unfolding spaces
+drop-spaces zero m h = rw (sub-zero m)
+drop-spaces (suc n) zero h = absurd (let z : ⊥ = omega arith in z)
+drop-spaces (suc n) (suc m) h = let e : suc m - suc n ≡ m - n = omega arith in rw e (drop-spaces n m (omega arith))
+
+-- the first half spaces and the last half, which may overlap
+pub spaces-ends : (half count : ℕ) {o o′ o″ : List ℕ} {p p′ p″ : ℕ} → half ≤ count → count ≤ half + half → Wrote o p (spaces half) o′ p′
+    → Wrote o′ (p + (count - half)) (spaces half) o″ p″ → Wrote o p (spaces count) o″ p″
+spaces-ends half count {o} {o′} {o″} {p} {p′} {p″} h k l m =
+    let first = take-spaces half count h in
+    let d = drop-spaces (count - half) count (omega arith) in
+    let e : count - (count - half) ≡ half = omega arith in
+    let last : take half (drop (count - half) (spaces count)) ≡ spaces half = rw (d, e) (take-spaces half half (omega arith)) in
+    let all = take-spaces count count (omega arith) in
+    let z : 0 + (count - half) ≡ count - half = omega arith in
+    let meet = ends-meet (spaces count) o 0 half count p h k (omega (arith, length-spaces count)) in
+    record {
+      bytes = m .bytes ∙ rw (l .bytes) (rw (first, z, last, all) at meet);
+      next = rw (length-spaces count) (omega (arith, m .next, length-spaces half));
+    }

@@ -1,6 +1,6 @@
 // Writing bytes into a lent buffer that is known to have room for them, or only counting them.
 ghost use mathlib.Core.Path.{_≡_};
-ghost use Prim.Native.Nat.{_+_, _≤_, _<_};
+ghost use Prim.Native.Nat.{_+_, _^_, _≤_, _<_};
 ghost use lib.ListN.{take, drop, length};
 ghost use lib.Seq.{sets};
 ghost use Rattle.output.specs.Wrote.{Wrote};
@@ -111,7 +111,8 @@ pub fn put(bytes: &[u8], out: &mut [u8], pos: usize) -> usize
     pos + bytes.len()
 }
 
-fn put_spaces(count: usize, out: &mut [u8], pos: usize) -> usize
+// `count` spaces, one by one.
+fn fill_spaces(count: usize, out: &mut [u8], pos: usize) -> usize
     requires { ⌜ pos + count ≤ length (now out) ⌝ }
     ensures { λ r. ⌜ Wrote (now (out .entry)) pos (spaces count) (now (out .exit)) r ⌝ }
 {
@@ -121,6 +122,34 @@ fn put_spaces(count: usize, out: &mut [u8], pos: usize) -> usize
         i += 1;
     }
     pos + count
+}
+
+// The same, as the first eight and the last eight, which may overlap.
+fn put_space_ends(count: usize, out: &mut [u8], pos: usize) -> usize
+    requires { ⌜ (8 ≤ count) × (count ≤ 16) × (pos + count ≤ length (now out)) ⌝ }
+    ensures { λ r. ⌜ Wrote (now (out .entry)) pos (spaces count) (now (out .exit)) r ⌝ }
+{
+    put(b"        ", out, pos);
+    put(b"        ", out, pos + (count - 8))
+}
+
+// The same, for any count: an indent is mostly of few levels, for which a call that fills memory costs more than a move or two.
+pub fn put_spaces(count: usize, out: &mut [u8], pos: usize) -> usize
+    requires { ⌜ pos + count ≤ length (now out) ⌝ }
+    ensures { λ r. ⌜ Wrote (now (out .entry)) pos (spaces count) (now (out .exit)) r ⌝ }
+{
+    if count == 0 {
+        return pos;
+    }
+    if count == 4 {
+        return put(b"    ", out, pos);
+    }
+    if 8 <= count {
+        if count <= 16 {
+            return put_space_ends(count, out, pos);
+        }
+    }
+    fill_spaces(count, out, pos)
 }
 
 // ---- a pass that writes, or only counts
@@ -134,6 +163,17 @@ pub fn count_on(pos: usize, count: usize) -> usize
     }
     if LIMIT - pos <= count {
         return LIMIT;
+    }
+    pos + count
+}
+
+// The same for fewer than the limit, with one test: a count that has reached the limit stays where it is.
+pub fn count_few(pos: usize, count: usize) -> usize
+    requires { ⌜ count < 2 ^ 63 ⌝ }
+    ensures { λ r. ⌜ clamp r ≡ clamp (pos + count) ⌝ }
+{
+    if LIMIT <= pos {
+        return pos;
     }
     pos + count
 }
@@ -153,7 +193,7 @@ pub fn lay_part(
     if write {
         return put_part(bytes, start, count, out, pos);
     }
-    count_on(pos, count)
+    count_few(pos, count)
 }
 
 // All of `bytes`.
@@ -164,15 +204,5 @@ pub fn lay(write: bool, bytes: &[u8], out: &mut [u8], pos: usize) -> usize
     if write {
         return put(bytes, out, pos);
     }
-    count_on(pos, bytes.len())
-}
-
-pub fn lay_spaces(write: bool, count: usize, out: &mut [u8], pos: usize) -> usize
-    requires { ⌜ Fits write (now out) pos (spaces count) ⌝ }
-    ensures { λ r. ⌜ Laid write (now (out .entry)) pos (spaces count) (now (out .exit)) r ⌝ }
-{
-    if write {
-        return put_spaces(count, out, pos);
-    }
-    count_on(pos, count)
+    count_few(pos, bytes.len())
 }

@@ -1,46 +1,43 @@
-use Rattle.doc.proofs.Laying.{indent-spaces}
-use Rattle.output.proofs.Passes.{fits-as, fits-behind, fits-front, laid-as, laid-then}
-use Rattle.rast.specs.Bytes.{Bytes, ascii}
-use Rattle.rast.specs.Indent.{indent}
-use mathlib.Core.List.{_++_}
-use mathlib.Core.Path.{ap, sym}
+use Prim.Native.Nat.{_+_, ℕ}
+use Rattle.doc.proofs.Laying.{line-size}
+use Rattle.output.proofs.Passes.{laid-counted, laid-wrote}
+use Rattle.output.specs.Laid.{clamp}
+use mathlib.Core.Path.{_∙_, ap, sym}
 use borrow.Author.Needs.{needs}
 use Rattle.doc.proofs.lay_line.Statement.{statement}
 use Rattle.doc.proofs.lay_line.Tie as tie
 
-slice-aggregate-lay : tie.Need-slice-aggregate-lay
-slice-aggregate-lay c = search needs
-
-lay-requires : tie.Need-lay-requires
-unfolding ascii
-lay-requires c κs = fits-front (indent (c .before .before .before .args .level)) (c .before .before .before .pre)
-
-mul-lay-spaces : tie.Need-mul-lay-spaces
-mul-lay-spaces c = search needs
-
-lay-spaces-requires : tie.Need-lay-spaces-requires
-unfolding ascii
-lay-spaces-requires c κs =
-    let s = c .before .before .before .before .before .before .before in
-    let ind = indent (s .args .level) in
-    fits-as (indent-spaces (s .args .level)) (fits-behind ind (s .pre) (c .before .before .before .lay .ensures))
+put-line-requires : tie.Need-put-line-requires
+put-line-requires c κs = c .before .before .before .pre .room (c .before .if1 .taken)
 
 same-length : tie.Need-same-length
 same-length c = search needs
 
 returns : tie.Need-returns
-unfolding ascii
-returns c =
-    let e = sym (indent-spaces (c .before .before .before .before .before .before .before .before .before .before .args .level)) in
-    laid-as (ap (λ (x : Bytes). ascii "\n" ++ x) e) (laid-then (c .before .before .before .before .before .before .lay .ensures) (c .before .before .lay-spaces .ensures))
+returns c = laid-wrote (c .before .before .before .before .if1 .taken) (c .before .before .put-line .ensures)
+
+mul-count-few : tie.Need-mul-count-few
+mul-count-few c = search needs
+
+add-count-few : tie.Need-add-count-few
+add-count-few c = search needs
+
+count-few-requires : tie.Need-count-few-requires
+count-few-requires c κs = search needs
+
+returns-2 : tie.Need-returns-2
+returns-2 c =
+    let a = c .before .before .before .args in
+    laid-counted (c .before .if1 .left) (c .count-few .ensures ∙ ap (λ (n : ℕ). clamp (a .pos + n)) (sym (line-size (a .level))))
 
 pub lay-line-spec : {M : Type 1} → statement M
 lay-line-spec =
     tie.close
     (tie.spec
-    slice-aggregate-lay
-    lay-requires
-    mul-lay-spaces
-    lay-spaces-requires
+    put-line-requires
     same-length
-    returns)
+    returns
+    mul-count-few
+    add-count-few
+    count-few-requires
+    returns-2)

@@ -1,5 +1,5 @@
 use Prim.Native.Nat.{_-_}
-use Rattle.doc.proofs.Runs.{passed-more}
+use Rattle.doc.proofs.Runs.{passed-more, passed-none}
 use Rattle.doc.specs.Steps.{Passed}
 use lib.ListN.{length}
 use native.Mathlib.Omega.{arith}
@@ -13,11 +13,8 @@ Inv-loop doc at i₀ i = Passed doc at i
 abbrev μ-loop : tie.MeasureT-loop
 μ-loop doc at i₀ i = length doc - i
 
-skip-blocks-requires : tie.Need-skip-blocks-requires Inv-loop μ-loop
-skip-blocks-requires c κs = search needs
-
 loop-holds : tie.Need-loop-holds Inv-loop μ-loop
-loop-holds c = c .skip-blocks .ensures
+loop-holds c = passed-none (c .args .doc .now) (c .args .at) (c .pre)
 
 shared-slice-read-if1 : tie.Need-shared-slice-read-if1 Inv-loop μ-loop
 shared-slice-read-if1 c = search needs
@@ -32,7 +29,7 @@ loop-less : tie.Need-loop-less Inv-loop μ-loop
 loop-less c = search needs
 
 loop-again : tie.Need-loop-again Inv-loop μ-loop
-loop-again c = passed-more (c .before .before .before .before .before .before .args .doc .now) (c .before .before .before .loop .inv) (search needs) (c .if1 .left)
+loop-again c = passed-more (c .before .before .before .before .args .doc .now) (c .before .before .before .loop .inv) (search needs) (c .if1 .left)
 
 returns-2 : tie.Need-returns-2 Inv-loop μ-loop
 returns-2 c = (c .before .loop .inv, λ h. absurd (let z : ⊥ = omega arith in z))
@@ -43,7 +40,6 @@ newline-from-spec =
     (tie.spec
     Inv-loop
     μ-loop
-    skip-blocks-requires
     loop-holds
     shared-slice-read-if1
     returns

@@ -1,5 +1,5 @@
 use Prim.Native.Nat.{_+_, ℕ}
-use Rattle.output.proofs.Passes.{clamp-twice, laid-counted, laid-wrote}
+use Rattle.output.proofs.Passes.{laid-counted, laid-wrote}
 use Rattle.output.specs.Laid.{clamp}
 use mathlib.Core.Path.{_∙_, ap}
 use borrow.Author.Needs.{needs}
@@ -18,11 +18,11 @@ returns c = laid-wrote (c .before .before .before .before .if1 .taken) (c .befor
 primitive-length-requires : tie.Need-primitive-length-requires
 primitive-length-requires c κs = c .before .before .pre .0
 
-count-on-requires : tie.Need-count-on-requires
-count-on-requires c κs = search needs
+count-few-requires : tie.Need-count-few-requires
+count-few-requires c κs = search needs
 
 returns-2 : tie.Need-returns-2
-returns-2 c = laid-counted (c .before .before .if1 .left) (ap clamp (c .count-on .ensures) ∙ clamp-twice _ ∙ ap (λ (n : ℕ). clamp (c .before .before .before .before .args .pos + n)) (c .before .primitive-length .ensures .0))
+returns-2 c = laid-counted (c .before .before .if1 .left) (c .count-few .ensures ∙ ap (λ (n : ℕ). clamp (c .before .before .before .before .args .pos + n)) (c .before .primitive-length .ensures .0))
 
 pub lay-plain-spec : {M : Type 1} → statement M
 lay-plain-spec =
@@ -32,5 +32,5 @@ lay-plain-spec =
     same-length
     returns
     primitive-length-requires
-    count-on-requires
+    count-few-requires
     returns-2)

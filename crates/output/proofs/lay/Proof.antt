@@ -1,6 +1,4 @@
-use Rattle.output.proofs.Passes.{clamp-twice, laid-counted, laid-wrote}
-use Rattle.output.specs.Laid.{clamp}
-use mathlib.Core.Path.{_∙_, ap}
+use Rattle.output.proofs.Passes.{laid-counted, laid-wrote}
 use borrow.Author.Needs.{needs}
 use Rattle.output.proofs.lay.Statement.{statement}
 use Rattle.output.proofs.lay.Tie as tie
@@ -14,11 +12,11 @@ same-length c = search needs
 returns : tie.Need-returns
 returns c = laid-wrote (c .before .before .before .before .if1 .taken) (c .before .before .put .ensures)
 
-count-on-requires : tie.Need-count-on-requires
-count-on-requires c κs = search needs
+count-few-requires : tie.Need-count-few-requires
+count-few-requires c κs = search needs
 
 returns-2 : tie.Need-returns-2
-returns-2 c = laid-counted (c .before .if1 .left) (ap clamp (c .count-on .ensures) ∙ clamp-twice _)
+returns-2 c = laid-counted (c .before .if1 .left) (c .count-few .ensures)
 
 pub lay-spec : {M : Type 1} → statement M
-lay-spec = tie.close (tie.spec put-requires same-length returns count-on-requires returns-2)
+lay-spec = tie.close (tie.spec put-requires same-length returns count-few-requires returns-2)

@@ -1,6 +1,6 @@
 use Prim.Native.Nat.{_+_, ℕ}
 use Rattle.output.proofs.Laws.{part-length}
-use Rattle.output.proofs.Passes.{clamp-twice, laid-counted, laid-wrote}
+use Rattle.output.proofs.Passes.{laid-counted, laid-wrote}
 use Rattle.output.specs.Laid.{clamp}
 use mathlib.Core.Path.{_∙_, ap, sym}
 use native.Mathlib.Omega.{arith}
@@ -17,12 +17,12 @@ same-length c = search needs
 returns : tie.Need-returns
 returns c = laid-wrote (c .before .before .before .before .if1 .taken) (c .before .before .put-part .ensures)
 
-count-on-requires : tie.Need-count-on-requires
-count-on-requires c κs = search needs
+count-few-requires : tie.Need-count-few-requires
+count-few-requires c κs = search needs
 
 returns-2 : tie.Need-returns-2
-returns-2 c = laid-counted (c .before .if1 .left) (ap clamp (c .count-on .ensures) ∙ clamp-twice _ ∙ ap (λ (n : ℕ). clamp (c .before .before .before .before .args .pos + n)) (sym (part-length (c .before .before .before .before .args .bytes .now) (c .before .before .before .before .args .start) (c .before .before .before .before .args .count) (c .before .before .before .before .pre .0))))
+returns-2 c = laid-counted (c .before .if1 .left) (c .count-few .ensures ∙ ap (λ (n : ℕ). clamp (c .before .before .before .before .args .pos + n)) (sym (part-length (c .before .before .before .before .args .bytes .now) (c .before .before .before .before .args .start) (c .before .before .before .before .args .count) (c .before .before .before .before .pre .0))))
 
 pub lay-part-spec : {M : Type 1} → statement M
 lay-part-spec =
-    tie.close (tie.spec put-part-requires same-length returns count-on-requires returns-2)
+    tie.close (tie.spec put-part-requires same-length returns count-few-requires returns-2)

@@ -1,75 +1,57 @@
-use Prim.Native.Nat.{_+_, _-_, _<_, _≤_}
-use Rattle.output.proofs.Passes.{length-spaces, spaces-more}
+use Rattle.output.proofs.Laws.{wrote-as, wrote-nothing}
 use Rattle.output.specs.Laid.{spaces}
-use lib.ListN.{length, length-set}
-use lib.Seq.{sets}
-use mathlib.Core.Path.{_∙_, _≡_}
-use native.Mathlib.Nat.{add-zero, sub-zero}
-use native.Mathlib.Omega.{arith}
+use mathlib.Core.Path.{ap, sym}
 use borrow.Author.Needs.{needs}
 use Rattle.output.proofs.put_spaces.Statement.{statement}
 use Rattle.output.proofs.put_spaces.Tie as tie
 
-abbrev Inv-loop : tie.InvT-loop
-Inv-loop count out₀ pos i₀ out i =
-    (length out ≡ length out₀)
-    × (i ≤ count)
-    × (sets out (pos + i) (spaces (count - i)) ≡ sets out₀ pos (spaces count))
+returns : tie.Need-returns
+unfolding spaces
+returns c = wrote-as (ap spaces (sym (c .if1 .taken))) (wrote-nothing _ _)
 
-abbrev μ-loop : tie.MeasureT-loop
-μ-loop count out₀ pos i₀ out i = count - i
+slice-aggregate-put : tie.Need-slice-aggregate-put
+slice-aggregate-put c = search needs
 
-loop-holds : tie.Need-loop-holds Inv-loop μ-loop
-loop-holds c = (search needs, search needs, simp (add-zero, sub-zero))
+put-requires : tie.Need-put-requires
+put-requires c κs = search needs
 
-add-out : tie.Need-add-out Inv-loop μ-loop
-add-out c = search needs
-
-slice-write-out : tie.Need-slice-write-out Inv-loop μ-loop
-slice-write-out c = search needs
-
-add-i : tie.Need-add-i Inv-loop μ-loop
-add-i c = search needs
-
-loop-less : tie.Need-loop-less Inv-loop μ-loop
-loop-less c = search needs
-
-loop-again : tie.Need-loop-again Inv-loop μ-loop
-loop-again c =
-    let l = c .before .loop in
-    let a = c .before .before .args in
-    let h : l .i < a .count = search needs in (
-      simp length-set (l .inv .0),
-      search needs,
-      spaces-more (l .out) (a .count) (a .pos) (l .i) h ∙ l .inv .2,
-    )
-
-add-result : tie.Need-add-result Inv-loop μ-loop
-add-result c = search needs
-
-same-length : tie.Need-same-length Inv-loop μ-loop
+same-length : tie.Need-same-length
 same-length c = search needs
 
-returns : tie.Need-returns Inv-loop μ-loop
+returns-2 : tie.Need-returns-2
 unfolding spaces
-returns c =
-    let l = c .before .loop in
-    let a = c .before .before .args in
-    let z : a .count - l .i ≡ 0 = omega arith in
-    record { bytes = rw z at (l .inv .2); next = rw (length-spaces (a .count)) }
+returns-2 c = wrote-as (ap spaces (sym (c .before .before .before .before .before .if2 .taken))) (c .before .before .put .ensures)
+
+put-space-ends-requires : tie.Need-put-space-ends-requires
+put-space-ends-requires c κs = search needs
+
+same-length-2 : tie.Need-same-length-2
+same-length-2 c = search needs
+
+returns-3 : tie.Need-returns-3
+returns-3 c = search needs
+
+fill-spaces-requires : tie.Need-fill-spaces-requires
+fill-spaces-requires c κs = search needs
+
+same-length-3 : tie.Need-same-length-3
+same-length-3 c = search needs
+
+returns-4 : tie.Need-returns-4
+returns-4 c = search needs
 
 pub put-spaces-spec : {M : Type 1} → statement M
 put-spaces-spec =
     tie.close
     (tie.spec
-    Inv-loop
-    μ-loop
-    loop-holds
-    add-out
-    slice-write-out
-    add-i
-    loop-less
-    loop-again
-    add-result
+    returns
+    slice-aggregate-put
+    put-requires
     same-length
-    returns)
+    returns-2
+    put-space-ends-requires
+    same-length-2
+    returns-3
+    fill-spaces-requires
+    same-length-3
+    returns-4)
