@@ -5,8 +5,8 @@ use mathlib.Core.Bool.{Bool, true, false}
 use mathlib.Core.List.{List, _++_}
 use mathlib.Core.Option.{Option, some, none}
 use native.Mathlib.Omega.{arith}
-use borrow.Author.Tests.{eqb-true}
-use lib.Dec.{eqb}
+use borrow.Author.Tests.{eqb-true, le-ltb}
+use lib.Dec.{eqb, ltb}
 use lib.ListN.{length, take, drop, length-append}
 use lib.Seq.{sets, take-length}
 use Rattle.rast.specs.Bytes.{Bytes}
@@ -22,6 +22,7 @@ use Rattle.encoding.specs.Tables.{nameBytes, checkTables}
 use Rattle.encoding.specs.Types.{readTypes, typeOf}
 use Rattle.encoding.proofs.Tables.{impossible}
 use Rattle.output.specs.Wrote.{Wrote}
+use Rattle.writing.specs.Written.{Readable}
 use Rattle.output.proofs.Laws.{wrote-then, part-length}
 use Rattle.trees.specs.Renamed.{renamed}
 use Rattle.trees.specs.Encode.{tokenWord, rootWord, names, pathTokens, tokens, encode}
@@ -29,9 +30,7 @@ use Rattle.trees.specs.Numbered.{treeAt, treeOf}
 use Rattle.trees.proofs.Renaming.{encode-words, spelled, tree-run}
 use Rattle.replace.specs.Laying.{depth}
 use Rattle.replace.proofs.Depths.{tree-deep}
-use Rattle.rules.specs.declared.Deep.{Deep}
-use Rattle.rules.specs.Scans.{Deepens}
-use Rattle.rules.proofs.Lists.{one-deep}
+use Rattle.rules.specs.Scans.{Spans, depthOf}
 use Rattle.classes.specs.Matches.{argument}
 use Rattle.classes.specs.Steps.{when, andThen}
 use Rattle.shapes.specs.Shapes.{IsObject, IsObjectOrPointer}
@@ -43,7 +42,7 @@ use Rattle.rebuild.specs.Calls.{Laid, roomOf, zeros, laidDown, sameWords, Fills
 use Rattle.rebuild.proofs.Calls.{down-over, down-deep, down-front, shallow}
 use Rattle.initialization.specs.declared.Initial.{Initial}
 use Rattle.initialization.specs.declared.Initial.the-variants.{OfArray, Unchanged}
-use Rattle.initialization.specs.Initialized.{laidInit, typeInitialized, pointerWords, uninitWords, initialWords, newArray, Named, Pieces, pieces, unchanged, Becomes, Whole}
+use Rattle.initialization.specs.Initialized.{laidInit, typeInitialized, pointerWords, uninitWords, initialWords, newArray, Named, Pieces, pieces, unchanged, Becomes, Whole, Shallow}
 use Rattle.initialization.proofs.Changes.{one-words, one-depth}
 
 -- ---- the type at initialization, by the new array
@@ -90,6 +89,21 @@ module _ (bytes : ℕ → Bytes) (t : Ty ℕ) where
 pieces-length : (name : ℕ) (x y : List ℕ) {n : ℕ} → length x + length y ≡ n → length (pointerWords name ++ (x ++ (uninitWords ++ y))) ≡ 15 + n
 pieces-length name x y e = omega (arith, e, length-append x (uninitWords ++ y))
 
+-- ---- the element
+
+module _ (ws pairs : List ℕ) (element : ℕ) {deepest : Bool} (s : Shallow ws pairs element deepest) where
+  pub element-spans : Spans (treeAt ws pairs element) (element + (length ws - element))
+  element-spans =
+      let i : length ws ≡ element + (length ws - element) = omega (arith, s .inside) in
+      record { tree = s .tree; reads = s .reads ∙ ap (got (s .tree)) i }
+
+  pub element-within : deepest ≡ false → false ≡ ltb 61 (depthOf (treeAt ws pairs element))
+  unfolding depthOf
+  element-within e = rw (s .reads) (sym (le-ltb 61 (depth (s .tree)) (s .shallow e)))
+
+pub whole-readable : {ws pairs : List ℕ} {deepest : Bool} → Whole ws pairs deepest → Readable (treeAt ws pairs 0)
+whole-readable {ws} w = record { value = w .tree; end = length ws; reads = w .reads }
+
 -- ---- a type that changes
 
 module _ (ws pairs : List ℕ) (text : Bytes) where
@@ -115,44 +129,44 @@ module _ (ws pairs : List ℕ) (text : Bytes) where
     pub reads : treeAt ws pairs 0 ≡ got tree last
     pub own : start ≤ element
     pub inner : element ≤ end
-    pub inside : end ≤ length ws
     pub words : encode (TypeAtInitialization bytes tree) ≡ initialWords ws (pick (IsObject (renamed bytes tree)) 11 12) start element end
     pub size : length (encode (TypeAtInitialization bytes tree)) ≡ 15 + (end - start)
     pub deeper : depth (TypeAtInitialization bytes tree) ≡ 3 + deep
 
-  -- the element stands there
-  pub element-readable : {start element : ℕ} → Becomes (newArray bytes) ws pairs 0 (OfArray start element) → (element ≤ length ws) × (u : Ty ℕ) × (n : ℕ) × (treeAt ws pairs element ≡ got u n)
-  element-readable {start} {element} b = go (b .by)
+  -- the element stands there, up to the end of the words
+  pub element-shallow : {start element : ℕ} {deepest : Bool} → Whole ws pairs deepest → Becomes (newArray bytes) 2 ws pairs 0 (OfArray start element) → Shallow ws pairs element deepest
+  element-shallow {start} {element} {deepest} w b = go (b .by)
     where
-      go : {new : Option (Ty ℕ)} → Pieces ws pairs new (OfArray start element) → (element ≤ length ws) × (u : Ty ℕ) × (n : ℕ) × (treeAt ws pairs element ≡ got u n)
-      go (pieces {u = u} {n = n} e h l k w d) = (l, u, n, k)
+      go : Pieces ws pairs 2 (b .tree) (b .end) (newArray bytes (b .tree)) (OfArray start element) → Shallow ws pairs element deepest
+      go (pieces {u = u} e h l k z d a) =
+          let i : b .end ≡ length ws = cc (b .reads, w .reads) in
+          let t : b .tree ≡ w .tree = cc (b .reads, w .reads) in
+          record { tree = u; inside = l; reads = k ∙ ap (got u) i; shallow = λ s. omega (arith, w .shallow s, ap depth t, a) }
 
-  pub changes : {start element : ℕ} (r : Deep) → Becomes (newArray bytes) ws pairs 0 (OfArray start element) → Deepens (readTypes (treeAt ws pairs) 1 element) (length ws) r → Changes start element (r .next) (r .depth)
-  unfolding readTypes
-  changes {start} {element} r b k = go (b .by)
+  pub changes : {start element : ℕ} {deepest : Bool} → Whole ws pairs deepest → Becomes (newArray bytes) 2 ws pairs 0 (OfArray start element) → Changes start element (length ws) (depthOf (treeAt ws pairs element))
+  unfolding depthOf
+  changes {start} {element} w b = go (b .by)
     where
-      go : Pieces ws pairs (newArray bytes (b .tree)) (OfArray start element) → Changes start element (r .next) (r .depth)
-      go (pieces {array = v} {u = u} {n = n} e h l c w d) =
-          let g : got (cons u nil) n ≡ got (k .types) (r .next) = rw c at (k .reads) in
-          let i : n ≡ r .next = cc in
+      go : Pieces ws pairs 2 (b .tree) (b .end) (newArray bytes (b .tree)) (OfArray start element) → Changes start element (length ws) (depthOf (treeAt ws pairs element))
+      go (pieces {array = v} {u = u} e h l c z d _) =
+          let i : b .end ≡ length ws = cc (b .reads, w .reads) in
           let a = tree-run ws pairs element l c in
           let j = encode-words u in
-          let part : take (r .next - element) (drop element ws) ≡ encode u =
-          (let z : r .next - element ≡ length (encode u) = omega (arith, a .1, i, j) in rw z (a .0 .words)) in
+          let part : take (length ws - element) (drop element ws) ≡ encode u =
+          (let n : length ws - element ≡ length (encode u) = omega (arith, a .1, i, j) in rw n (a .0 .words)) in
           let q = initial-new bytes (b .tree) e in
-          let all : encode (TypeAtInitialization bytes (b .tree)) ≡ initialWords ws (pick (IsObject (renamed bytes (b .tree))) 11 12) start element (r .next) =
-          ap encode q ∙ pointed-words bytes (b .tree) v ∙ ap (λ x. pointerWords (pick (IsObject (renamed bytes (b .tree))) 11 12) ++ x) (w ∙ ap (λ x. take (element - start) (drop start ws) ++ (uninitWords ++ x)) (sym part)) in
+          let all : encode (TypeAtInitialization bytes (b .tree)) ≡ initialWords ws (pick (IsObject (renamed bytes (b .tree))) 11 12) start element (length ws) =
+          ap encode q ∙ pointed-words bytes (b .tree) v ∙ ap (λ x. pointerWords (pick (IsObject (renamed bytes (b .tree))) 11 12) ++ x) (z ∙ ap (λ x. take (element - start) (drop start ws) ++ (uninitWords ++ x)) (sym part)) in
           record {
             tree = b .tree;
             last = b .end;
             reads = b .reads;
             own = h;
-            inner = omega (arith, a .1, i);
-            inside = omega (arith, a .1, i, a .0 .ends, j);
+            inner = l;
             words = all;
-            size = ap length all ∙ pieces-length (pick (IsObject (renamed bytes (b .tree))) 11 12) (take (element - start) (drop start ws)) (take (r .next - element) (drop element ws))
+            size = ap length all ∙ pieces-length (pick (IsObject (renamed bytes (b .tree))) 11 12) (take (element - start) (drop start ws)) (take (length ws - element) (drop element ws))
                 (omega (arith, part-length ws start (element - start) (omega (arith, l, h)), ap length part, j, a .1, i, h));
-            deeper = ap depth q ∙ pointed-depth bytes (b .tree) v (omega (arith, d)) ∙ omega (arith, d, one-deep ws pairs element r c k);
+            deeper = ap depth q ∙ pointed-depth bytes (b .tree) v (omega (arith, d)) ∙ omega (arith, d, ap depthOf c);
           }
 
   module _ {start element end deep count : ℕ} (c : Changes start element end deep) (o : List ℕ) (n : count ≡ 15 + (end - start)) where
@@ -170,10 +184,10 @@ module _ (ws pairs : List ℕ) (text : Bytes) where
 
   -- ---- a type that stays
 
-  pub stays : {o o′ : List ℕ} {r : RebuildAnswer} {c : Initial} → Whole ws pairs → Becomes (newArray bytes) ws pairs 0 c → c ≡ Unchanged → (r, o′) ≡ laidDown o (given (sameWords ws 0)) → Fills laid o o′ r
-  stays {o} {o′} {r} {c} w b e k = go (subst (Pieces ws pairs (newArray bytes (b .tree))) e (b .by))
+  pub stays : {o o′ : List ℕ} {r : RebuildAnswer} {c : Initial} {deepest : Bool} → Whole ws pairs deepest → Becomes (newArray bytes) 2 ws pairs 0 c → c ≡ Unchanged → (r, o′) ≡ laidDown o (given (sameWords ws 0)) → Fills laid o o′ r
+  stays {o} {o′} {r} {c} w b e k = go (subst (Pieces ws pairs 2 (b .tree) (b .end) (newArray bytes (b .tree))) e (b .by))
     where
-      go : Pieces ws pairs (newArray bytes (b .tree)) Unchanged → Fills laid o o′ r
+      go : Pieces ws pairs 2 (b .tree) (b .end) (newArray bytes (b .tree)) Unchanged → Fills laid o o′ r
       go (unchanged d) =
           let t = b .tree in
           let q : TypeAtInitialization bytes t ≡ t = initial-same bytes t d in
@@ -236,8 +250,8 @@ module _ (ws pairs : List ℕ) (text : Bytes) where
       go (given t) e d = record { tree = t; is = e; reads = given-tree (checkTables ws pairs text) (treeAt ws pairs 0) e }
       go (refused r) e d = impossible (cc)
 
-  pub held-whole : Accepted ws pairs text → Whole ws pairs
-  held-whole a = let h = held a in record { tree = h .tree; reads = h .reads }
+  pub held-whole : Accepted ws pairs text → Whole ws pairs true
+  held-whole a = let h = held a in record { tree = h .tree; reads = h .reads; shallow = λ e. impossible (cc) }
 
   pub accepted-filled : {o o′ : List ℕ} {r : RebuildAnswer} → Accepted ws pairs text → Fills (mapReading (laidInit (nameBytes pairs text)) (treeAt ws pairs 0)) o o′ r
       → (r, o′) ≡ laidDown o (typeInitialized ws pairs text)
