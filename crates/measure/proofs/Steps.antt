@@ -32,16 +32,16 @@ use Rattle.measure.proofs.Rests.{level-due, level-mode, stacked-push, s
 
 -- ---- heads
 
--- the head behind an answer with no types
-pub record OwnLeaf (ws pairs : List ℕ) (x : Reading Head) (next bytes : ℕ) : Type 0 where
+-- the head behind an answer with no types, and that what it adds in a mode is little
+pub record OwnLeaf (ws pairs : List ℕ) (mode : ℕ) (x : Reading Head) (next bytes : ℕ) : Type 0 where
   pub head : Head
   pub read : x ≡ got head next
   pub no-kids : kids head ≡ 0
   pub same-bytes : bytes ≡ ownLength ws (nameLength pairs) head
-  pub short : bytes ≤ 2 ^ 46
+  pub short : pick (eqb mode 0) 0 bytes ≤ 2 ^ 46
 
--- the head behind an answer with types
-pub record OwnNode (ws pairs : List ℕ) (x : Reading Head) (next kids′ bytes below : ℕ) : Type 0 where
+-- the head behind an answer with types, likewise
+pub record OwnNode (ws pairs : List ℕ) (mode : ℕ) (x : Reading Head) (next kids′ bytes below : ℕ) : Type 0 where
   pub head : Head
   pub read : x ≡ got head next
   pub same-kids : Counted kids′ (kids head)
@@ -49,35 +49,36 @@ pub record OwnNode (ws pairs : List ℕ) (x : Reading Head) (next kids′ bytes 
   pub same-below : below ≡ modeOf head
   pub some : 0 < kids′
   pub few : kids′ ≤ 2 ^ 15
-  pub short : bytes ≤ 2 ^ 46
+  pub short : pick (eqb mode 0) 0 bytes ≤ 2 ^ 46
 
-module _ {ws pairs : List ℕ} {x : Reading Head} where
-  pub own-leaf : {r : OwnScan} {n b : ℕ} → Scanned ws pairs x r → r ≡ Leaf n b → OwnLeaf ws pairs x n b
+picked : (s : Bool) (n : ℕ) → pick s 0 n ≤ n
+picked true n = omega arith
+picked false n = omega arith
+
+module _ {ws pairs : List ℕ} (mode : ℕ) {x : Reading Head} where
+  pub own-leaf : {r : OwnScan} {n b : ℕ} → Scanned ws pairs x r → r ≡ Leaf n b → OwnLeaf ws pairs mode x n b
   own-leaf {n = n′} {b = b′} (leaf {h} {n} {b} e k l s) d =
       let f : n′ ≡ n = cc in
       let g : b′ ≡ b = cc in
-      rw (f, g) (record { head = h; read = e; no-kids = k; same-bytes = l; short = s })
+      rw (f, g) (record { head = h; read = e; no-kids = k; same-bytes = l; short = omega (arith, picked (eqb mode 0) b) })
   own-leaf (node e k b m o f s) d = impossible (cc)
   own-leaf (none e) d = impossible (cc)
 
-  pub own-node : {r : OwnScan} {n k b m : ℕ} → Scanned ws pairs x r → r ≡ Node n k b m → OwnNode ws pairs x n k b m
+  pub own-node : {r : OwnScan} {n k b m : ℕ} → Scanned ws pairs x r → r ≡ Node n k b m → OwnNode ws pairs mode x n k b m
   own-node (leaf e k l s) d = impossible (cc)
   own-node {n = n′} {k = k′} {b = b′} {m = m′} (node {h} {n} {k} {b} {m} e i j l o f s) d =
       let en : n′ ≡ n = cc in
       let ek : k′ ≡ k = cc in
       let eb : b′ ≡ b = cc in
       let em : m′ ≡ m = cc in
-      rw (en, ek, eb, em) (record { head = h; read = e; same-kids = i; same-bytes = j; same-below = l; some = o; few = f; short = s })
+      rw (en, ek, eb, em) (record { head = h; read = e; same-kids = i; same-bytes = j; same-below = l; some = o; few = f; short = omega (arith, picked (eqb mode 0) b) })
   own-node (none e) d = impossible (cc)
 
+module _ {ws pairs : List ℕ} {x : Reading Head} where
   pub own-stop : {r : OwnScan} {k : Refusal} → Scanned ws pairs x r → r ≡ NoNode k → x ≡ stop k
   own-stop (leaf e k l s) d = impossible (cc)
   own-stop (node e k b m o f s) d = impossible (cc)
   own-stop {k = k} (none {r} e) d = let f : r ≡ k = cc in rw f at e
-
-pub picked : (s : Bool) (n : ℕ) → pick s 0 n ≤ n
-picked true n = omega arith
-picked false n = omega arith
 
 -- ---- the whole pass
 
@@ -156,12 +157,10 @@ module _ (ws pairs : List ℕ) (text : Bytes) (good : Good pairs text) (levels :
       ∙ rest-down ws pairs text good (64 - (p .depth + 1)) (p .mode) (p .due - 1) (stacked levels (p .depth)) (p .place) (p .bytes) e
 
   -- a head adds no more than its words allow
-  bytes-kept : {n b : ℕ} → p .place < n → b ≤ 2 ^ 46 → p .bytes + pick (eqb (p .mode) 0) 0 b ≤ n * 2 ^ 46
-  bytes-kept {n} {b} l s =
-      let e = picked (eqb (p .mode) 0) b in
-      omega (arith, kept .bytes)
+  bytes-kept : (n b : ℕ) → p .place < n → pick (eqb (p .mode) 0) 0 b ≤ 2 ^ 46 → p .bytes + pick (eqb (p .mode) 0) 0 b ≤ n * 2 ^ 46
+  bytes-kept n b l s = omega (arith, kept .bytes)
 
-  module _ (d : p .depth < 64) {n b : ℕ} (o : OwnLeaf ws pairs (readHead (nameCount pairs) ws (p .place)) n b) where
+  module _ (d : p .depth < 64) {n b : ℕ} (o : OwnLeaf ws pairs (p .mode) (readHead (nameCount pairs) ws (p .place)) n b) where
     lies : HeadLies (nameCount pairs) ws (p .place) (o .head) n
     lies = head-lies (nameCount pairs) ws (p .place) (o .read)
 
@@ -178,7 +177,7 @@ module _ (ws pairs : List ℕ) (text : Bytes) (good : Good pairs text) (levels :
     module _ {q : Pass} (w : Outward levels (beside p n b) q) where
       pub step-past : 0 < q .due → Stepped ws pairs text levels p levels (On q)
       step-past h =
-          let s = bytes-kept (lies .starts) (o .short) in
+          let s = bytes-kept n b (lies .starts) (o .short) in
           on {p′ = q} (record { room = kept .room; place = omega (arith, w .place, lies .ends); bytes = omega (arith, w .place, w .bytes); depth = omega (arith, w .depth); some = h; due = w .due })
           (w .rest ws pairs text ∙ sym head-leaf) (omega (arith, w .place, lies .starts))
 
@@ -186,13 +185,13 @@ module _ (ws pairs : List ℕ) (text : Bytes) (good : Good pairs text) (levels :
       step-ended e z = ended {p′ = q} (head-leaf ∙ sym (w .rest ws pairs text) ∙ rest-none levels q e z ws pairs text)
 
   -- a head with types behind it
-  pub step-under : length ws ≤ 8192 → p .depth < 64 → {n k b m : ℕ} → OwnNode ws pairs (readHead (nameCount pairs) ws (p .place)) n k b m
+  pub step-under : length ws ≤ 8192 → p .depth < 64 → {n k b m : ℕ} → OwnNode ws pairs (p .mode) (readHead (nameCount pairs) ws (p .place)) n k b m
       → {levels′ : List ℕ} {q : Pass} → levels′ ≡ pushed levels p → q ≡ under p n k b m → Stepped ws pairs text levels p levels′ (On q)
   unfolding restOf
   step-under fits d {n} {k} {b} {m} o same-levels same =
       let lies = head-lies (nameCount pairs) ws (p .place) (o .read) in
       rw (same-levels, same) (on {p′ = under p n k b m}
-      (record { room = simp length-set (kept .room); place = lies .ends; bytes = bytes-kept (lies .starts) (o .short); depth = omega arith; some = o .some; due = omega (arith, o .few) })
+      (record { room = simp length-set (kept .room); place = lies .ends; bytes = bytes-kept n b (lies .starts) (o .short); depth = omega arith; some = o .some; due = omega (arith, o .few) })
       (rw (stacked-push levels (p .depth) (levelOf p) (omega (arith, kept .room)), o .same-bytes, o .same-below)
       (rest-cut ws pairs text good (64 - (p .depth + 1)) _ (o .same-kids) _ n _ fits (omega (arith, lies .starts)) (lies .ends) ∙ sym (head-down d (o .head) (o .read)))) (lies .starts))
 

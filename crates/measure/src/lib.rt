@@ -40,17 +40,17 @@ enum OwnScan {
 }
 
 // A pass that has come to `place` with `bytes` of text: `due` types are still to be read at the innermost of `depth` open levels, and `mode` says which of them show:
-// 0 none, inside a synonym's base; 1 all; 2 the next one alone, a synonym's display.
-struct Pass {
-    place: usize,
-    bytes: usize,
-    depth: usize,
-    due: u64,
-    mode: u64,
+// 0 none, inside a synonym's base; 1 all; 2 the next one alone, a synonym's display. The accepting pass is described by it too.
+pub struct Pass {
+    pub place: usize,
+    pub bytes: usize,
+    pub depth: usize,
+    pub due: u64,
+    pub mode: u64,
 }
 
 // What a step comes to: a further pass, the end, or a refusal.
-enum Step {
+pub enum Step {
     On(Pass),
     Ended(Pass),
     Halt(Refusal),
@@ -192,7 +192,7 @@ fn own_path(words: &[u32], pairs: &[u32], bound: usize, at: usize) -> OwnScan
 }
 
 // A count of types, cut down: more than 8,192 of them find no words, so which number it is makes no difference, and a level fits 16 bits.
-fn cut(count: u32) -> u64
+pub fn cut(count: u32) -> u64
     ensures { λ r. ⌜ Counted r count × (r ≤ 8192) ⌝ }
 {
     if 8192 < count {
@@ -318,7 +318,7 @@ fn mode_if(mode: u64, below: u64) -> u64
 }
 
 // How many types are due at a level. A parameter is known to fit its type, an element of a lent array is not.
-fn level_due(level: u16) -> u64
+pub fn level_due(level: u16) -> u64
     ensures { λ r. ⌜ (r ≡ level / 2) × (r < 2 ^ 15) ⌝ }
 {
     (level / 2) as u64
@@ -357,7 +357,7 @@ fn settle(levels: &[u16; 64], pass: Pass) -> Pass
 
 // The pass behind a head that ends at `next` with no type behind it.
 fn past_leaf(pass: Pass, next: usize, bytes: usize) -> Pass
-    requires { ⌜ (0 < pass .due) × (pass .bytes + bytes < 2 ^ 64) ⌝ }
+    requires { ⌜ (0 < pass .due) × (pass .bytes + pick (eqb (pass .mode) 0) 0 bytes < 2 ^ 64) ⌝ }
     ensures { λ r. ⌜ r ≡ beside pass next bytes ⌝ }
 {
     let mode = pass.mode;
@@ -379,7 +379,7 @@ fn enter(
     bytes: usize,
     below: u64,
 ) -> Pass
-    requires { ⌜ (0 < pass .due) × (pass .due ≤ 2 ^ 15) × (pass .depth < 64) × (pass .bytes + bytes < 2 ^ 64) ⌝ }
+    requires { ⌜ (0 < pass .due) × (pass .due ≤ 2 ^ 15) × (pass .depth < 64) × (pass .bytes + pick (eqb (pass .mode) 0) 0 bytes < 2 ^ 64) ⌝ }
     ensures { λ r. ⌜ (r ≡ under pass next kids bytes below) × (now (levels .exit) ≡ pushed (now (levels .entry)) pass) ⌝ }
 {
     let depth = pass.depth;

@@ -20,7 +20,7 @@ past-leaf-requires : tie.Need-past-leaf-requires
 past-leaf-requires c κs =
     let s = c .before .before .before .before .before .before .before .before .before .before in
     let k = s .pre .3 in
-    let o = own-leaf (c .before .before .before .before .scan-own .ensures) (c .before .before .next .given .1) in
+    let o = own-leaf (s .args .pass .mode) (c .before .before .before .before .scan-own .ensures) (c .before .before .next .given .1) in
     (k .some, omega (arith, k .bytes, k .place, o .short, s .pre .2))
 
 settle-requires : tie.Need-settle-requires
@@ -33,7 +33,7 @@ returns-2 c =
     let s = c .before .before .before .before .before .before .before .before .before .before .before .before .before .before in
     let a = s .args in
     let k = s .pre .3 in
-    let o = own-leaf (c .before .before .before .before .before .before .before .before .scan-own .ensures) (c .before .before .before .before .before .before .next .given .1) in
+    let o = own-leaf (s .args .pass .mode) (c .before .before .before .before .before .before .before .before .scan-own .ensures) (c .before .before .before .before .before .before .next .given .1) in
     let w = c .before .before .settle .ensures in
     step-ended (a .words .now) (a .pairs .now) (a .text .now) (s .pre .1) (a .levels .now) (a .pass) k (omega (arith, k .depth, c .before .before .before .before .before .before .before .before .before .if1 .left)) (rw (s .pre .0) at o) (rw (c .before .before .before .past-leaf .ensures) at (w .0)) (c .if2 .taken) (w .1 (c .if2 .taken))
 
@@ -44,7 +44,7 @@ enter-requires : tie.Need-enter-requires
 enter-requires c κs =
     let s = c .before .before .before .before .before .before .before .before .before .before in
     let k = s .pre .3 in
-    let o = own-node (c .before .before .before .before .scan-own .ensures) (c .before .before .next2 .given .1) in
+    let o = own-node (s .args .pass .mode) (c .before .before .before .before .scan-own .ensures) (c .before .before .next2 .given .1) in
     (k .some, k .due, omega (arith, k .depth, c .before .before .before .before .before .if1 .left), omega (arith, k .bytes, k .place, o .short, s .pre .2))
 
 enum-known-r : tie.Need-enum-known-r
@@ -55,7 +55,7 @@ returns-3 c =
     let s = c .before .before .before .before .before .before .before .before .before .before .before .before .before .before in
     let a = s .args in
     let k = s .pre .3 in
-    let o = own-leaf (c .before .before .before .before .before .before .before .before .scan-own .ensures) (c .before .before .before .before .before .before .next .given .1) in
+    let o = own-leaf (s .args .pass .mode) (c .before .before .before .before .before .before .before .before .scan-own .ensures) (c .before .before .before .before .before .before .next .given .1) in
     let w = c .before .before .settle .ensures in
     step-past (a .words .now) (a .pairs .now) (a .text .now) (s .pre .1) (a .levels .now) (a .pass) k (omega (arith, k .depth, c .before .before .before .before .before .before .before .before .before .if1 .left)) (rw (s .pre .0) at o) (rw (c .before .before .before .past-leaf .ensures) at (w .0)) (omega (arith, c .if2 .left))
 
@@ -64,7 +64,7 @@ returns-4 c =
     let s = c .before .before .before .before .before .before .before .before .before .before .before in
     let a = s .args in
     let k = s .pre .3 in
-    let o = own-node (c .before .before .before .before .before .scan-own .ensures) (c .before .before .before .next2 .given .1) in
+    let o = own-node (s .args .pass .mode) (c .before .before .before .before .before .scan-own .ensures) (c .before .before .before .next2 .given .1) in
     step-under (a .words .now) (a .pairs .now) (a .text .now) (s .pre .1) (a .levels .now) (a .pass) k (s .pre .2) (omega (arith, k .depth, c .before .before .before .before .before .before .if1 .left)) (rw (s .pre .0) at o) (c .enter .ensures .1) (c .enter .ensures .0)
 
 returns-5 : tie.Need-returns-5

@@ -1,6 +1,4 @@
 use mathlib.Core.Path.{refl}
-use lib.Dec.{eqb}
-use Rattle.measure.proofs.Steps.{picked}
 use native.Mathlib.Omega.{arith}
 use borrow.Author.Needs.{needs}
 use Rattle.measure.proofs.enter.Statement.{statement}
@@ -28,7 +26,7 @@ bytes-if-requires : tie.Need-bytes-if-requires
 bytes-if-requires c κs = search needs
 
 add-t17 : tie.Need-add-t17
-add-t17 c = omega (arith, c .before .bytes-if .ensures, picked (eqb (c .before .before .before .args .pass .mode) 0) (c .before .before .before .args .bytes))
+add-t17 c = omega (arith, c .before .bytes-if .ensures)
 
 add-t18 : tie.Need-add-t18
 add-t18 c = search needs

@@ -1,5 +1,3 @@
-use lib.Dec.{eqb}
-use Rattle.measure.proofs.Steps.{picked}
 use native.Mathlib.Omega.{arith}
 use borrow.Author.Needs.{needs}
 use Rattle.measure.proofs.past_leaf.Statement.{statement}
@@ -9,7 +7,7 @@ bytes-if-requires : tie.Need-bytes-if-requires
 bytes-if-requires c κs = search needs
 
 add-t6 : tie.Need-add-t6
-add-t6 c = omega (arith, c .before .bytes-if .ensures, picked (eqb (c .before .before .args .pass .mode) 0) (c .before .before .args .bytes))
+add-t6 c = omega (arith, c .before .bytes-if .ensures)
 
 sub-t7 : tie.Need-sub-t7
 sub-t7 c = search needs
