@@ -10,9 +10,9 @@ use Rattle.rast.specs.Bytes.{Bytes, _and_}
 use Rattle.rast.specs.Tree.{Path, Ty}
 use Rattle.rast.specs.DeclarationToString.{Expand}
 use Rattle.encoding.specs.Refusals.{pick, Answer, mapAnswer}
-use Rattle.encoding.specs.Reading.{Reading, got}
+use Rattle.encoding.specs.Reading.{Reading, got, whole}
 use Rattle.encoding.specs.Tables.{nameBytes, nameCount}
-use Rattle.encoding.specs.Types.{typeAt}
+use Rattle.encoding.specs.Types.{readType, typeAt}
 use Rattle.trees.specs.Encode.{encode}
 use Rattle.trees.specs.Renamed.{renamed}
 use Rattle.trees.specs.Numbered.{treeAt, treeOf}
@@ -43,9 +43,17 @@ laidInit bytes t = record {
   deep = depth (TypeAtInitialization bytes t);
 }
 
+-- the type that fills the words, as it stands at initialization; the tables hold
+unfoldable pub wholeInitialized : List ℕ → List ℕ → Bytes → Answer Laid
+wholeInitialized words pairs text = mapAnswer (laidInit (nameBytes pairs text)) (whole (length words) (treeAt words pairs 0))
+
 -- the type that an encoding holds, as it stands at initialization
 unfoldable pub typeInitialized : List ℕ → List ℕ → Bytes → Answer Laid
 typeInitialized words pairs text = mapAnswer (laidInit (nameBytes pairs text)) (treeOf words pairs text)
+
+-- the type at the front, if it is at most `deep` types deep
+abbrev pub typeWithin : ℕ → List ℕ → List ℕ → Bytes → Reading (Ty Bytes)
+typeWithin deep words pairs text = readType (nameCount pairs) words (nameBytes pairs text) deep 0
 
 -- ---- the pieces
 

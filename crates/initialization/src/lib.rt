@@ -1,20 +1,22 @@
 // The type at initialization, into a lent buffer of words: under a pointer, an array's elements become `MaybeUninit`.
 ghost use mathlib.Core.Path.{_≡_};
-ghost use Prim.Native.Nat.{_+_, _-_, _≤_};
+ghost use Prim.Native.Nat.{_+_, _-_, _≤_, _<_};
 ghost use lib.Dec.{ltb};
 ghost use lib.ListN.{length};
 ghost use lib.Seq.{sets};
-ghost use Rattle.encoding.specs.Reading.{mapReading};
+ghost use Rattle.encoding.specs.Reading.{mapReading, whole};
 ghost use Rattle.encoding.specs.Tables.{Good, nameBytes};
 ghost use Rattle.encoding.specs.Types.{typeAt};
 ghost use Rattle.trees.specs.Numbered.{treeAt};
 ghost use Rattle.writing.specs.Written.{Readable};
 ghost use Rattle.rules.specs.Scans.{depthOf};
+ghost use Rattle.shapes.specs.Asked.{acceptance};
 ghost use Rattle.shapes.specs.Initialization.{newUnderlying};
 ghost use Rattle.rebuild.specs.Calls.{laidDown, Fills};
 ghost use Rattle.initialization.specs.declared.Initial.the-variants.{OfArray};
 ghost use Rattle.initialization.specs.declared.Pointer.the-variants.{To};
-ghost use Rattle.initialization.specs.Initialized.{laidInit, typeInitialized, initialWords, newArray, nameAt, Becomes, Named, OfRuntime, Points, Shallow, Whole};
+ghost use Rattle.initialization.specs.Initialized.{laidInit, wholeInitialized, typeInitialized, typeWithin, initialWords, newArray, nameAt, Becomes, Named, OfRuntime, Points, Shallow, Whole};
+use acceptance::Acceptance;
 use classes::Class;
 use classes::Found;
 use encoding::Check;
@@ -230,6 +232,49 @@ fn initialize(
     }
 }
 
+// Whether a type fills the words that is less deep than it may be, by `inside` types.
+fn accept_within(words: &[u32], pairs: &[u32], text: &[u8], inside: usize) -> Check
+    requires { ⌜ Good (now pairs) (now text) × (length (now words) ≤ 8192) × (inside < 64) ⌝ }
+    ensures { λ r. ⌜ r ≡ acceptance (whole (length (now (words .entry))) (typeWithin (64 - inside) (now (words .entry)) (now (pairs .entry)) (now (text .entry)))) ⌝ }
+{
+    match acceptance::accept_type(words, pairs, text, 0, inside) {
+        Acceptance::Accepted(next) => {
+            if next != words.len() {
+                return Check::Failed(Refusal::LeftOver);
+            }
+            Check::Passed
+        }
+        Acceptance::Denied(r) => Check::Failed(r),
+    }
+}
+
+// The tables hold, and the type may be as deep as any, if there is one.
+fn initialize_deepest(words: &[u32], pairs: &[u32], text: &[u8], out: &mut [u32]) -> RebuildAnswer
+    requires { ⌜ Good (now pairs) (now text) × (length (now words) ≤ 8192) ⌝ }
+    ensures { λ r. ⌜ (r, now (out .exit)) ≡ laidDown (now (out .entry)) (wholeInitialized (now (words .entry)) (now (pairs .entry)) (now (text .entry))) ⌝ }
+{
+    match accept_within(words, pairs, text, 0) {
+        Check::Passed => initialize(words, pairs, text, true, out),
+        Check::Failed(r) => RebuildAnswer::Refused(r),
+    }
+}
+
+// The tables hold. A type that is less deep than it may be is not too deep with one `MaybeUninit` more, so most types are gone through once.
+fn accept_and_initialize(
+    words: &[u32],
+    pairs: &[u32],
+    text: &[u8],
+    out: &mut [u32],
+) -> RebuildAnswer
+    requires { ⌜ Good (now pairs) (now text) × (length (now words) ≤ 8192) ⌝ }
+    ensures { λ r. ⌜ (r, now (out .exit)) ≡ laidDown (now (out .entry)) (wholeInitialized (now (words .entry)) (now (pairs .entry)) (now (text .entry))) ⌝ }
+{
+    match accept_within(words, pairs, text, 1) {
+        Check::Passed => initialize(words, pairs, text, false, out),
+        Check::Failed(_) => initialize_deepest(words, pairs, text, out),
+    }
+}
+
 // The type that an encoding holds, as it stands at initialization: `TypeAtInitialization`. Its words fill the front of `out`.
 pub fn type_at_initialization(
     words: &[u32],
@@ -239,8 +284,8 @@ pub fn type_at_initialization(
 ) -> RebuildAnswer
     ensures { λ r. ⌜ (r, now (out .exit)) ≡ laidDown (now (out .entry)) (typeInitialized (now (words .entry)) (now (pairs .entry)) (now (text .entry))) ⌝ }
 {
-    match shapes::accept(words, pairs, text) {
-        Check::Passed => initialize(words, pairs, text, true, out),
+    match encoding::check_tables(words, pairs, text) {
+        Check::Passed => accept_and_initialize(words, pairs, text, out),
         Check::Failed(r) => RebuildAnswer::Refused(r),
     }
 }

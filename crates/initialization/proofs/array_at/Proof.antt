@@ -6,88 +6,67 @@ use Rattle.initialization.proofs.Changes.{new-no-part, new-part, new-si
 use borrow.Author.Needs.{needs}
 use Rattle.initialization.proofs.array_at.Statement.{statement}
 use Rattle.initialization.proofs.array_at.Tie as tie
-use Rattle.initialization.proofs.array_at.Reads as reads
-use Rattle.initialization.proofs.array_at.Lts as lts
-use Rattle.classes.proofs.first_argument.Reads as first-argument-reads
-use Rattle.wrappers.proofs.expand.Reads as expand-reads
 
--- src/lib.rt:117:8
 mul-if1 : tie.Need-mul-if1
 mul-if1 c = let s = c .before .before .before in let a = s .args in let h = tree-here (a .words .now) (a .pairs .now) (a .at) (s .pre .1 .reads) in search needs
 
--- src/lib.rt:117:8
 shared-slice-read-if1 : tie.Need-shared-slice-read-if1
 shared-slice-read-if1 c = let s = c .before .before .before .before in let a = s .args in tree-here (a .words .now) (a .pairs .now) (a .at) (s .pre .1 .reads)
 
--- src/lib.rt:118:18
 add-if2 : tie.Need-add-if2
 add-if2 c = let s = c .before .before .before .before .before in let a = s .args in let h = size-here (a .words .now) (a .pairs .now) (a .text .now) (a .at) (s .pre .1) (c .if1 .taken) in search needs
 
--- src/lib.rt:118:12
 mul-if2 : tie.Need-mul-if2
 mul-if2 c = let s = c .before .before .before .before .before in let a = s .args in let h = size-here (a .words .now) (a .pairs .now) (a .text .now) (a .at) (s .pre .1) (c .if1 .taken) in search needs
 
--- src/lib.rt:118:12
 shared-slice-read-if2 : tie.Need-shared-slice-read-if2
 shared-slice-read-if2 c = let s = c .before .before .before .before .before .before in let a = s .args in size-here (a .words .now) (a .pairs .now) (a .text .now) (a .at) (s .pre .1) (c .before .if1 .taken)
 
--- src/lib.rt:121:26
 add-t16 : tie.Need-add-t16
 add-t16 c = let s = c .before .before .before .before .before .before .before in let a = s .args in let h = size-here (a .words .now) (a .pairs .now) (a .text .now) (a .at) (s .pre .1) (c .before .before .if1 .taken) in search needs
 
--- src/lib.rt:119:13
 returns : tie.Need-returns
 returns c = let s = c .before .before .before .before .before .before .before in let a = s .args in new-unsized (a .words .now) (a .pairs .now) (a .text .now) (a .at) (s .pre .1) (c .before .before .if1 .taken) (c .if2 .taken)
 
--- src/lib.rt:124:9
 returns-2 : tie.Need-returns-2
 returns-2 c = let s = c .before .before .before .before .before .before .before in let a = s .args in new-sized (a .words .now) (a .pairs .now) (a .text .now) (a .at) (s .pre .1) (c .before .before .if1 .taken) (c .if2 .left)
 
--- src/lib.rt:126:9
 expand-requires : tie.Need-expand-requires
 expand-requires c κs = let s = c .before .before .before .before .before in let a = s .args in type-readable (a .words .now) (a .pairs .now) (a .text .now) (a .at) (s .pre .1)
 
--- src/lib.rt:127:8
 mul-if3 : tie.Need-mul-if3
 mul-if3 c =
     let s = c .before .before .before .before .before .before in let a = s .args in
     let r = expands-readable (a .words .now) (a .pairs .now) (a .text .now) (a .at) _ (c .expand .ensures) (type-readable (a .words .now) (a .pairs .now) (a .text .now) (a .at) (s .pre .1)) in
     let h = word-here (a .words .now) (a .pairs .now) (a .text .now) _ r in search needs
 
--- src/lib.rt:127:8
 shared-slice-read-if3 : tie.Need-shared-slice-read-if3
 shared-slice-read-if3 c =
     let s = c .before .before .before .before .before .before .before in let a = s .args in
     let r = expands-readable (a .words .now) (a .pairs .now) (a .text .now) (a .at) _ (c .before .expand .ensures) (type-readable (a .words .now) (a .pairs .now) (a .text .now) (a .at) (s .pre .1)) in
     word-here (a .words .now) (a .pairs .now) (a .text .now) _ r
 
--- src/lib.rt:128:9
 returns-3 : tie.Need-returns-3
 returns-3 c =
     let s = c .before .before .before .before .before .before .before .before in let a = s .args in
     new-no-part (a .words .now) (a .pairs .now) (a .text .now) (a .at) (s .pre .1) (c .before .before .before .if1 .left) _ (c .before .before .expand .ensures) (no-application (a .words .now) (a .pairs .now) (a .text .now) _ (c .if3 .taken)) refl
 
--- src/lib.rt:130:30
 first-argument-requires : tie.Need-first-argument-requires
 first-argument-requires c κs =
     let s = c .before .before .before .before .before .before .before .before in let a = s .args in
     (s .pre .0, expands-readable (a .words .now) (a .pairs .now) (a .text .now) (a .at) _ (c .before .before .expand .ensures) (type-readable (a .words .now) (a .pairs .now) (a .text .now) (a .at) (s .pre .1)))
 
--- src/lib.rt:130:19
 enum-known-element : tie.Need-enum-known-element
 enum-known-element c = search needs
 
--- src/lib.rt:132:9
 enum-told : tie.Need-enum-told
 enum-told c = search needs
 
--- src/lib.rt:132:9
 returns-4 : tie.Need-returns-4
 returns-4 c =
     let s = c .before .before .before .before .before .before .before .before .before .before .before in let a = s .args in
     new-no-part (a .words .now) (a .pairs .now) (a .text .now) (a .at) (s .pre .1) (c .before .before .before .before .before .before .if1 .left) _ (c .before .before .before .before .before .expand .ensures) (c .before .before .first-argument .ensures) (c .enum-told .given .1)
 
--- src/lib.rt:113:1
 returns-5 : tie.Need-returns-5
 returns-5 c =
     let s = c .before .before .before .before .before .before .before .before .before .before .before .before in let a = s .args in

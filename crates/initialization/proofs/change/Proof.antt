@@ -5,74 +5,55 @@ use Rattle.initialization.proofs.Filling.{change-deep, change-front, ch
 use borrow.Author.Needs.{needs}
 use Rattle.initialization.proofs.change.Statement.{statement}
 use Rattle.initialization.proofs.change.Tie as tie
-use Rattle.initialization.proofs.change.Reads as reads
-use Rattle.initialization.proofs.change.Lts as lts
-use Rattle.initialization.proofs.is_too_deep.Reads as is-too-deep-reads
-use Rattle.initialization.proofs.write_array.Reads as write-array-reads
-use Rattle.rebuild.proofs.clear.Reads as clear-reads
-use Rattle.rebuild.proofs.room_of.Reads as room-of-reads
 
--- src/lib.rt:180:23
 sub-count : tie.Need-sub-count
 sub-count c =
     let s = c .before .before .before .before in let a = s .args in
     let k = changes (a .words .now) (a .pairs .now) (a .text .now) (s .pre .1) (s .pre .3) in omega (arith, k .own, k .inner)
 
--- src/lib.rt:180:17
 add-count : tie.Need-add-count
 add-count c = search needs
 
--- src/lib.rt:181:8
 room-of-requires : tie.Need-room-of-requires
 room-of-requires c κs = search needs
 
--- src/lib.rt:182:9
 clear-requires : tie.Need-clear-requires
 clear-requires c κs = search needs
 
--- src/lib.rt:183:9
 same-length : tie.Need-same-length
 same-length c = search needs
 
--- src/lib.rt:183:9
 returns : tie.Need-returns
 returns c =
     let s = c .before .before .before .before .before .before .before .before .before .before in let a = s .args in
     let k = changes (a .words .now) (a .pairs .now) (a .text .now) (s .pre .1) (s .pre .3) in
     change-over (a .words .now) (a .pairs .now) (a .text .now) k (a .out .now) refl (omega (arith, c .before .before .before .before .before .room-of .ensures, c .before .before .before .before .if1 .taken)) (c .before .before .clear .ensures)
 
--- src/lib.rt:185:8
 is-too-deep-requires : tie.Need-is-too-deep-requires
 is-too-deep-requires c κs =
     let s = c .before .before .before .before .before .before in let a = s .args in element-shallow (a .words .now) (a .pairs .now) (a .text .now) (s .pre .1) (s .pre .3)
 
--- src/lib.rt:186:9
 clear-requires-2 : tie.Need-clear-requires-2
 clear-requires-2 c κs = search needs
 
--- src/lib.rt:187:9
 same-length-2 : tie.Need-same-length-2
 same-length-2 c = search needs
 
--- src/lib.rt:187:9
 returns-2 : tie.Need-returns-2
 returns-2 c =
     let s = c .before .before .before .before .before .before .before .before .before .before .before .before in let a = s .args in
     let k = changes (a .words .now) (a .pairs .now) (a .text .now) (s .pre .1) (s .pre .3) in
     change-deep (a .words .now) (a .pairs .now) (a .text .now) k (a .out .now) refl (omega (arith, c .before .before .before .before .before .before .before .room-of .ensures, c .before .before .before .before .before .before .if1 .left)) (ltb-true 61 _ (sym (c .before .before .before .before .before .is-too-deep .ensures) ∙ c .before .before .before .before .if2 .taken)) (c .before .before .clear2 .ensures)
 
--- src/lib.rt:189:5
 write-array-requires : tie.Need-write-array-requires
 write-array-requires c κs =
     let s = c .before .before .before .before .before .before .before .before .before in let a = s .args in
     let k = changes (a .words .now) (a .pairs .now) (a .text .now) (s .pre .1) (s .pre .3) in
     (k .own, k .inner, omega arith, omega (arith, c .before .before .before .before .room-of .ensures, c .before .before .before .if1 .left))
 
--- src/lib.rt:165:1
 same-length-3 : tie.Need-same-length-3
 same-length-3 c = search needs
 
--- src/lib.rt:165:1
 returns-3 : tie.Need-returns-3
 returns-3 c =
     let s = c .before .before .before .before .before .before .before .before .before .before .before .before in let a = s .args in

@@ -9,87 +9,65 @@ use Rattle.initialization.proofs.Changes.{type-readable}
 use borrow.Author.Needs.{needs}
 use Rattle.initialization.proofs.find_pointer.Statement.{statement}
 use Rattle.initialization.proofs.find_pointer.Tie as tie
-use Rattle.initialization.proofs.find_pointer.Reads as reads
-use Rattle.initialization.proofs.find_pointer.Lts as lts
-use Rattle.encoding.proofs.is_name.Reads as is-name-reads
-use Rattle.initialization.proofs.is_of_runtime.Reads as is-of-runtime-reads
-use Rattle.initialization.proofs.object_name.Reads as object-name-reads
-use Rattle.wrappers.proofs.expand.Reads as expand-reads
 
--- src/lib.rt:84:9
 expand-requires : tie.Need-expand-requires
 expand-requires c κs =
     let s = c .before .before .before in let a = s .args in type-readable (a .words .now) (a .pairs .now) (a .text .now) 0 (s .pre .1)
 
--- src/lib.rt:85:9
 is-of-runtime-requires : tie.Need-is-of-runtime-requires
 is-of-runtime-requires c κs =
     let s = c .before .before .before .before in let a = s .args in
     (s .pre .0, expands-readable (a .words .now) (a .pairs .now) (a .text .now) 0 _ (c .expand .ensures) (type-readable (a .words .now) (a .pairs .now) (a .text .now) 0 (s .pre .1)))
 
--- src/lib.rt:86:9
 returns : tie.Need-returns
 returns c =
     let s = c .before .before .before .before .before .before in let a = s .args in
     none-here (a .words .now) (a .pairs .now) (a .text .now) (s .pre .1) _ (c .before .before .expand .ensures) (c .before .is-of-runtime .ensures) (not-true _ (c .if1 .taken))
 
--- src/lib.rt:88:24
 add-member : tie.Need-add-member
 add-member c = let h = c .before .is-of-runtime .ensures .inside (not-false _ (c .if1 .left)) in search needs
 
--- src/lib.rt:88:18
 mul-member : tie.Need-mul-member
 mul-member c = let h = c .before .is-of-runtime .ensures .inside (not-false _ (c .if1 .left)) in search needs
 
--- src/lib.rt:88:18
 shared-slice-read-member : tie.Need-shared-slice-read-member
 shared-slice-read-member c = c .before .before .is-of-runtime .ensures .inside (not-false _ (c .before .if1 .left))
 
--- src/lib.rt:89:55
 slice-aggregate-is-name : tie.Need-slice-aggregate-is-name
 slice-aggregate-is-name c = search needs
 
--- src/lib.rt:89:8
 is-name-requires : tie.Need-is-name-requires
 unfolding ascii fixedNames
 is-name-requires c κs = (c .before .before .before .is-of-runtime .ensures .below (not-false _ (c .before .before .if1 .left)), c .before .before .before .before .before .before .before .before .pre .0, omega arith, refl)
 
--- src/lib.rt:91:19
 object-name-requires : tie.Need-object-name-requires
 object-name-requires c κs = search needs
 
--- src/lib.rt:92:17
 add-t18 : tie.Need-add-t18
 add-t18 c = let h = c .before .before .before .before .before .before .is-of-runtime .ensures .inside (not-false _ (c .before .before .before .before .before .if1 .left)) in search needs
 
--- src/lib.rt:90:9
 returns-2 : tie.Need-returns-2
 unfolding fixedNames
 returns-2 c =
     let s = c .before .before .before .before .before .before .before .before .before .before .before in let a = s .args in
     object-here (a .words .now) (a .pairs .now) (a .text .now) (s .pre .1) _ (c .before .before .before .before .before .before .before .expand .ensures) (c .before .before .before .before .before .before .is-of-runtime .ensures) (not-false _ (c .before .before .before .before .before .if1 .left)) (sym (c .before .before .is-name .ensures) ∙ c .before .if2 .taken) (c .object-name .ensures)
 
--- src/lib.rt:95:52
 slice-aggregate-is-name-2 : tie.Need-slice-aggregate-is-name-2
 slice-aggregate-is-name-2 c = search needs
 
--- src/lib.rt:95:8
 is-name-requires-2 : tie.Need-is-name-requires-2
 unfolding ascii fixedNames
 is-name-requires-2 c κs = (c .before .before .before .before .before .before .is-of-runtime .ensures .below (not-false _ (c .before .before .before .before .before .if1 .left)), c .before .before .before .before .before .before .before .before .before .before .before .pre .0, omega arith, refl)
 
--- src/lib.rt:98:17
 add-t22 : tie.Need-add-t22
 add-t22 c = let h = c .before .before .before .before .before .before .before .before .is-of-runtime .ensures .inside (not-false _ (c .before .before .before .before .before .before .before .if1 .left)) in search needs
 
--- src/lib.rt:96:9
 returns-3 : tie.Need-returns-3
 unfolding fixedNames
 returns-3 c =
     let s = c .before .before .before .before .before .before .before .before .before .before .before .before .before in let a = s .args in
     pointer-here (a .words .now) (a .pairs .now) (a .text .now) (s .pre .1) _ (c .before .before .before .before .before .before .before .before .before .expand .ensures) (c .before .before .before .before .before .before .before .before .is-of-runtime .ensures) (not-false _ (c .before .before .before .before .before .before .before .if1 .left)) (sym (c .before .before .before .before .is-name .ensures) ∙ c .before .before .before .if2 .left) (sym (c .before .is-name2 .ensures) ∙ c .if3 .taken)
 
--- src/lib.rt:80:1
 returns-4 : tie.Need-returns-4
 unfolding fixedNames
 returns-4 c =

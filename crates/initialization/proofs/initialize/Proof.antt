@@ -5,47 +5,33 @@ use Rattle.initialization.proofs.Changes.{no-pointer}
 use borrow.Author.Needs.{needs}
 use Rattle.initialization.proofs.initialize.Statement.{statement}
 use Rattle.initialization.proofs.initialize.Tie as tie
-use Rattle.initialization.proofs.initialize.Reads as reads
-use Rattle.initialization.proofs.initialize.Lts as lts
-use Rattle.initialization.proofs.find_pointer.Reads as find-pointer-reads
-use Rattle.initialization.proofs.initialize_under.Reads as initialize-under-reads
-use Rattle.rebuild.proofs.copy_unaltered.Reads as copy-unaltered-reads
 
--- src/lib.rt:227:11
 find-pointer-requires : tie.Need-find-pointer-requires
 find-pointer-requires c κs = search needs
 
--- src/lib.rt:228:23
 enum-known-name : tie.Need-enum-known-name
 enum-known-name c = search needs
 
--- src/lib.rt:229:13
 initialize-under-requires : tie.Need-initialize-under-requires
 initialize-under-requires c κs =
     let s = c .before .before .before .before .before .before .before .before .before in let a = s .args in
     (s .pre .0, s .pre .1, s .pre .2, subst (Points (a .words .now) (a .pairs .now) (a .text .now)) (c .before .before .name .given .1) (c .before .before .before .before .find-pointer .ensures))
 
--- src/lib.rt:231:62
 enum-told : tie.Need-enum-told
 enum-told c = search needs
 
--- src/lib.rt:231:31
 copy-unaltered-requires : tie.Need-copy-unaltered-requires
 copy-unaltered-requires c κs = search needs
 
--- src/lib.rt:217:1
 same-length : tie.Need-same-length
 same-length c = search needs
 
--- src/lib.rt:217:1
 returns : tie.Need-returns
 returns c = search needs
 
--- src/lib.rt:217:1
 same-length-2 : tie.Need-same-length-2
 same-length-2 c = search needs
 
--- src/lib.rt:217:1
 returns-2 : tie.Need-returns-2
 unfolding partOf
 returns-2 c =

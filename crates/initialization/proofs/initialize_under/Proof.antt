@@ -7,24 +7,16 @@ use Rattle.initialization.proofs.Changes.{pointed-becomes, pointed-read
 use borrow.Author.Needs.{needs}
 use Rattle.initialization.proofs.initialize_under.Statement.{statement}
 use Rattle.initialization.proofs.initialize_under.Tie as tie
-use Rattle.initialization.proofs.initialize_under.Reads as reads
-use Rattle.initialization.proofs.initialize_under.Lts as lts
-use Rattle.initialization.proofs.array_at.Reads as array-at-reads
-use Rattle.initialization.proofs.change.Reads as change-reads
-use Rattle.rebuild.proofs.copy_unaltered.Reads as copy-unaltered-reads
 
--- src/lib.rt:208:11
 array-at-requires : tie.Need-array-at-requires
 unfolding partOf
 array-at-requires c κs =
     let s = c .before .before .before .before in let a = s .args in
     (s .pre .0, pointed-readable (a .words .now) (a .pairs .now) (a .text .now) (whole-readable (s .pre .2)) (s .pre .3 .part) refl)
 
--- src/lib.rt:209:28
 enum-known-start : tie.Need-enum-known-start
 enum-known-start c = search needs
 
--- src/lib.rt:210:13
 change-requires : tie.Need-change-requires
 unfolding partOf
 change-requires c κs =
@@ -32,27 +24,21 @@ change-requires c κs =
     let b = subst (Becomes (newUnderlying (nameBytes (a .pairs .now) (a .text .now))) 1 (a .words .now) (a .pairs .now) (a .at)) (c .before .before .start .given .1) (c .before .before .before .before .array-at .ensures) in
     (s .pre .1, s .pre .2, s .pre .3 .name (a .name) (a .at) refl, pointed-becomes (a .words .now) (a .pairs .now) (a .text .now) (whole-readable (s .pre .2)) (s .pre .3 .part) refl b)
 
--- src/lib.rt:212:62
 enum-told : tie.Need-enum-told
 enum-told c = search needs
 
--- src/lib.rt:212:31
 copy-unaltered-requires : tie.Need-copy-unaltered-requires
 copy-unaltered-requires c κs = search needs
 
--- src/lib.rt:196:1
 same-length : tie.Need-same-length
 same-length c = search needs
 
--- src/lib.rt:196:1
 returns : tie.Need-returns
 returns c = search needs
 
--- src/lib.rt:196:1
 same-length-2 : tie.Need-same-length-2
 same-length-2 c = search needs
 
--- src/lib.rt:196:1
 returns-2 : tie.Need-returns-2
 unfolding partOf
 returns-2 c =

@@ -1,29 +1,22 @@
 use mathlib.Core.Path.{ap}
 use lib.Dec.{ltb}
-use borrow.Author.Tests.{not-false, not-true}
+use borrow.Author.Tests.{not-true}
 use Rattle.initialization.proofs.Filling.{element-spans, element-within}
 use borrow.Author.Needs.{needs}
 use Rattle.initialization.proofs.is_too_deep.Statement.{statement}
 use Rattle.initialization.proofs.is_too_deep.Tie as tie
-use Rattle.initialization.proofs.is_too_deep.Reads as reads
-use Rattle.initialization.proofs.is_too_deep.Lts as lts
-use Rattle.rules.proofs.depth_in.Reads as depth-in-reads
 
--- src/lib.rt:159:9
 returns : tie.Need-returns
 returns c =
     let s = c .before .before .before in let a = s .args in element-within (a .words .now) (a .pairs .now) (a .element) (s .pre) (not-true _ (c .if1 .taken))
 
--- src/lib.rt:161:49
 sub-depth-in : tie.Need-sub-depth-in
 sub-depth-in c = search needs
 
--- src/lib.rt:161:10
 depth-in-requires : tie.Need-depth-in-requires
 depth-in-requires c κs =
     let s = c .before .before .before in let a = s .args in (s .pre .inside, element-spans (a .words .now) (a .pairs .now) (a .element) (s .pre))
 
--- src/lib.rt:154:1
 returns-2 : tie.Need-returns-2
 returns-2 c = ap (ltb 61) (c .depth-in .ensures)
 

@@ -3,15 +3,11 @@ use Rattle.initialization.specs.Initialized.{nameAt}
 use borrow.Author.Tests.{eq-eqb, ne-eqb}
 use Rattle.initialization.proofs.object_name.Statement.{statement}
 use Rattle.initialization.proofs.object_name.Tie as tie
-use Rattle.initialization.proofs.object_name.Reads as reads
-use Rattle.initialization.proofs.object_name.Lts as lts
 
--- src/lib.rt:74:9
 returns : tie.Need-returns
 unfolding nameAt
 returns c = rw (eq-eqb _ 0 (c .if1 .taken)) refl
 
--- src/lib.rt:70:1
 returns-2 : tie.Need-returns-2
 unfolding nameAt
 returns-2 c = rw (ne-eqb _ 0 (c .if1 .left)) refl
