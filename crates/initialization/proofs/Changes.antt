@@ -11,7 +11,6 @@ use lib.ListN.{length, getD, take, drop}
 use Rattle.rast.specs.Bytes.{Bytes, _and_, _or_}
 use Rattle.rast.specs.Tree.{Path, Global, PMemberSelect, Ty, Tys, Primitive, TIdentifier, TypeFromPath, TypeApp, Borrowed, BorrowedMut, ImplType, DynType, TupleType, FnType, IntersectionType, Array, TSynonym, TMetaData, nil, cons}
 use Rattle.rast.specs.DeclarationToString.{Expand}
-use Rattle.encoding.specs.Refusals.{pick}
 use Rattle.encoding.specs.Reading.{got, mapReading}
 use Rattle.encoding.specs.Tables.{nameBytes}
 use Rattle.encoding.specs.Types.{sizeOf, typeAt}

@@ -16,7 +16,7 @@ use Rattle.encoding.specs.declared.Refusal.{Refusal}
 use Rattle.encoding.specs.declared.Refusal.the-variants.{LeftOver, TooDeep, BufferTooShort}
 use Rattle.encoding.specs.declared.Check.{Check}
 use Rattle.encoding.specs.declared.Check.the-variants.{Passed, Failed}
-use Rattle.encoding.specs.Refusals.{pick, Answer, given, refused, mapAnswer, unless}
+use Rattle.encoding.specs.Refusals.{pick, given, refused, mapAnswer, unless}
 use Rattle.encoding.specs.Reading.{Reading, got, stop, mapReading, whole}
 use Rattle.encoding.specs.Tables.{nameBytes, nameCount, checkTables}
 use Rattle.encoding.specs.Heads.{readHead}

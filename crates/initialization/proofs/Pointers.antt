@@ -1,15 +1,14 @@
 -- The pointer that a type is, by the words that stand there, and its name.
-use Prim.Native.Nat.{ℕ, _+_, _≤_, _<_}
+use Prim.Native.Nat.{ℕ, _+_, _≤_}
 use mathlib.Core.Path.{_≡_, refl, ap, sym, _∙_}
 use mathlib.Core.Bool.{Bool, true, false}
 use mathlib.Core.List.{List}
-use mathlib.Core.Option.{Option}
 use native.Mathlib.Omega.{arith}
-use borrow.Author.Tests.{eq-eqb, ne-eqb}
+use borrow.Author.Tests.{ne-eqb}
 use lib.Dec.{eqb}
-use lib.ListN.{length, getD}
+use lib.ListN.{getD}
 use Rattle.rast.specs.Bytes.{Bytes, ascii, same, _and_, _or_}
-use Rattle.rast.specs.Tree.{Path, Ty, Tys, Primitive, TIdentifier, TypeFromPath, TypeApp, Borrowed, BorrowedMut, ImplType, DynType, TupleType, FnType, IntersectionType, Array, TSynonym, TMetaData, nil, cons}
+use Rattle.rast.specs.Tree.{Ty, Tys, Primitive, TIdentifier, TypeFromPath, TypeApp, Borrowed, BorrowedMut, ImplType, DynType, TupleType, FnType, IntersectionType, Array, TSynonym, TMetaData, nil, cons}
 use Rattle.rast.specs.DeclarationToString.{Expand}
 use Rattle.encoding.specs.declared.PathAt.{PathAt}
 use Rattle.encoding.specs.Heads.{InsidePath}
@@ -20,10 +19,9 @@ use Rattle.encoding.specs.Types.{pathOf, typeAt}
 use Rattle.encoding.proofs.Tables.{impossible}
 use Rattle.encoding.proofs.Names.{and-false}
 use Rattle.writing.specs.Written.{Readable}
-use Rattle.writing.proofs.Accepted.{path-there}
 use Rattle.trees.specs.Encode.{count, words}
 use Rattle.trees.specs.Numbered.{treeAt}
-use Rattle.trees.specs.Places.{Place, place}
+use Rattle.trees.specs.Places.{place}
 use Rattle.trees.specs.Renamed.{renamed}
 use Rattle.trees.proofs.Nodes.{types-count}
 use Rattle.trees.proofs.Renaming.{type-words}
@@ -31,20 +29,19 @@ use Rattle.wrappers.specs.Asked.{Judges, ExpandsAt}
 use Rattle.wrappers.proofs.TypesIn.{apply-of}
 use Rattle.classes.specs.declared.Class.{Class}
 use Rattle.classes.specs.declared.Class.the-variants.{ObjectClass, PtrClass}
-use Rattle.classes.specs.declared.Found.the-variants.{At, NoPart}
+use Rattle.classes.specs.declared.Found.the-variants.{At}
 use Rattle.classes.specs.Asked.{InRuntime, found, Finds}
 use Rattle.classes.specs.Classes.{inClass, memberIn, arity, isOf}
-use Rattle.classes.specs.Matches.{onPath, applied}
-use Rattle.classes.specs.Paths.{runtimeMember}
+use Rattle.classes.specs.Matches.{applied}
 use Rattle.classes.specs.Steps.{when, typeAtIndex, argumentAt, argumentOf}
 use Rattle.classes.proofs.Paths.{class-object, class-pointer}
 use Rattle.classes.proofs.Worded.{word-other, count-other, base-word-other, path-word, path-here}
 use Rattle.shapes.specs.Parts.{expandedAt, expanded, ObjectOrPointerUnderlying}
-use Rattle.shapes.specs.Shapes.{IsObject, IsPointer, IsObjectOrPointer}
+use Rattle.shapes.specs.Shapes.{IsObject, IsObjectOrPointer}
 use Rattle.shapes.proofs.Pointers.{expanded-tree, pointer-is}
 use Rattle.initialization.specs.declared.Pointer.{Pointer}
 use Rattle.initialization.specs.declared.Pointer.the-variants.{To, NoPointer}
-use Rattle.initialization.specs.Initialized.{Named, nameAt, Member, OfRuntime, partOf, Points}
+use Rattle.initialization.specs.Initialized.{nameAt, Member, OfRuntime, partOf, Points}
 use Rattle.initialization.proofs.Changes.{type-read, expanded-place}
 
 -- ---- members of `dafny_runtime`
