@@ -252,11 +252,11 @@ pub fn are_apart(
         (take count (drop start (now (a .entry)))) (take count (drop from (now (b .entry)))) ≡ false) ⌝ }
 {
     let k = equal_front(a, start, b, from, count);
-    if k == count {
-        return false;
-    }
     if numbers_apart(a, start + k, b, from + k, count - k) {
         return true;
+    }
+    if k == count {
+        return false;
     }
     !may_agree(pairs, text, a[start + k], b[from + k])
 }

@@ -1,4 +1,3 @@
-use Prim.Native.Nat.{_+_, _-_}
 use native.Mathlib.Omega.{arith}
 use mathlib.Core.Path.{_∙_, sym}
 use borrow.Author.Tests.{not-true}
@@ -7,15 +6,13 @@ use Rattle.encoding.specs.Tables.{nameBytes}
 use Rattle.comparison.specs.declared.Due.the-variants.{Kind}
 use Rattle.comparison.proofs.Steps.{runs-later, runs-stop}
 use Rattle.comparison.proofs.Looks.{may-not, told-apart}
+use Prim.Native.Nat.{_+_, _-_}
 use borrow.Author.Needs.{needs}
 use Rattle.comparison.proofs.are_apart.Statement.{statement}
 use Rattle.comparison.proofs.are_apart.Tie as tie
 
 equal-front-requires : tie.Need-equal-front-requires
 equal-front-requires c κs = search needs
-
-returns : tie.Need-returns
-returns c = λ e. impossible (cc)
 
 add-numbers-apart : tie.Need-add-numbers-apart
 add-numbers-apart c = search needs
@@ -29,11 +26,14 @@ sub-numbers-apart c = search needs
 numbers-apart-requires : tie.Need-numbers-apart-requires
 numbers-apart-requires c κs = search needs
 
+returns : tie.Need-returns
+returns c = λ e.
+    let s = c .before .before .before .before .before .before .before in let a = s .args in let k = c .before .before .equal-front .result in
+    runs-later (nameBytes (a .pairs .now) (a .text .now)) (a .a .now) (a .b .now) k (a .start) (a .from) (a .count) (c .before .before .equal-front .ensures) (s .pre .1) (s .pre .2)
+    (λ due. told-apart (a .pairs .now) (a .text .now) due _ _ (sym (c .before .numbers-apart .ensures) ∙ c .if1 .taken)) Kind
+
 returns-2 : tie.Need-returns-2
-returns-2 c = λ e.
-    let s = c .before .before .before .before .before .before .before .before in let a = s .args in let k = c .before .before .before .equal-front .result in
-    runs-later (nameBytes (a .pairs .now) (a .text .now)) (a .a .now) (a .b .now) k (a .start) (a .from) (a .count) (c .before .before .before .equal-front .ensures) (s .pre .1) (s .pre .2)
-    (λ due. told-apart (a .pairs .now) (a .text .now) due _ _ (sym (c .before .numbers-apart .ensures) ∙ c .if2 .taken)) Kind
+returns-2 c = λ e. impossible (cc)
 
 add-may-agree : tie.Need-add-may-agree
 add-may-agree c = search needs
@@ -58,7 +58,7 @@ may-agree-requires c κs = search needs
 
 returns-3 : tie.Need-returns-3
 returns-3 c = λ e.
-    let s = c .before .before .before .before .before .before .before .before .before .before .before in let a = s .args in let k = c .before .before .before .before .before .before .equal-front .result in let h = c .before .before .before .before .before .before .equal-front .ensures in let n = c .before .before .before .before .before .if1 .left in
+    let s = c .before .before .before .before .before .before .before .before .before .before .before in let a = s .args in let k = c .before .before .before .before .before .before .equal-front .result in let h = c .before .before .before .before .before .before .equal-front .ensures in let n = c .before .before .before .if2 .left in
     runs-later (nameBytes (a .pairs .now) (a .text .now)) (a .a .now) (a .b .now) k (a .start) (a .from) (a .count) h (s .pre .1) (s .pre .2)
     (λ due. runs-stop (nameBytes (a .pairs .now) (a .text .now)) due (a .a .now) (a .b .now) (a .start + k) (a .from + k) (a .count - k) (omega (arith, h, n, s .pre .1)) (omega (arith, h, n, s .pre .2)) (omega (arith, h, n))
     (may-not (nameBytes (a .pairs .now) (a .text .now)) _ _ (sym (c .may-agree .ensures) ∙ not-true _ e) due)) Kind
@@ -68,11 +68,11 @@ are-apart-spec =
     tie.close
     (tie.spec
     equal-front-requires
-    returns
     add-numbers-apart
     add-numbers-apart-2
     sub-numbers-apart
     numbers-apart-requires
+    returns
     returns-2
     add-may-agree
     mul-may-agree
