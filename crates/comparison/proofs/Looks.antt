@@ -18,7 +18,7 @@ use Rattle.comparison.specs.declared.Due.the-variants.{Kind, Exact, Size
 use Rattle.comparison.specs.declared.Look.{Look}
 use Rattle.comparison.specs.declared.Look.the-variants.{Same, Apart, Unclear}
 use Rattle.comparison.specs.Runs.{after, agrees, sameRuns}
-use Rattle.comparison.specs.Looks.{apart, alike, looks, toldApart}
+use Rattle.comparison.specs.Looks.{apart, alike, looks, toldApart, mayAgree}
 use Rattle.comparison.proofs.Steps.{same-self, fixed-apart, take-word}
 
 -- ---- two words
@@ -90,6 +90,43 @@ agrees-self name Sized x = go (ℕ-discrete x 0)
 agrees-self name Root x = eq-eqb x x refl
 agrees-self name Count x = eq-eqb x x refl
 agrees-self name (Names n) x = same-self (name x)
+
+module _ (name : ℕ → Bytes) (x y : ℕ) where
+  pub may-self : x ≡ y → true ≡ mayAgree name x y
+  unfolding mayAgree
+  may-self e = rw (eq-eqb x y e) refl
+
+  module _ (d : x ≡ y → ⊥) {r : Bool} (e : r ≡ same (name x) (name y)) where
+    pub may-named : r ≡ true → true ≡ mayAgree name x y
+    unfolding mayAgree
+    may-named k = rw (ne-eqb x y d, sym e, k) refl
+
+    pub may-sized : {b : Bool} → r ≡ false → b ≡ agrees name Sized x y → b ≡ mayAgree name x y
+    unfolding mayAgree
+    may-sized k f = rw (ne-eqb x y d, sym e, k) f
+
+  record Parts : Type 0 where
+    other : x ≡ y → ⊥
+    names : same (name x) (name y) ≡ false
+    sizes : agrees name Sized x y ≡ false
+
+  parts : mayAgree name x y ≡ false → Parts
+  unfolding mayAgree
+  parts e = go (ℕ-discrete x y) (same (name x) (name y)) refl
+    where
+      go : Dec (x ≡ y) → (b : Bool) → same (name x) (name y) ≡ b → Parts
+      go (yes d) b k = impossible (let f = may-self d in cc)
+      go (no d) true k = impossible (let f = may-named d refl k in cc)
+      go (no d) false k = record { other = d; names = k; sizes = may-sized d refl k refl ∙ e }
+
+  pub may-not : mayAgree name x y ≡ false → (due : Due) → agrees name due x y ≡ false
+  unfolding agrees
+  may-not e Kind = ne-eqb x y (parts e .other)
+  may-not e Exact = ne-eqb x y (parts e .other)
+  may-not e Sized = parts e .sizes
+  may-not e Root = ne-eqb x y (parts e .other)
+  may-not e Count = ne-eqb x y (parts e .other)
+  may-not e (Names n) = parts e .names
 
 -- ---- two runs
 

@@ -95,3 +95,20 @@ runs-uneven name due [] [] h = absurd (h refl)
 runs-uneven name due [] (y ∷ ys) h = refl
 runs-uneven name due (x ∷ xs) [] h = refl
 runs-uneven name due (x ∷ xs) (y ∷ ys) h = rw (runs-uneven name (after due x) xs ys (λ e. h (ap suc e))) (and-false (agrees name due x y))
+
+-- runs whose words from the k-th on are never the same are not
+module _ (name : ℕ → Bytes) (a b : List ℕ) where
+  pub runs-later : (k i j left : ℕ) → k ≤ left → i + left ≤ length a → j + left ≤ length b
+      → ((due : Due) → sameRuns name due (take (left - k) (drop (i + k) a)) (take (left - k) (drop (j + k) b)) ≡ false)
+      → (due : Due) → sameRuns name due (take left (drop i a)) (take left (drop j b)) ≡ false
+  runs-later zero i j left h l m f due =
+      let p : left - 0 ≡ left = omega arith in
+      let q : i + 0 ≡ i = omega arith in
+      let r : j + 0 ≡ j = omega arith in
+      rw (p, q, r) at (f due)
+  runs-later (suc k) i j left h l m f due =
+      let p : left - 1 - k ≡ left - suc k = omega (arith, h) in
+      let q : i + 1 + k ≡ i + suc k = omega arith in
+      let r : j + 1 + k ≡ j + suc k = omega arith in
+      let g = runs-later k (i + 1) (j + 1) (left - 1) (omega (arith, h)) (omega (arith, h, l)) (omega (arith, h, m)) (λ d. rw (p, q, r) (f d)) (after due (getD a i 0)) in
+      runs-more name due a b i j left (omega (arith, h, l)) (omega (arith, h, m)) (omega (arith, h)) ∙ rw g (and-false (agrees name due (getD a i 0) (getD b j 0)))

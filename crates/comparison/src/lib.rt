@@ -1,13 +1,13 @@
 // Comparing two types by their words: no tree is built, and nothing recurses.
 ghost use mathlib.Core.Path.{_≡_};
-ghost use mathlib.Core.Bool.{true};
+ghost use mathlib.Core.Bool.{true, false};
 ghost use mathlib.Core.List.{[]};
 ghost use Prim.Native.Nat.{_+_, _≤_, _<_};
 ghost use lib.ListN.{length, take, drop};
 ghost use Rattle.rast.specs.Bytes.{same};
 ghost use Rattle.encoding.specs.Tables.{Good, nameBytes};
 ghost use Rattle.comparison.specs.Runs.{after, afterKind, agrees, sameRuns};
-ghost use Rattle.comparison.specs.Looks.{apart, alike, looks, toldApart};
+ghost use Rattle.comparison.specs.Looks.{apart, alike, looks, toldApart, mayAgree};
 
 // What the next word of a type is: a kind, a word compared as it is, an array's size, a path's root, its count, or the first of some names.
 pub enum Due {
@@ -195,8 +195,8 @@ fn look_at_words(a: &[u32], start: usize, b: &[u32], from: usize, count: usize) 
     look_of(equal)
 }
 
-// Whether a look tells them apart. This is small enough for the compiler to put it in place of its calls.
-pub fn are_apart(a: &[u32], start: usize, b: &[u32], from: usize, count: usize) -> bool
+// Whether a look tells them apart.
+fn numbers_apart(a: &[u32], start: usize, b: &[u32], from: usize, count: usize) -> bool
     requires { ⌜ (start + count ≤ length (now a)) × (from + count ≤ length (now b)) ⌝ }
     ensures { λ r. ⌜ r ≡ toldApart (looks true (take count (drop start (now (a .entry)))) (take count (drop from (now (b .entry))))) ⌝ }
 {
@@ -205,6 +205,60 @@ pub fn are_apart(a: &[u32], start: usize, b: &[u32], from: usize, count: usize) 
         Look::Apart => true,
         Look::Unclear => false,
     }
+}
+
+// How many words in front are equal.
+fn equal_front(a: &[u32], start: usize, b: &[u32], from: usize, count: usize) -> usize
+    requires { ⌜ (start + count ≤ length (now a)) × (from + count ≤ length (now b)) ⌝ }
+    ensures { λ r. ⌜ r ≤ count ⌝ }
+{
+    let mut k = 0;
+    while k < count {
+        if a[start + k] != b[from + k] {
+            return k;
+        }
+        k += 1;
+    }
+    count
+}
+
+// Whether two words may agree: as they are, as names or as sizes.
+fn may_agree(pairs: &[u32], text: &[u8], x: u32, y: u32) -> bool
+    requires { ⌜ Good (now pairs) (now text) ⌝ }
+    ensures { λ r. ⌜ r ≡ mayAgree (nameBytes (now (pairs .entry)) (now (text .entry))) x y ⌝ }
+{
+    if x == y {
+        return true;
+    }
+    if same_name(pairs, text, x, y) {
+        return true;
+    }
+    same_size(pairs, text, x, y)
+}
+
+// Whether two types are told apart without knowing what is due: by a look at the words behind those that are equal, and by the first that differ. The search for
+// froms asks this of whatever stands there. It has one caller, so that the compiler puts it in place.
+pub fn are_apart(
+    pairs: &[u32],
+    text: &[u8],
+    a: &[u32],
+    start: usize,
+    b: &[u32],
+    from: usize,
+    count: usize,
+) -> bool
+    requires { ⌜ Good (now pairs) (now text) × (start + count ≤ length (now a)) × (from + count ≤ length (now b)) ⌝ }
+    ensures { λ r. ⌜ (r ≡ true → sameRuns (nameBytes (now (pairs .entry)) (now (text .entry))) Due.Kind
+        (take count (drop start (now (a .entry)))) (take count (drop from (now (b .entry)))) ≡ false) ⌝ }
+{
+    let k = equal_front(a, start, b, from, count);
+    if numbers_apart(a, start + k, b, from + k, count - k) {
+        return true;
+    }
+    if k == count {
+        return false;
+    }
+    !may_agree(pairs, text, a[start + k], b[from + k])
 }
 
 // Whether `count` words of `a` and of `b` are the same type's, by what is due.

@@ -11,7 +11,6 @@ use lib.ListN.{length, getD, take, drop}
 use Rattle.rast.specs.Bytes.{Bytes, _and_, _or_}
 use Rattle.rast.specs.Tree.{Path, Global, PMemberSelect, Ty, Tys, Primitive, TIdentifier, TypeFromPath, TypeApp, Borrowed, BorrowedMut, ImplType, DynType, TupleType, FnType, IntersectionType, Array, TSynonym, TMetaData, nil, cons}
 use Rattle.rast.specs.DeclarationToString.{Expand}
-use Rattle.encoding.specs.Refusals.{pick}
 use Rattle.encoding.specs.Reading.{got, mapReading}
 use Rattle.encoding.specs.Tables.{nameBytes}
 use Rattle.encoding.specs.Types.{sizeOf, typeAt}
@@ -25,23 +24,23 @@ use Rattle.trees.specs.Places.{Place, place}
 use Rattle.trees.proofs.Heads.{tree-here}
 use Rattle.trees.proofs.Renaming.{words-kept, encode-words, spelled, tree-run, type-words}
 use Rattle.replace.specs.Laying.{depth, deepest}
-use Rattle.wrappers.specs.Asked.{Judges, ExpandsAt}
+use Rattle.wrappers.specs.Asked.{ExpandsAt}
 use Rattle.wrappers.proofs.TypesIn.{array-of}
 use Rattle.classes.specs.declared.Found.{Found}
 use Rattle.classes.specs.declared.Found.the-variants.{At, NoPart}
-use Rattle.classes.specs.declared.Class.the-variants.{ObjectClass, ArrayClass}
+use Rattle.classes.specs.declared.Class.the-variants.{ArrayClass}
 use Rattle.classes.specs.Asked.{found, isFound, Finds}
 use Rattle.classes.specs.Classes.{inClass, arity, isOf, first}
 use Rattle.classes.specs.Matches.{applied, typeIn, argument, unsized}
 use Rattle.classes.specs.Steps.{when, andThen, orElse, typeAtIndex, argumentAt, argumentOf}
-use Rattle.classes.proofs.Applying.{first-found}
+use Rattle.classes.proofs.Applying.{first-found, first-other}
 use Rattle.shapes.specs.Parts.{expandedAt, expanded, ObjectOrPointerUnderlying}
 use Rattle.shapes.specs.Shapes.{IsObject, IsPointer, IsObjectOrPointer, IsMultiArray}
 use Rattle.shapes.specs.Initialization.{MaybeUninitType, appliedToUninit, newUnderlying}
 use Rattle.shapes.proofs.Pointers.{expanded-tree, multi-array-is, pointer-found}
 use Rattle.initialization.specs.declared.Initial.{Initial}
 use Rattle.initialization.specs.declared.Initial.the-variants.{OfArray, Unchanged}
-use Rattle.initialization.specs.Initialized.{uninitWords, newArray, Named, Pieces, pieces, unchanged, Becomes}
+use Rattle.initialization.specs.Initialized.{uninitWords, newArray, Pieces, pieces, unchanged, Becomes}
 use Rattle.initialization.proofs.Parts.{tree-words, array-below, apply-below, deep-some, opened, OneArgument, one-argument}
 
 -- ---- words and depths
@@ -71,9 +70,37 @@ take-front (w ∷ l) (c ∷ x) y e =
     let k : take (length (x ++ y)) l ≡ x ++ y = ap (drop 1) e in
     rw h (ap (λ m. c ∷ m) (take-front l x y k))
 
-pieces-of : (ws pairs : List ℕ) (new : Option (Ty ℕ)) (array u : Ty ℕ) (start element n : ℕ) → new ≡ some array → start ≤ element → element ≤ length ws → treeAt ws pairs element ≡ got u n
-    → encode array ≡ take (element - start) (drop start ws) ++ (uninitWords ++ encode u) → depth array ≡ 2 + depth u → Pieces ws pairs new (OfArray start element)
-pieces-of ws pairs new array u start element n e h l k w d = pieces e h l k w d
+pub pieces-of : (ws pairs : List ℕ) (around : ℕ) (t : Ty ℕ) (end : ℕ) (new : Option (Ty ℕ)) (array u : Ty ℕ) (start element : ℕ) → new ≡ some array → start ≤ element → element ≤ length ws
+    → treeAt ws pairs element ≡ got u end → encode array ≡ take (element - start) (drop start ws) ++ (uninitWords ++ encode u) → depth array ≡ 2 + depth u → around + depth u ≤ depth t
+    → Pieces ws pairs around t end new (OfArray start element)
+pieces-of ws pairs around t end new array u start element e h l k w d a = pieces e h l k w d a
+
+-- more types stand around an element than around what it stands in
+pieces-below : {ws pairs : List ℕ} {s : Ty ℕ} {end : ℕ} {new : Option (Ty ℕ)} {r : Initial} (t : Ty ℕ) → 1 + depth s ≤ depth t → Pieces ws pairs 1 s end new r → Pieces ws pairs 2 t end new r
+pieces-below {ws} {pairs} {s} {end} {new} t q (pieces {array = v} {u = u} {start = i} {element = j} e h l k w d a) = pieces-of ws pairs 2 t end new v u i j e h l k w d (omega (arith, q, a))
+pieces-below t q (unchanged e) = unchanged e
+
+-- what stands behind wrappers is no deeper
+expand-deep : (t : Ty ℕ) → depth (Expand t) ≤ depth t
+unfolding Expand depth
+expand-deep (Primitive x) = omega arith
+expand-deep (TIdentifier x) = omega arith
+expand-deep (TypeFromPath p) = omega arith
+expand-deep (TypeApp b ts) = omega arith
+expand-deep (Borrowed t) = omega arith
+expand-deep (BorrowedMut t) = omega arith
+expand-deep (ImplType t) = omega arith
+expand-deep (DynType t) = omega arith
+expand-deep (TupleType ts) = omega arith
+expand-deep (FnType ts t) = omega arith
+expand-deep (IntersectionType l r) = omega arith
+expand-deep (Array t s) = omega arith
+expand-deep (TSynonym d b) = let h = expand-deep b in omega (arith, h)
+expand-deep (TMetaData d c o) = let h = expand-deep d in omega (arith, h)
+
+-- so its argument is less deep
+argument-deep : (t : Ty ℕ) (p : Path ℕ) (a : Ty ℕ) → 0 < depth a → Expand t ≡ TypeApp (TypeFromPath p) (cons a nil) → 1 + depth a ≤ depth t
+argument-deep t p a h e = omega (arith, expand-deep t, ap depth e, one-depth p a h)
 
 -- ---- arrays
 
@@ -180,6 +207,20 @@ module _ (ws pairs : List ℕ) (text : Bytes) where
   pub type-readable : (at : ℕ) → Readable (treeAt ws pairs at) → Readable (typeAt ws pairs text at)
   type-readable at r = record { value = renamed bytes (r .value); end = r .end; reads = type-read at (r .reads) }
 
+  -- where `Expand` of a tree stands
+  pub expanded-place : (at : ℕ) (r : Readable (treeAt ws pairs at)) (start : ℕ) → ExpandsAt (typeAt ws pairs text) at start → expandedAt at (renamed bytes (r .value)) .at ≡ start
+  expanded-place at r start x =
+      let t = renamed bytes (r .value) in
+      let o = opened ws pairs bytes at (r .value) (r .reads) in
+      let i : Expand t ≡ renamed bytes (Expand (r .value)) = sym (expanded-tree at t) ∙ o .tree in
+      let w = type-words ws pairs text start (x .expands t (r .end) (type-read at (r .reads))) in
+      let v = tree-words ws pairs (expandedAt at t .at) (o .reads) in
+      omega (arith, w, v, ap words i, words-kept bytes (Expand (r .value)))
+
+  -- what begins with another word has no first argument
+  pub no-application : (start : ℕ) → (getD ws start 0 ≡ 14 → ⊥) → Finds (first ArrayClass) (typeAt ws pairs text) start NoPart
+  no-application start h = record { says = λ t n e. sym (first-other ArrayClass start t λ c. h (sym (type-kind ws pairs text start e) ∙ c)) }
+
   module _ (at : ℕ) (r : Readable (treeAt ws pairs at)) where
     abbrev tree : Ty ℕ
     tree = r .value
@@ -191,7 +232,7 @@ module _ (ws pairs : List ℕ) (text : Bytes) where
     pub size-here : getD ws at 0 ≡ 22 → at + 1 < length ws
     size-here h = array-of ws pairs text at (type-read at (r .reads)) h .0
 
-    pub new-unsized : getD ws at 0 ≡ 22 → getD ws (at + 1) 0 ≡ 0 → Becomes (newUnderlying bytes) ws pairs at (OfArray at (at + 2))
+    pub new-unsized : getD ws at 0 ≡ 22 → getD ws (at + 1) 0 ≡ 0 → Becomes (newUnderlying bytes) 1 ws pairs at (OfArray at (at + 2))
     unfolding sizeOf newUnderlying unsized andThen orElse encode tokens tokenWord depth
     new-unsized h k =
         let m = array-of ws pairs text at (type-read at (r .reads)) h .1 in
@@ -203,7 +244,7 @@ module _ (ws pairs : List ℕ) (text : Bytes) where
         deep : (u : Ty ℕ) → depth (MaybeUninitType u) ≡ 1 + depth u → depth (Array (MaybeUninitType u) none) ≡ 2 + depth u
         deep u d = omega (arith, d)
 
-        go : (u : Ty ℕ) → treeAt ws pairs at ≡ got (Array u none) (r .end) → Becomes (newUnderlying bytes) ws pairs at (OfArray at (at + 2))
+        go : (u : Ty ℕ) → treeAt ws pairs at ≡ got (Array u none) (r .end) → Becomes (newUnderlying bytes) 1 ws pairs at (OfArray at (at + 2))
         go u e =
             let d = array-below ws pairs at e in
             let t = tree-here ws pairs (at + 2) d in
@@ -214,12 +255,12 @@ module _ (ws pairs : List ℕ) (text : Bytes) where
               tree = Array u none;
               end = r .end;
               reads = e;
-              by = pieces-of ws pairs (newUnderlying bytes (Array u none)) (Array (MaybeUninitType u) none) u at (at + 2) (r .end) refl (omega arith) (omega (arith, t)) d
+              by = pieces-of ws pairs 1 (Array u none) (r .end) (newUnderlying bytes (Array u none)) (Array (MaybeUninitType u) none) u at (at + 2) refl (omega arith) (omega (arith, t)) d
                   (ap (λ l. 22 ∷ 0 ∷ l) (uninit-words u) ∙ ap (λ l. l ++ (uninitWords ++ encode u)) (sym front))
-                  (deep u (uninit-depth u (deep-some ws pairs (at + 2) d)));
+                  (deep u (uninit-depth u (deep-some ws pairs (at + 2) d))) (omega arith);
             }
 
-    pub new-sized : getD ws at 0 ≡ 22 → (getD ws (at + 1) 0 ≡ 0 → ⊥) → Becomes (newUnderlying bytes) ws pairs at Unchanged
+    pub new-sized : getD ws at 0 ≡ 22 → (getD ws (at + 1) 0 ≡ 0 → ⊥) → Becomes (newUnderlying bytes) 1 ws pairs at Unchanged
     unfolding sizeOf
     new-sized h k =
         let m = array-of ws pairs text at (type-read at (r .reads)) h .1 in
@@ -243,7 +284,7 @@ module _ (ws pairs : List ℕ) (text : Bytes) where
       multi : isFound m ≡ IsMultiArray type
       multi = ap isFound said ∙ first-found ArrayClass (place start (Expand type)) ∙ sym (multi-array-is type)
 
-      pub new-no-part : m ≡ NoPart → Becomes (newUnderlying bytes) ws pairs at Unchanged
+      pub new-no-part : m ≡ NoPart → Becomes (newUnderlying bytes) 1 ws pairs at Unchanged
       new-no-part e = record {
         tree = r .value;
         end = r .end;
@@ -251,7 +292,7 @@ module _ (ws pairs : List ℕ) (text : Bytes) where
         by = unchanged (new-none bytes tree no-array (sym multi ∙ ap isFound e));
       }
 
-      pub new-part : {element : ℕ} → m ≡ At element → Becomes (newUnderlying bytes) ws pairs at (OfArray start element)
+      pub new-part : {element : ℕ} → m ≡ At element → Becomes (newUnderlying bytes) 1 ws pairs at (OfArray start element)
       unfolding isOf arity first argumentOf
       new-part {element} e =
           let o = opened ws pairs bytes at tree (r .reads) in
@@ -259,19 +300,17 @@ module _ (ws pairs : List ℕ) (text : Bytes) where
           let y : IsMultiArray type ≡ true = sym multi ∙ ap isFound e in
           let i : isOf ArrayClass (renamed bytes (Expand tree)) ≡ true = ap (isOf ArrayClass) (sym t) ∙ sym (multi-array-is type) ∙ y in
           let a = one-argument bytes (λ p ts. inClass ArrayClass p and eqb (count ts) 1) (λ p ts. one-counted (inClass ArrayClass p) ts) (Expand tree) i in
-          let w = type-words ws pairs text start (x .expands type (r .end) (type-read at (r .reads))) in
-          let v = tree-words ws pairs (expandedAt at type .at) (o .reads) in
-          let s : expandedAt at type .at ≡ start = omega (arith, w, v, ap words t, words-kept bytes (Expand tree)) in
+          let s = expanded-place at r start x in
           let q : treeAt ws pairs start ≡ got (Expand tree) (r .end) = ap (treeAt ws pairs) (sym s) ∙ o .reads in
           let c : found (first ArrayClass (place start (renamed bytes (TypeApp (TypeFromPath (a .path)) (cons (a .argument) nil))))) ≡ At element =
           ap (λ b. found (first ArrayClass (place start b))) (sym (t ∙ ap (renamed bytes) (a .made))) ∙ sym said ∙ e in
           go (a .path) (a .argument) (q ∙ ap (λ b. got b (r .end)) (a .made))
           (argument-place bytes start (a .path) (a .argument) (found-when (isOf ArrayClass _) (argumentAt 0 start _) c))
-          (new-multi bytes tree (a .path) (a .argument) no-array y (a .made))
+          (new-multi bytes tree (a .path) (a .argument) no-array y (a .made)) (a .made)
         where
           go : (p : Path ℕ) (a : Ty ℕ) → treeAt ws pairs start ≡ got (TypeApp (TypeFromPath p) (cons a nil)) (r .end) → start + 2 + words (TypeFromPath p) ≡ element
-              → newUnderlying bytes tree ≡ some (TypeApp (TypeFromPath p) (cons (MaybeUninitType a) nil)) → Becomes (newUnderlying bytes) ws pairs at (OfArray start element)
-          go p a q i k =
+              → newUnderlying bytes tree ≡ some (TypeApp (TypeFromPath p) (cons (MaybeUninitType a) nil)) → Expand tree ≡ TypeApp (TypeFromPath p) (cons a nil) → Becomes (newUnderlying bytes) 1 ws pairs at (OfArray start element)
+          go p a q i k m =
               let b = apply-below ws pairs start q in
               let c : treeAt ws pairs element ≡ got a (r .end) = ap (treeAt ws pairs) (sym i) ∙ b in
               let t = tree-here ws pairs element c in
@@ -284,7 +323,7 @@ module _ (ws pairs : List ℕ) (text : Bytes) where
               let g : encode (TypeApp (TypeFromPath p) (cons (MaybeUninitType a) nil)) ≡ take (element - start) (drop start ws) ++ (uninitWords ++ encode a) =
               one-words p (MaybeUninitType a) ∙ ap (λ l. own ++ l) (uninit-words a) ∙ ap (λ l. l ++ (uninitWords ++ encode a)) (sym front) in
               let j : depth (TypeApp (TypeFromPath p) (cons (MaybeUninitType a) nil)) ≡ 2 + depth a = one-depth p (MaybeUninitType a) (omega (arith, d)) ∙ omega (arith, d) in
-              record { tree = r .value; end = r .end; reads = r .reads; by = pieces-of ws pairs (newUnderlying bytes tree) (TypeApp (TypeFromPath p) (cons (MaybeUninitType a) nil)) a start element (r .end) k (omega (arith, i)) (omega (arith, t)) c g j }
+              record { tree = r .value; end = r .end; reads = r .reads; by = pieces-of ws pairs 1 tree (r .end) (newUnderlying bytes tree) (TypeApp (TypeFromPath p) (cons (MaybeUninitType a) nil)) a start element k (omega (arith, i)) (omega (arith, t)) c g j (argument-deep tree p a s m) }
 
   -- ---- under the pointer
 
@@ -301,20 +340,20 @@ module _ (ws pairs : List ℕ) (text : Bytes) where
     pointer : isFound m ≡ IsObjectOrPointer whole
     pointer = ap isFound told ∙ pointer-found (place 0 whole)
 
-    pub no-pointer : m ≡ NoPart → Becomes (newArray bytes) ws pairs 0 Unchanged
+    pub no-pointer : m ≡ NoPart → Becomes (newArray bytes) 2 ws pairs 0 Unchanged
     unfolding newArray when
     no-pointer e =
         let z : IsObjectOrPointer whole ≡ false = sym pointer ∙ ap isFound e in
         record { tree = r .value; end = r .end; reads = r .reads; by = unchanged (rw z refl) }
 
     -- what the pointer points to
-    record Points (at : ℕ) : Type 0 where
+    record Pointed (at : ℕ) : Type 0 where
       tree : Ty ℕ
-      end : ℕ
-      reads : treeAt ws pairs at ≡ got tree end
+      reads : treeAt ws pairs at ≡ got tree (r .end)
       new : newArray bytes held ≡ newUnderlying bytes tree
+      deep : 1 + depth tree ≤ depth held
 
-    points : {at : ℕ} → m ≡ At at → Points at
+    points : {at : ℕ} → m ≡ At at → Pointed at
     unfolding IsObjectOrPointer IsPointer IsObject ObjectOrPointerUnderlying expanded argumentOf
     points {at} e =
         let o = opened ws pairs bytes 0 held (r .reads) in
@@ -327,26 +366,17 @@ module _ (ws pairs : List ℕ) (text : Bytes) where
         let q = expandedAt 0 whole .at in
         let c : found (argumentAt 0 q (expandedAt 0 whole .tpe)) ≡ At at = found-when (IsObjectOrPointer whole) (argumentAt 0 q (expandedAt 0 whole .tpe)) (sym told ∙ e) in
         let l = argument-place bytes q (a .path) (a .argument) (ap (λ b. found (argumentAt 0 q b)) (sym (o .tree ∙ ap (renamed bytes) (a .made))) ∙ c) in
-        record {
-          tree = a .argument;
-          end = r .end;
-          reads = ap (treeAt ws pairs) (sym l) ∙ apply-below ws pairs q (o .reads ∙ ap (λ b. got b (r .end)) (a .made));
-          new = new-behind bytes held y (a .made);
-        }
+        let b : treeAt ws pairs at ≡ got (a .argument) (r .end) = ap (treeAt ws pairs) (sym l) ∙ apply-below ws pairs q (o .reads ∙ ap (λ b. got b (r .end)) (a .made)) in
+        record { tree = a .argument; reads = b; new = new-behind bytes held y (a .made); deep = argument-deep held (a .path) (a .argument) (deep-some ws pairs at b) (a .made) }
 
     pub pointed-readable : {at : ℕ} → m ≡ At at → Readable (treeAt ws pairs at)
-    pointed-readable e = let p = points e in record { value = p .tree; end = p .end; reads = p .reads }
+    pointed-readable e = let p = points e in record { value = p .tree; end = r .end; reads = p .reads }
 
-    pub pointed-becomes : {at : ℕ} {c : Initial} → m ≡ At at → Becomes (newUnderlying bytes) ws pairs at c → Becomes (newArray bytes) ws pairs 0 c
+    pub pointed-becomes : {at : ℕ} {c : Initial} → m ≡ At at → Becomes (newUnderlying bytes) 1 ws pairs at c → Becomes (newArray bytes) 2 ws pairs 0 c
     pointed-becomes {at} {c} e b =
         let p = points e in
         let i : b .tree ≡ p .tree = cc (p .reads, b .reads) in
+        let j : b .end ≡ r .end = cc (p .reads, b .reads) in
         let n : newUnderlying bytes (b .tree) ≡ newArray bytes held = ap (newUnderlying bytes) i ∙ sym (p .new) in
-        record { tree = r .value; end = r .end; reads = r .reads; by = subst (λ v. Pieces ws pairs v c) n (b .by) }
-
-  -- ---- the pointer's name
-
-  module _ {b : Bool} (j : Judges (isOf ObjectClass) (typeAt ws pairs text 0) b) where
-    pub named : {k : ℕ} → k ≡ pick b 11 12 → Named bytes (treeAt ws pairs 0) k
-    unfolding IsObject isOf inClass arity
-    named e = record { names = λ t n d. e ∙ ap (λ c. pick c 11 12) (j .says (renamed bytes t) n (type-read 0 d)) }
+        let k = pieces-below held (omega (arith, p .deep, ap depth i)) (b .by) in
+        record { tree = r .value; end = r .end; reads = r .reads; by = subst (λ v. Pieces ws pairs 2 held (r .end) v c) n (subst (λ q. Pieces ws pairs 2 held q (newUnderlying bytes (b .tree)) c) j k) }

@@ -5,45 +5,46 @@ use mathlib.Core.Bool.{Bool, true, false}
 use mathlib.Core.List.{List, _++_}
 use mathlib.Core.Option.{Option, some, none}
 use native.Mathlib.Omega.{arith}
-use borrow.Author.Tests.{eqb-true}
-use lib.Dec.{eqb}
+use borrow.Author.Tests.{eq-eqb, eqb-true, le-ltb}
+use lib.Dec.{eqb, ltb}
 use lib.ListN.{length, take, drop, length-append}
 use lib.Seq.{sets, take-length}
 use Rattle.rast.specs.Bytes.{Bytes}
-use Rattle.rast.specs.Tree.{Global, PMemberSelect, Ty, nil, cons}
+use Rattle.rast.specs.Tree.{Global, PMemberSelect, Ty}
 use Rattle.rast.specs.DeclarationToString.{Expand}
 use Rattle.encoding.specs.declared.Refusal.{Refusal}
 use Rattle.encoding.specs.declared.Refusal.the-variants.{LeftOver, TooDeep, BufferTooShort}
 use Rattle.encoding.specs.declared.Check.{Check}
 use Rattle.encoding.specs.declared.Check.the-variants.{Passed, Failed}
-use Rattle.encoding.specs.Refusals.{pick, Answer, given, refused, mapAnswer, unless}
+use Rattle.encoding.specs.Refusals.{pick, given, refused, mapAnswer, unless}
 use Rattle.encoding.specs.Reading.{Reading, got, stop, mapReading, whole}
-use Rattle.encoding.specs.Tables.{nameBytes, checkTables}
-use Rattle.encoding.specs.Types.{readTypes, typeOf}
+use Rattle.encoding.specs.Tables.{nameBytes, nameCount, checkTables}
+use Rattle.encoding.specs.Heads.{readHead}
+use Rattle.encoding.specs.Types.{readNode, readType}
 use Rattle.encoding.proofs.Tables.{impossible}
+use Rattle.encoding.proofs.Types.{bind-got, node-parts}
 use Rattle.output.specs.Wrote.{Wrote}
+use Rattle.writing.specs.Written.{Readable}
 use Rattle.output.proofs.Laws.{wrote-then, part-length}
 use Rattle.trees.specs.Renamed.{renamed}
 use Rattle.trees.specs.Encode.{tokenWord, rootWord, names, pathTokens, tokens, encode}
 use Rattle.trees.specs.Numbered.{treeAt, treeOf}
-use Rattle.trees.proofs.Renaming.{encode-words, spelled, tree-run}
+use Rattle.trees.proofs.Renaming.{encode-words, type-renamed, tree-run}
 use Rattle.replace.specs.Laying.{depth}
-use Rattle.replace.proofs.Depths.{tree-deep}
-use Rattle.rules.specs.declared.Deep.{Deep}
-use Rattle.rules.specs.Scans.{Deepens}
-use Rattle.rules.proofs.Lists.{one-deep}
+use Rattle.replace.proofs.Depths.{within, tree-deep}
+use Rattle.rules.specs.Scans.{Spans, depthOf}
 use Rattle.classes.specs.Matches.{argument}
 use Rattle.classes.specs.Steps.{when, andThen}
+use Rattle.shapes.specs.Asked.{acceptance}
 use Rattle.shapes.specs.Shapes.{IsObject, IsObjectOrPointer}
 use Rattle.shapes.specs.Initialization.{ObjectType, PtrType, orThis, newUnderlying, TypeAtInitialization}
-use Rattle.shapes.proofs.Answers.{Accepted}
 use Rattle.rebuild.specs.declared.RebuildAnswer.{RebuildAnswer}
 use Rattle.rebuild.specs.declared.RebuildAnswer.the-variants.{Length, Refused}
 use Rattle.rebuild.specs.Calls.{Laid, roomOf, zeros, laidDown, sameWords, Fills}
 use Rattle.rebuild.proofs.Calls.{down-over, down-deep, down-front, shallow}
 use Rattle.initialization.specs.declared.Initial.{Initial}
 use Rattle.initialization.specs.declared.Initial.the-variants.{OfArray, Unchanged}
-use Rattle.initialization.specs.Initialized.{laidInit, typeInitialized, pointerWords, uninitWords, initialWords, newArray, Named, Pieces, pieces, unchanged, Becomes, Whole}
+use Rattle.initialization.specs.Initialized.{laidInit, wholeInitialized, typeInitialized, typeWithin, pointerWords, uninitWords, initialWords, newArray, Named, Pieces, pieces, unchanged, Becomes, Whole, Shallow}
 use Rattle.initialization.proofs.Changes.{one-words, one-depth}
 
 -- ---- the type at initialization, by the new array
@@ -90,6 +91,21 @@ module _ (bytes : ℕ → Bytes) (t : Ty ℕ) where
 pieces-length : (name : ℕ) (x y : List ℕ) {n : ℕ} → length x + length y ≡ n → length (pointerWords name ++ (x ++ (uninitWords ++ y))) ≡ 15 + n
 pieces-length name x y e = omega (arith, e, length-append x (uninitWords ++ y))
 
+-- ---- the element
+
+module _ (ws pairs : List ℕ) (element : ℕ) {deepest : Bool} (s : Shallow ws pairs element deepest) where
+  pub element-spans : Spans (treeAt ws pairs element) (element + (length ws - element))
+  element-spans =
+      let i : length ws ≡ element + (length ws - element) = omega (arith, s .inside) in
+      record { tree = s .tree; reads = s .reads ∙ ap (got (s .tree)) i }
+
+  pub element-within : deepest ≡ false → false ≡ ltb 61 (depthOf (treeAt ws pairs element))
+  unfolding depthOf
+  element-within e = rw (s .reads) (sym (le-ltb 61 (depth (s .tree)) (s .shallow e)))
+
+pub whole-readable : {ws pairs : List ℕ} {deepest : Bool} → Whole ws pairs deepest → Readable (treeAt ws pairs 0)
+whole-readable {ws} w = record { value = w .tree; end = length ws; reads = w .reads }
+
 -- ---- a type that changes
 
 module _ (ws pairs : List ℕ) (text : Bytes) where
@@ -115,44 +131,44 @@ module _ (ws pairs : List ℕ) (text : Bytes) where
     pub reads : treeAt ws pairs 0 ≡ got tree last
     pub own : start ≤ element
     pub inner : element ≤ end
-    pub inside : end ≤ length ws
     pub words : encode (TypeAtInitialization bytes tree) ≡ initialWords ws (pick (IsObject (renamed bytes tree)) 11 12) start element end
     pub size : length (encode (TypeAtInitialization bytes tree)) ≡ 15 + (end - start)
     pub deeper : depth (TypeAtInitialization bytes tree) ≡ 3 + deep
 
-  -- the element stands there
-  pub element-readable : {start element : ℕ} → Becomes (newArray bytes) ws pairs 0 (OfArray start element) → (element ≤ length ws) × (u : Ty ℕ) × (n : ℕ) × (treeAt ws pairs element ≡ got u n)
-  element-readable {start} {element} b = go (b .by)
+  -- the element stands there, up to the end of the words
+  pub element-shallow : {start element : ℕ} {deepest : Bool} → Whole ws pairs deepest → Becomes (newArray bytes) 2 ws pairs 0 (OfArray start element) → Shallow ws pairs element deepest
+  element-shallow {start} {element} {deepest} w b = go (b .by)
     where
-      go : {new : Option (Ty ℕ)} → Pieces ws pairs new (OfArray start element) → (element ≤ length ws) × (u : Ty ℕ) × (n : ℕ) × (treeAt ws pairs element ≡ got u n)
-      go (pieces {u = u} {n = n} e h l k w d) = (l, u, n, k)
+      go : Pieces ws pairs 2 (b .tree) (b .end) (newArray bytes (b .tree)) (OfArray start element) → Shallow ws pairs element deepest
+      go (pieces {u = u} e h l k z d a) =
+          let i : b .end ≡ length ws = cc (b .reads, w .reads) in
+          let t : b .tree ≡ w .tree = cc (b .reads, w .reads) in
+          record { tree = u; inside = l; reads = k ∙ ap (got u) i; shallow = λ s. omega (arith, w .shallow s, ap depth t, a) }
 
-  pub changes : {start element : ℕ} (r : Deep) → Becomes (newArray bytes) ws pairs 0 (OfArray start element) → Deepens (readTypes (treeAt ws pairs) 1 element) (length ws) r → Changes start element (r .next) (r .depth)
-  unfolding readTypes
-  changes {start} {element} r b k = go (b .by)
+  pub changes : {start element : ℕ} {deepest : Bool} → Whole ws pairs deepest → Becomes (newArray bytes) 2 ws pairs 0 (OfArray start element) → Changes start element (length ws) (depthOf (treeAt ws pairs element))
+  unfolding depthOf
+  changes {start} {element} w b = go (b .by)
     where
-      go : Pieces ws pairs (newArray bytes (b .tree)) (OfArray start element) → Changes start element (r .next) (r .depth)
-      go (pieces {array = v} {u = u} {n = n} e h l c w d) =
-          let g : got (cons u nil) n ≡ got (k .types) (r .next) = rw c at (k .reads) in
-          let i : n ≡ r .next = cc in
+      go : Pieces ws pairs 2 (b .tree) (b .end) (newArray bytes (b .tree)) (OfArray start element) → Changes start element (length ws) (depthOf (treeAt ws pairs element))
+      go (pieces {array = v} {u = u} e h l c z d _) =
+          let i : b .end ≡ length ws = cc (b .reads, w .reads) in
           let a = tree-run ws pairs element l c in
           let j = encode-words u in
-          let part : take (r .next - element) (drop element ws) ≡ encode u =
-          (let z : r .next - element ≡ length (encode u) = omega (arith, a .1, i, j) in rw z (a .0 .words)) in
+          let part : take (length ws - element) (drop element ws) ≡ encode u =
+          (let n : length ws - element ≡ length (encode u) = omega (arith, a .1, i, j) in rw n (a .0 .words)) in
           let q = initial-new bytes (b .tree) e in
-          let all : encode (TypeAtInitialization bytes (b .tree)) ≡ initialWords ws (pick (IsObject (renamed bytes (b .tree))) 11 12) start element (r .next) =
-          ap encode q ∙ pointed-words bytes (b .tree) v ∙ ap (λ x. pointerWords (pick (IsObject (renamed bytes (b .tree))) 11 12) ++ x) (w ∙ ap (λ x. take (element - start) (drop start ws) ++ (uninitWords ++ x)) (sym part)) in
+          let all : encode (TypeAtInitialization bytes (b .tree)) ≡ initialWords ws (pick (IsObject (renamed bytes (b .tree))) 11 12) start element (length ws) =
+          ap encode q ∙ pointed-words bytes (b .tree) v ∙ ap (λ x. pointerWords (pick (IsObject (renamed bytes (b .tree))) 11 12) ++ x) (z ∙ ap (λ x. take (element - start) (drop start ws) ++ (uninitWords ++ x)) (sym part)) in
           record {
             tree = b .tree;
             last = b .end;
             reads = b .reads;
             own = h;
-            inner = omega (arith, a .1, i);
-            inside = omega (arith, a .1, i, a .0 .ends, j);
+            inner = l;
             words = all;
-            size = ap length all ∙ pieces-length (pick (IsObject (renamed bytes (b .tree))) 11 12) (take (element - start) (drop start ws)) (take (r .next - element) (drop element ws))
+            size = ap length all ∙ pieces-length (pick (IsObject (renamed bytes (b .tree))) 11 12) (take (element - start) (drop start ws)) (take (length ws - element) (drop element ws))
                 (omega (arith, part-length ws start (element - start) (omega (arith, l, h)), ap length part, j, a .1, i, h));
-            deeper = ap depth q ∙ pointed-depth bytes (b .tree) v (omega (arith, d)) ∙ omega (arith, d, one-deep ws pairs element r c k);
+            deeper = ap depth q ∙ pointed-depth bytes (b .tree) v (omega (arith, d)) ∙ omega (arith, d, ap depthOf c);
           }
 
   module _ {start element end deep count : ℕ} (c : Changes start element end deep) (o : List ℕ) (n : count ≡ 15 + (end - start)) where
@@ -170,10 +186,10 @@ module _ (ws pairs : List ℕ) (text : Bytes) where
 
   -- ---- a type that stays
 
-  pub stays : {o o′ : List ℕ} {r : RebuildAnswer} {c : Initial} → Whole ws pairs → Becomes (newArray bytes) ws pairs 0 c → c ≡ Unchanged → (r, o′) ≡ laidDown o (given (sameWords ws 0)) → Fills laid o o′ r
-  stays {o} {o′} {r} {c} w b e k = go (subst (Pieces ws pairs (newArray bytes (b .tree))) e (b .by))
+  pub stays : {o o′ : List ℕ} {r : RebuildAnswer} {c : Initial} {deepest : Bool} → Whole ws pairs deepest → Becomes (newArray bytes) 2 ws pairs 0 c → c ≡ Unchanged → (r, o′) ≡ laidDown o (given (sameWords ws 0)) → Fills laid o o′ r
+  stays {o} {o′} {r} {c} w b e k = go (subst (Pieces ws pairs 2 (b .tree) (b .end) (newArray bytes (b .tree))) e (b .by))
     where
-      go : Pieces ws pairs (newArray bytes (b .tree)) Unchanged → Fills laid o o′ r
+      go : Pieces ws pairs 2 (b .tree) (b .end) (newArray bytes (b .tree)) Unchanged → Fills laid o o′ r
       go (unchanged d) =
           let t = b .tree in
           let q : TypeAtInitialization bytes t ≡ t = initial-same bytes t d in
@@ -197,57 +213,67 @@ four-wrote o a b c d p q r {o₁} {o₂} {o₃} {o₄} e f g h i j k =
 
 -- ---- the call
 
-module _ (ws pairs : List ℕ) (text : Bytes) where
-  -- the type with bytes is the tree with its names' bytes
-  type-is : typeOf ws pairs text ≡ mapAnswer (renamed (nameBytes pairs text)) (treeOf ws pairs text)
-  unfolding typeOf treeOf mapAnswer unless whole mapReading
-  type-is = ap (λ x. unless (checkTables ws pairs text) (whole (length ws) x)) (spelled ws pairs text 0) ∙ go (checkTables ws pairs text) (treeAt ws pairs 0)
+-- the tree at the front, if it is at most `deep` types deep
+abbrev treeWithin : ℕ → List ℕ → List ℕ → Reading (Ty ℕ)
+treeWithin deep ws pairs = readType (nameCount pairs) ws (λ x. x) deep 0
+
+deeper-tree : (ws pairs : List ℕ) {t : Ty ℕ} {n : ℕ} → treeWithin 63 ws pairs ≡ got t n → treeAt ws pairs 0 ≡ got t n
+unfolding readType
+deeper-tree ws pairs {t} {n} e =
+    let d = bind-got (readHead (nameCount pairs) ws 0) (λ h p. readNode ws (λ x. x) (readType (nameCount pairs) ws (λ x. x) 62) h p) e in
+    rw (d .first) (node-parts (nameCount pairs) ws (λ x. x) 62 0 e (d .first))
+
+module _ (f : Ty ℕ → Ty Bytes) (size : ℕ) where
+  -- the tree behind a type that fills the words
+  accepted-tree : (x : Reading (Ty ℕ)) {c : Check} → c ≡ acceptance (whole size (mapReading f x)) → c ≡ Passed → (t : Ty ℕ) × (x ≡ got t size)
+  unfolding whole mapReading
+  accepted-tree (got t n) {c} e d = go (eqb n size) (eqb-true n size) e
     where
-      at-end : (b : Bool) (t : Ty ℕ) → pick b (given (renamed (nameBytes pairs text) t)) (refused LeftOver) ≡ mapAnswer (renamed (nameBytes pairs text)) (pick b (given t) (refused LeftOver))
-      at-end true t = refl
-      at-end false t = refl
+      go : (b : Bool) → (b ≡ true → n ≡ size) → c ≡ acceptance (pick b (given (f t)) (refused LeftOver)) → (u : Ty ℕ) × (got t n ≡ got u size)
+      go true h k = (t, ap (got t) (h refl))
+      go false h k = impossible (cc)
+  accepted-tree (stop r) e d = impossible (cc)
 
-      go : (c : Check) (x : Reading (Ty ℕ)) → unless c (whole (length ws) (mapReading (renamed (nameBytes pairs text)) x)) ≡ mapAnswer (renamed (nameBytes pairs text)) (unless c (whole (length ws) x))
-      go Passed (got t n) = at-end (eqb n (length ws)) t
-      go Passed (stop r) = refl
-      go (Failed r) x = refl
-
-  given-tree : (c : Check) (x : Reading (Ty ℕ)) {t : Ty ℕ} → unless c (whole (length ws) x) ≡ given t → x ≡ got t (length ws)
-  unfolding unless whole
-  given-tree Passed (got u n) {t} e = go (eqb n (length ws)) (eqb-true n (length ws)) e
+  refused-tree : (x : Reading (Ty ℕ)) {c : Check} {r : Refusal} → c ≡ acceptance (whole size (mapReading f x)) → c ≡ Failed r → whole size x ≡ refused r
+  unfolding whole mapReading
+  refused-tree (got t n) {c} {r} e d = go (eqb n size) e
     where
-      go : (b : Bool) → (b ≡ true → n ≡ length ws) → pick b (given u) (refused LeftOver) ≡ given t → got u n ≡ got t (length ws)
-      go true h d = let q = h refl in let i : u ≡ t = cc in cc
-      go false h d = impossible (cc)
-  given-tree Passed (stop r) e = impossible (cc)
-  given-tree (Failed r) x e = impossible (cc)
+      go : (b : Bool) → c ≡ acceptance (pick b (given (f t)) (refused LeftOver)) → pick b (given t) (refused LeftOver) ≡ refused r
+      go true k = impossible (cc)
+      go false k = let i : LeftOver ≡ r = cc in ap refused i
+  refused-tree (stop k) {c} {r} e d = let i : k ≡ r = cc in ap refused i
 
-  -- the tree that an accepted encoding holds
-  pub record Held : Type 0 where
-    pub tree : Ty ℕ
-    pub is : treeOf ws pairs text ≡ given tree
-    pub reads : treeAt ws pairs 0 ≡ got tree (length ws)
+module _ (ws pairs : List ℕ) (text : Bytes) {c : Check} where
+  renamed-within : (deep : ℕ) → c ≡ acceptance (whole (length ws) (typeWithin deep ws pairs text)) → c ≡ acceptance (whole (length ws) (mapReading (renamed (nameBytes pairs text)) (treeWithin deep ws pairs)))
+  renamed-within deep e = e ∙ ap (λ x. acceptance (whole (length ws) x)) (type-renamed (nameBytes pairs text) (λ x. x) (nameCount pairs) ws deep 0)
 
-  pub held : Accepted ws pairs text → Held
-  unfolding treeOf mapAnswer
-  held a = go (treeOf ws pairs text) refl (sym type-is ∙ a .is)
-    where
-      go : (x : Answer (Ty ℕ)) → treeOf ws pairs text ≡ x → mapAnswer (renamed (nameBytes pairs text)) x ≡ given (a .type) → Held
-      go (given t) e d = record { tree = t; is = e; reads = given-tree (checkTables ws pairs text) (treeAt ws pairs 0) e }
-      go (refused r) e d = impossible (cc)
+  -- a type that is read with less depth is read, and less deep
+  pub lower-whole : c ≡ acceptance (whole (length ws) (typeWithin 63 ws pairs text)) → c ≡ Passed → Whole ws pairs false
+  lower-whole e d =
+      let t = accepted-tree (renamed (nameBytes pairs text)) (length ws) (treeWithin 63 ws pairs) (renamed-within 63 e) d in
+      record { tree = t .0; reads = deeper-tree ws pairs (t .1); shallow = λ i. within (nameCount pairs) ws 63 0 (t .0) (length ws) (t .1) }
 
-  pub held-whole : Accepted ws pairs text → Whole ws pairs
-  held-whole a = let h = held a in record { tree = h .tree; reads = h .reads }
+  pub deepest-whole : c ≡ acceptance (whole (length ws) (typeWithin 64 ws pairs text)) → c ≡ Passed → Whole ws pairs true
+  deepest-whole e d =
+      let t = accepted-tree (renamed (nameBytes pairs text)) (length ws) (treeAt ws pairs 0) (renamed-within 64 e) d in
+      record { tree = t .0; reads = t .1; shallow = λ i. impossible (cc) }
 
-  pub accepted-filled : {o o′ : List ℕ} {r : RebuildAnswer} → Accepted ws pairs text → Fills (mapReading (laidInit (nameBytes pairs text)) (treeAt ws pairs 0)) o o′ r
-      → (r, o′) ≡ laidDown o (typeInitialized ws pairs text)
-  unfolding mapReading typeInitialized mapAnswer
-  accepted-filled a f = let h = held a in rw (h .is) (f .fills (laidInit (nameBytes pairs text) (h .tree)) (length ws) (rw (h .reads) refl))
+  pub not-whole : {o : List ℕ} {r : Refusal} → c ≡ acceptance (whole (length ws) (typeWithin 64 ws pairs text)) → c ≡ Failed r
+      → _≡_ {A = RebuildAnswer × List ℕ} (Refused r, o) (laidDown o (wholeInitialized ws pairs text))
+  unfolding laidDown wholeInitialized mapAnswer
+  not-whole e d = rw (refused-tree (renamed (nameBytes pairs text)) (length ws) (treeAt ws pairs 0) (renamed-within 64 e) d) refl
 
-  pub refused-leaves : {o : List ℕ} {r : Refusal} → typeOf ws pairs text ≡ refused r → _≡_ {A = RebuildAnswer × List ℕ} (Refused r, o) (laidDown o (typeInitialized ws pairs text))
-  unfolding laidDown typeInitialized mapAnswer
-  refused-leaves {o} {r} e = rw (go (treeOf ws pairs text) (sym type-is ∙ e)) refl
-    where
-      go : (x : Answer (Ty ℕ)) → mapAnswer (renamed (nameBytes pairs text)) x ≡ refused r → x ≡ refused r
-      go (given t) d = impossible (cc)
-      go (refused k) d = cc
+module _ (ws pairs : List ℕ) (text : Bytes) {o o′ : List ℕ} {r : RebuildAnswer} where
+  pub whole-filled : {deepest : Bool} → Whole ws pairs deepest → Fills (mapReading (laidInit (nameBytes pairs text)) (treeAt ws pairs 0)) o o′ r → (r, o′) ≡ laidDown o (wholeInitialized ws pairs text)
+  unfolding mapReading wholeInitialized mapAnswer whole
+  whole-filled w f = rw (w .reads, eq-eqb (length ws) (length ws) refl) (f .fills (laidInit (nameBytes pairs text) (w .tree)) (length ws) (rw (w .reads) refl))
+
+pub tables-filled : (ws pairs : List ℕ) (text : Bytes) (o : List ℕ) {p : RebuildAnswer × List ℕ} {c : Check} → c ≡ checkTables ws pairs text → c ≡ Passed
+    → p ≡ laidDown o (wholeInitialized ws pairs text) → p ≡ laidDown o (typeInitialized ws pairs text)
+unfolding typeInitialized wholeInitialized treeOf unless
+tables-filled ws pairs text o e d k = rw (sym e ∙ d) k
+
+pub tables-leave : (ws pairs : List ℕ) (text : Bytes) {o : List ℕ} {c : Check} {r : Refusal} → c ≡ checkTables ws pairs text → c ≡ Failed r
+    → _≡_ {A = RebuildAnswer × List ℕ} (Refused r, o) (laidDown o (typeInitialized ws pairs text))
+unfolding laidDown typeInitialized treeOf unless mapAnswer
+tables-leave ws pairs text e d = rw (sym e ∙ d) refl

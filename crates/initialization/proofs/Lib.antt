@@ -1,4 +1,5 @@
 pub mod Parts
 pub mod Changes
+pub mod Pointers
 pub mod Filling
 pub mod Examples

@@ -1,26 +1,39 @@
 -- What the call gives: the type at initialization by its words, and the pieces that they are copied from.
-use Prim.Native.Nat.{ℕ, _+_, _-_, _≤_}
+use Prim.Native.Nat.{ℕ, _+_, _-_, _≤_, _<_}
 use mathlib.Core.Path.{_≡_}
+use mathlib.Core.Bool.{Bool, true, false}
 use mathlib.Core.List.{List, [], _∷_, _++_}
 use mathlib.Core.Option.{Option, some, none}
-use lib.ListN.{length, take, drop}
-use Rattle.rast.specs.Bytes.{Bytes}
-use Rattle.rast.specs.Tree.{Ty}
+use lib.Dec.{eqb}
+use lib.ListN.{length, getD, take, drop}
+use Rattle.rast.specs.Bytes.{Bytes, _and_}
+use Rattle.rast.specs.Tree.{Path, Ty}
 use Rattle.rast.specs.DeclarationToString.{Expand}
 use Rattle.encoding.specs.Refusals.{pick, Answer, mapAnswer}
-use Rattle.encoding.specs.Reading.{Reading, got}
-use Rattle.encoding.specs.Tables.{nameBytes}
+use Rattle.encoding.specs.Reading.{Reading, got, whole}
+use Rattle.encoding.specs.Tables.{nameBytes, nameCount}
+use Rattle.encoding.specs.Types.{readType, typeAt}
 use Rattle.trees.specs.Encode.{encode}
 use Rattle.trees.specs.Renamed.{renamed}
 use Rattle.trees.specs.Numbered.{treeAt, treeOf}
 use Rattle.replace.specs.Laying.{depth}
+use Rattle.wrappers.specs.Asked.{Judges}
+use Rattle.classes.specs.declared.Class.{Class}
+use Rattle.classes.specs.declared.Found.{Found}
+use Rattle.classes.specs.declared.Found.the-variants.{At, NoPart}
+use Rattle.classes.specs.Asked.{found, Finds}
+use Rattle.classes.specs.Classes.{inClass, memberIn, arity, isOf}
 use Rattle.classes.specs.Matches.{argument}
-use Rattle.classes.specs.Steps.{when, andThen}
+use Rattle.classes.specs.Paths.{runtimeMember}
+use Rattle.classes.specs.Steps.{when, andThen, argumentAt}
+use Rattle.shapes.specs.Parts.{ObjectOrPointerUnderlying}
 use Rattle.shapes.specs.Shapes.{IsObject, IsObjectOrPointer}
 use Rattle.shapes.specs.Initialization.{newUnderlying, TypeAtInitialization}
 use Rattle.rebuild.specs.Calls.{Laid}
 use Rattle.initialization.specs.declared.Initial.{Initial}
 use Rattle.initialization.specs.declared.Initial.the-variants.{OfArray, Unchanged}
+use Rattle.initialization.specs.declared.Pointer.{Pointer}
+use Rattle.initialization.specs.declared.Pointer.the-variants.{To, NoPointer}
 
 -- a tree as it stands at initialization: on the way no more words lie there than at the end
 abbrev pub laidInit : (ℕ → Bytes) → Ty ℕ → Laid
@@ -30,9 +43,17 @@ laidInit bytes t = record {
   deep = depth (TypeAtInitialization bytes t);
 }
 
+-- the type that fills the words, as it stands at initialization; the tables hold
+unfoldable pub wholeInitialized : List ℕ → List ℕ → Bytes → Answer Laid
+wholeInitialized words pairs text = mapAnswer (laidInit (nameBytes pairs text)) (whole (length words) (treeAt words pairs 0))
+
 -- the type that an encoding holds, as it stands at initialization
 unfoldable pub typeInitialized : List ℕ → List ℕ → Bytes → Answer Laid
 typeInitialized words pairs text = mapAnswer (laidInit (nameBytes pairs text)) (treeOf words pairs text)
+
+-- the type at the front, if it is at most `deep` types deep
+abbrev pub typeWithin : ℕ → List ℕ → List ℕ → Bytes → Reading (Ty Bytes)
+typeWithin deep words pairs text = readType (nameCount pairs) words (nameBytes pairs text) deep 0
 
 -- ---- the pieces
 
@@ -56,20 +77,59 @@ newArray bytes t = when (IsObjectOrPointer (renamed bytes t)) (andThen (argument
 pub record Named (bytes : ℕ → Bytes) (x : Reading (Ty ℕ)) (name : ℕ) : Type 0 where
   pub names : (t : Ty ℕ) (n : ℕ) → x ≡ got t n → name ≡ pick (IsObject (renamed bytes t)) 11 12
 
--- where the pieces of a new array stand, if there is one
-pub data Pieces (ws pairs : List ℕ) (new : Option (Ty ℕ)) : Initial → Type 0 where
-  pieces : {array u : Ty ℕ} {start element n : ℕ} → new ≡ some array → start ≤ element → element ≤ length ws → treeAt ws pairs element ≡ got u n
-      → encode array ≡ take (element - start) (drop start ws) ++ (uninitWords ++ encode u) → depth array ≡ 2 + depth u → Pieces ws pairs new (OfArray start element)
-  unchanged : new ≡ none → Pieces ws pairs new Unchanged
+-- that of an `Object` whose words begin at `place`: behind wrappers it becomes a `Ptr`
+unfoldable pub nameAt : ℕ → ℕ
+nameAt place = pick (eqb place 0) 11 12
+
+-- ---- the pointer
+
+-- a class of members of `dafny_runtime` that are applied to one type
+pub record Member (class : Class) : Type 0 where
+  pub one : arity class ≡ 1
+  pub by : (p : Path Bytes) → inClass class p ≡ runtimeMember (memberIn class) p
+
+-- r says whether a member of `dafny_runtime` is applied to one type there: its name is then the seventh word, and the type stands behind it
+pub record OfRuntime (ws pairs : List ℕ) (text : Bytes) (at : ℕ) (r : Bool) : Type 0 where
+  pub inside : r ≡ true → at + 6 < length ws
+  pub below : r ≡ true → getD ws (at + 6) 0 < nameCount pairs
+  pub of : (class : Class) → Member class → Judges (isOf class) (typeAt ws pairs text at) (r and memberIn class (nameBytes pairs text (getD ws (at + 6) 0)))
+  pub argument : (t : Ty Bytes) (n : ℕ) → r ≡ true → typeAt ws pairs text at ≡ got t n → found (argumentAt 0 at t) ≡ At (at + 7)
+
+-- where the type under a pointer stands
+unfoldable pub partOf : Pointer → Found
+partOf (To name at) = At at
+partOf NoPointer = NoPart
+
+-- the pointer that the type at the front is
+pub record Points (ws pairs : List ℕ) (text : Bytes) (r : Pointer) : Type 0 where
+  pub part : Finds ObjectOrPointerUnderlying (typeAt ws pairs text) 0 (partOf r)
+  pub name : (k at : ℕ) → r ≡ To k at → Named (nameBytes pairs text) (treeAt ws pairs 0) k
+
+-- ---- the array
+
+-- where the pieces of a new array stand, if there is one: the element ends at `end`, and at least `around` types stand around it in t
+pub data Pieces (ws pairs : List ℕ) (around : ℕ) (t : Ty ℕ) (end : ℕ) (new : Option (Ty ℕ)) : Initial → Type 0 where
+  pieces : {array u : Ty ℕ} {start element : ℕ} → new ≡ some array → start ≤ element → element ≤ length ws → treeAt ws pairs element ≡ got u end
+      → encode array ≡ take (element - start) (drop start ws) ++ (uninitWords ++ encode u) → depth array ≡ 2 + depth u → around + depth u ≤ depth t
+      → Pieces ws pairs around t end new (OfArray start element)
+  unchanged : new ≡ none → Pieces ws pairs around t end new Unchanged
 
 -- what f makes of the tree at a position, by its pieces
-pub record Becomes (f : Ty ℕ → Option (Ty ℕ)) (ws pairs : List ℕ) (at : ℕ) (r : Initial) : Type 0 where
+pub record Becomes (f : Ty ℕ → Option (Ty ℕ)) (around : ℕ) (ws pairs : List ℕ) (at : ℕ) (r : Initial) : Type 0 where
   pub tree : Ty ℕ
   pub end : ℕ
   pub reads : treeAt ws pairs at ≡ got tree end
-  pub by : Pieces ws pairs (f tree) r
+  pub by : Pieces ws pairs around tree end (f tree) r
 
--- a type fills the words
-pub record Whole (ws pairs : List ℕ) : Type 0 where
+-- a type fills the words, and is less deep than it may be unless `deepest` is true
+pub record Whole (ws pairs : List ℕ) (deepest : Bool) : Type 0 where
   pub tree : Ty ℕ
   pub reads : treeAt ws pairs 0 ≡ got tree (length ws)
+  pub shallow : deepest ≡ false → depth tree ≤ 63
+
+-- an element reaches to the end of the words, and is not too deep unless `deepest` is true
+pub record Shallow (ws pairs : List ℕ) (element : ℕ) (deepest : Bool) : Type 0 where
+  pub tree : Ty ℕ
+  pub inside : element ≤ length ws
+  pub reads : treeAt ws pairs element ≡ got tree (length ws)
+  pub shallow : deepest ≡ false → depth tree ≤ 61

@@ -1,10 +1,10 @@
 -- Each step of a walk, by what is left to read before and behind it, under any names and any reader of types.
 use Prim.Native.Nat.{ℕ, zero, suc, _+_, _-_, _<_}
-use mathlib.Core.Path.{_≡_, refl, ap, sym, _∙_}
+use mathlib.Core.Path.{_≡_, refl, ap, sym, _∙_, subst}
 use mathlib.Core.Bool.{Bool, true, false}
 use mathlib.Core.List.{List, [], _∷_, map}
 use native.Mathlib.Omega.{arith}
-use borrow.Author.Tests.{ne-eqb, eq-eqb}
+use borrow.Author.Tests.{ne-eqb, eq-eqb, eqb-true, eqb-false}
 use lib.Dec.{eqb}
 use lib.ListN.{length, getD}
 use Rattle.rast.specs.Tree.{Ty}
@@ -13,6 +13,8 @@ use Rattle.encoding.specs.declared.Refusal.{Refusal}
 use Rattle.encoding.specs.Refusals.{pick}
 use Rattle.encoding.specs.Reading.{Reading, got, stop, _>>=_, mapReading, readWord, readBelow}
 use Rattle.encoding.specs.Declarations.{readList, readCounted, visibilityOf, readVisibility, readName, readParameter, readFormal, readField, readNamelessField, readFields, readCase}
+use Rattle.encoding.proofs.Tables.{impossible}
+use Rattle.encoding.proofs.Types.{bind-got}
 use Rattle.encoding.proofs.Inside.{There, word-there, below-there}
 use Rattle.trees.specs.Encode.{Token, word, name, tokenWord, renamedToken}
 use Rattle.trees.specs.Runs.{Run}
@@ -23,7 +25,7 @@ use Rattle.pieces.specs.declared.After.the-variants.{FieldList, CaseList
 use Rattle.pieces.specs.declared.Walk.{Walk}
 use Rattle.pieces.specs.declared.Next.the-variants.{OwnWords, TypeDue, Ended, Halted}
 use Rattle.pieces.specs.Pieces.{Piece, own, type, visibilityWord, runs, owned, typePiece, counted, parameterPieces, fieldPieces, namelessPieces, fieldsPieces, casePieces}
-use Rattle.pieces.specs.Walks.{ahead, _&_, many, someFields, bodyOf, leftOf, readEntry, readTwo, moved, pastType, pastAlias, inParameter, inFields, inCases, inField, inCase, Stepped, type-due, parameter, no-parameter, fields, no-fields, cases, no-cases, alias, field, no-field, nameless, no-nameless, case, no-case, end}
+use Rattle.pieces.specs.Walks.{ahead, _&_, many, someFields, bodyOf, leftOf, readEntry, readTwo, moved, pastType, pastAlias, inParameter, inFields, inCases, inField, inCase, FieldNext, fieldType, Stepped, type-due, parameter, no-parameter, fields, no-fields, cases, no-cases, alias, field, no-field, nameless, no-nameless, case, no-case, end}
 use Rattle.pieces.proofs.Scans.{Pair, NoPair, at-first, at-second, entry, no-entry, two, no-two}
 use Rattle.pieces.proofs.Ahead.{ahead-and, and-none, and-last, and-same, and-stop, many-none, item-more, many-stop, type-and, many-one, list-length}
 
@@ -383,3 +385,34 @@ module _ {N : Type 0} (bound : ℕ) (ws : List ℕ) (nm : ℕ → N) (ty : ℕ �
       let t = two bound ws (w .place) bound g in
       let r = two-run ws (w .place) (below-word bound ws (w .place) (t .first)) (below-word bound ws (t .middle) (t .second)) in
       record { tokens = name d ∷ name x ∷ []; reads = case-step w e k a f h g; run = r .0; end = r .1; further = omega (arith, r .1) }
+
+-- ---- a field that was accepted: its own words go up to its type
+
+module _ {N : Type 0} (bound : ℕ) (ws : List ℕ) (nm : ℕ → N) (ty : ℕ → Reading (Ty N)) where
+  two-end : (b c at : ℕ) {v : ℕ × ℕ} {q : ℕ} → readTwo b c ws at ≡ got v q → q ≡ at + 2
+  unfolding readTwo
+  two-end b c at {v} {q} e =
+      let r₁ = bind-got (readBelow b ws at) _ e in
+      let r₂ = bind-got (readBelow c ws (r₁ .end)) _ (r₁ .rest) in
+      let n₁ = below-there b ws at (r₁ .first) .next in
+      let n₂ = below-there c ws (r₁ .end) (r₂ .first) .next in
+      let z : r₂ .end ≡ q = cc (r₂ .rest) in
+      omega (arith, n₁, n₂, z)
+
+  pub field-opens : (w : Walk) {ps : List (Piece N)} {n : ℕ} → leftOf bound ws nm ty w ≡ got ps n → FieldNext w → Stepped bound ws w (OwnWords (inField w (fieldType w)))
+  field-opens w {ps} {n} l (t, m, a, f) = kinds (eqb (w .kind) 0) refl
+    where
+      never : {r : Refusal} → Stepped bound ws w (Halted r) → ⊥
+      never s = let k = halt-step bound ws nm ty w s in impossible (cc (k, l))
+
+      named : w .kind ≡ 0 → (x : Reading (ℕ × ℕ)) → readTwo 2 bound ws (w .place) ≡ x → Stepped bound ws w (OwnWords (inField w (w .place + 2)))
+      named k (got v q) e = subst (λ (i : ℕ). Stepped bound ws w (OwnWords (inField w i))) (two-end 2 bound (w .place) e) (field t m a f k e)
+      named k (stop r) e = absurd (never (no-field t m a f k e))
+
+      nameless-one : (w .kind ≡ 0 → ⊥) → (x : Reading ℕ) → readBelow 2 ws (w .place) ≡ x → Stepped bound ws w (OwnWords (inField w (w .place + 1)))
+      nameless-one k (got v q) e = subst (λ (i : ℕ). Stepped bound ws w (OwnWords (inField w i))) (below-there 2 ws (w .place) e .next) (nameless t m a f k e)
+      nameless-one k (stop r) e = absurd (never (no-nameless t m a f k e))
+
+      kinds : (b : Bool) → eqb (w .kind) 0 ≡ b → Stepped bound ws w (OwnWords (inField w (pick b (w .place + 2) (w .place + 1))))
+      kinds true e = named (eqb-true (w .kind) 0 e) (readTwo 2 bound ws (w .place)) refl
+      kinds false e = nameless-one (eqb-false (w .kind) 0 e) (readBelow 2 ws (w .place)) refl

@@ -1,5 +1,5 @@
 -- A walk over a declaration: what is left to read of it, as pieces, and how each step goes on.
-use Prim.Native.Nat.{ℕ, _-_, _<_}
+use Prim.Native.Nat.{ℕ, _+_, _-_, _<_}
 use mathlib.Core.Path.{_≡_}
 use mathlib.Core.List.{List, _++_}
 use lib.Dec.{eqb}
@@ -108,6 +108,16 @@ inField w q = record { place = q; types = 1; parameters = 0; after = NoMore; kin
 -- in a case, whose fields follow at q
 abbrev pub inCase : Walk → ℕ → Walk
 inCase w q = record { place = q; types = 0; parameters = 0; after = FieldList; kind = 0; fields = 0; cases = w .cases - 1 }
+
+-- a field comes next; where its type stands; and the walk behind it, at q
+abbrev pub FieldNext : Walk → Type 0
+FieldNext w = (w .types ≡ 0) × (w .parameters ≡ 0) × (w .after ≡ NoMore) × (0 < w .fields)
+
+abbrev pub fieldType : Walk → ℕ
+fieldType w = pick (eqb (w .kind) 0) (w .place + 2) (w .place + 1)
+
+abbrev pub pastField : Walk → ℕ → Walk
+pastField w q = record { place = q; types = 0; parameters = 0; after = NoMore; kind = w .kind; fields = w .fields - 1; cases = w .cases }
 
 -- the own words of the next step, and how it goes on
 pub data Stepped (bound : ℕ) (ws : List ℕ) (w : Walk) : Next → Type 0 where

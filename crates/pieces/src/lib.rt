@@ -1,13 +1,14 @@
 // A declaration as a run of own words and types: a walk that finds the types one behind the other; and acceptance, part by part.
 ghost use mathlib.Core.Path.{_≡_};
-ghost use Prim.Native.Nat.{_≤_, _<_};
+ghost use mathlib.Core.Bool.{true};
+ghost use Prim.Native.Nat.{_^_, _≤_, _<_};
 ghost use lib.ListN.{length};
 ghost use Rattle.encoding.specs.Tables.{Good};
 ghost use Rattle.encoding.specs.Types.{typeAt};
 ghost use Rattle.encoding.specs.Declarations.{readList, readCounted, declarationAt};
 ghost use Rattle.encoding.specs.Scans.{ended};
 ghost use Rattle.pieces.specs.declared.After.the-variants.{FieldList, CaseList, NoMore};
-ghost use Rattle.pieces.specs.Walks.{readEntry, readTwo, twoScan, moved, inField, Stepped, readOneAttribute, readAttributes, readUsing, readOpening, startedAt, titled, started};
+ghost use Rattle.pieces.specs.Walks.{readEntry, readTwo, twoScan, moved, inField, FieldNext, fieldType, pastField, Stepped, readOneAttribute, readAttributes, readUsing, readOpening, startedAt, titled, started};
 ghost use Rattle.pieces.specs.Ends.{parameterAt, formalAt, fieldEnd, eachFieldEnd, fieldsAt, caseAt, signatureEnd, headingEnd, structAt, enumAt, synonymAt, useEnd, heldAt};
 use encoding::PathScan;
 use encoding::Refusal;
@@ -252,6 +253,55 @@ fn next_member(words: &[u32], bound: usize, walk: Walk) -> Next
         return open_case(words, bound, walk);
     }
     Next::Ended
+}
+
+// Whether a field comes next.
+pub fn is_field_next(walk: Walk) -> bool
+    ensures { λ r. ⌜ (r ≡ true → FieldNext walk) ⌝ }
+{
+    let after = walk.after;
+    if walk.fields == 0 {
+        return false;
+    }
+    if walk.types != 0 {
+        return false;
+    }
+    if walk.parameters != 0 {
+        return false;
+    }
+    match after {
+        After::FieldList => false,
+        After::CaseList => false,
+        After::OneType => false,
+        After::NoMore => true,
+    }
+}
+
+// Where the type of the next field stands: behind its visibility, and behind its name if fields have names.
+pub fn field_type(walk: Walk) -> usize
+    requires { ⌜ walk .place ≤ 2 ^ 62 ⌝ }
+    ensures { λ r. ⌜ r ≡ fieldType walk ⌝ }
+{
+    if walk.kind == 0 {
+        return walk.place + 2;
+    }
+    walk.place + 1
+}
+
+// The walk behind the next field, which ends at `place`.
+pub fn past_field(walk: Walk, place: usize) -> Walk
+    requires { ⌜ 0 < walk .fields ⌝ }
+    ensures { λ r. ⌜ r ≡ pastField walk place ⌝ }
+{
+    Walk {
+        place,
+        types: 0,
+        parameters: 0,
+        after: After::NoMore,
+        kind: walk.kind,
+        fields: walk.fields - 1,
+        cases: walk.cases,
+    }
 }
 
 // The next step of a walk; `bound` is the number of names.

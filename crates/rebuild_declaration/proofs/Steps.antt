@@ -22,9 +22,9 @@ use Rattle.pieces.specs.declared.Next.the-variants.{OwnWords, TypeDue, Ended, H
 use Rattle.pieces.specs.declared.Start.{Start}
 use Rattle.pieces.specs.declared.Start.the-variants.{Begun, NotBegun}
 use Rattle.pieces.specs.Pieces.{Piece, type, owned, pieces}
-use Rattle.pieces.specs.Walks.{Opening, ahead, moved, Stepped, readOpening, opened, started}
+use Rattle.pieces.specs.Walks.{Opening, ahead, moved, pastType, inField, FieldNext, fieldType, pastField, Stepped, type-due, readOpening, opened, started}
 use Rattle.pieces.proofs.Ahead.{ahead-none, ahead-twice}
-use Rattle.pieces.proofs.Steps.{own-step, due-step, end-step, halt-step}
+use Rattle.pieces.proofs.Steps.{own-step, due-step, end-step, halt-step, field-opens}
 use Rattle.pieces.proofs.Openings.{tokens-same, declaration-pieces}
 use Rattle.pieces.proofs.OpeningRuns.{opening-run}
 use Rattle.pieces.proofs.Passes.{bind-at, bind-none}
@@ -194,15 +194,65 @@ module _ (m : Ty ℕ → Ty ℕ) (ws pairs : List ℕ) (w₀ : Walk) (limit : �
             let x : leftIn ws pairs w₀ ≡ got (g .done) (w .place) = g .reads ∙ rw (r, append-nil (g .done)) refl in
             rebuilt x (g .fits) (g .within) (rw i (g .grown)) (g .deeps)
 
-    pub going-full : {o₂ : List ℕ} {a : Advance} → Advanced m ws pairs w limit o₁ q o₂ a → a ≡ NoSpace → PiecesRebuild m limit o p (leftIn ws pairs w₀) o₂ Full
+    pub going-over : {o₂ : List ℕ} → Advanced m ws pairs w limit o₁ q o₂ NoSpace → Advanced m ws pairs w₀ limit o p o₂ NoSpace
     unfolding ahead mapReading
-    going-full {o₂} k e = go (subst (Advanced m ws pairs w limit o₁ q o₂) e k)
+    going-over (noSpace {ps = ps} {n = n} r h l) =
+        let x : leftIn ws pairs w₀ ≡ got (g .done ++ ps) n = g .reads ∙ rw r refl in
+        let f : limit < p + topPieces m (g .done ++ ps) = omega (arith, h, top-append m (g .done) ps, g .grown .next) in
+        noSpace x f (l ∙ g .grown .kept)
+
+    pub going-full : {o₂ : List ℕ} {a : Advance} → Advanced m ws pairs w limit o₁ q o₂ a → a ≡ NoSpace → PiecesRebuild m limit o p (leftIn ws pairs w₀) o₂ Full
+    going-full {o₂} k e = go (going-over (subst (Advanced m ws pairs w limit o₁ q o₂) e k))
       where
-        go : Advanced m ws pairs w limit o₁ q o₂ NoSpace → PiecesRebuild m limit o p (leftIn ws pairs w₀) o₂ Full
-        go (noSpace {ps = ps} {n = n} r h l) =
-            let x : leftIn ws pairs w₀ ≡ got (g .done ++ ps) n = g .reads ∙ rw r refl in
-            let f : limit < p + topPieces m (g .done ++ ps) = omega (arith, h, top-append m (g .done) ps, g .grown .next) in
-            full x f (l ∙ g .grown .kept)
+        go : Advanced m ws pairs w₀ limit o p o₂ NoSpace → PiecesRebuild m limit o p (leftIn ws pairs w₀) o₂ Full
+        go (noSpace r h l) = full r h l
+
+    -- several steps are one
+    pub going-whole : w₀ .place < w .place → Advanced m ws pairs w₀ limit o p o₁ (Further w q found)
+    going-whole h = further (g .done) (g .reads) h (g .inside) (g .within) (g .fits) (g .grown) (g .deeps)
+
+-- ---- a field, whole
+
+module _ (m : Ty ℕ → Ty ℕ) (ws pairs : List ℕ) (w : Walk) (limit : ℕ) (o : List ℕ) (p : ℕ)
+    (c : Readable (leftIn ws pairs w)) (i : w .place ≤ length ws) (l : p ≤ limit) (z : limit ≤ length o) (f : FieldNext w) where
+  -- its own words, and its type
+  pub field-own : OwnLaid ws pairs w (inField w (fieldType w))
+  field-own = own-laid ws pairs (field-opens (nameCount pairs) ws (λ x. x) (treeAt ws pairs) w (c .reads) f)
+
+  abbrev inner : Walk
+  inner = inField w (fieldType w)
+
+  inner-readable : Readable (leftIn ws pairs inner)
+  inner-readable =
+      let x = behind-got (owned (field-own .tokens)) (leftIn ws pairs inner) (sym (field-own .reads) ∙ c .reads) in
+      record { value = x .left; end = c .end; reads = x .reads }
+
+  field-left : TypeLeft ws pairs inner (pastType inner)
+  field-left = type-left ws pairs (type-due (omega arith)) inner-readable
+
+  pub field-readable : Readable (treeAt ws pairs (fieldType w))
+  field-readable = record { value = field-left .tree; end = field-left .end; reads = field-left .first }
+
+  pub field-over : {o′ : List ℕ} {r : Laying} → Lays limit o p (take (fieldType w - w .place) (drop (w .place) ws)) o′ r → r ≡ Over → Advanced m ws pairs w limit o p o′ NoSpace
+  field-over k e = own-over m ws pairs w limit o p field-own c k e
+
+  module _ {o₁ : List ℕ} {r : Laying} {q : ℕ} (k : Lays limit o p (take (fieldType w - w .place) (drop (w .place) ws)) o₁ r) (e : r ≡ To q) where
+    -- there is room for the type behind them
+    pub field-room : (q ≤ limit) × (limit ≤ length o₁)
+    field-room = let h = lays-to k e in (h .0, omega (arith, z, h .1 .kept))
+
+    field-begun : Going m ws pairs w limit o p o₁ inner q 0
+    field-begun = going-on m ws pairs w limit o p (going-starts m ws pairs w limit o p c i l z) (own-further m ws pairs w limit o p field-own k e) refl (let v : 0 ≡ max 0 0 = omega arith in v) .0
+
+    module _ {o₂ : List ℕ} {d : Rebuilt} (t : TypeRebuilds m limit o₁ q (treeAt ws pairs (fieldType w)) o₂ d) where
+      pub field-full : d ≡ Full → Advanced m ws pairs w limit o p o₂ NoSpace
+      field-full h = going-over m ws pairs w limit o p field-begun (type-over m ws pairs inner limit o₁ q field-left inner-readable t h)
+
+      pub field-further : {next pos deep : ℕ} → d ≡ Done next pos deep → Advanced m ws pairs w limit o p o₂ (Further (pastField w next) pos deep)
+      field-further {next} {pos} {deep} h =
+          let s = type-further m ws pairs inner limit o₁ q field-left (field-own .inside) t h in
+          let g = going-on m ws pairs w limit o p field-begun s refl (let v : deep ≡ max 0 deep = omega arith in v) in
+          going-whole m ws pairs w limit o p (g .0) (omega (arith, field-own .further, g .1))
 
 -- ---- the whole declaration
 

@@ -3,6 +3,7 @@ ghost use Prim.Native.Nat.{_≤_};
 ghost use lib.ListN.{length};
 ghost use Rattle.encoding.specs.Tables.{Good};
 ghost use Rattle.writing.specs.Written.{Readable};
+ghost use Rattle.pieces.specs.Walks.{FieldNext};
 ghost use Rattle.rebuild.specs.Laid.{Ruled, mapping};
 ghost use Rattle.rebuild_declaration.specs.Laying.{leftIn, Advanced, PiecesRebuild};
 ghost use Rattle.rebuild_declaration.specs.Calls.{declarationIn, DeclarationRebuilds};
@@ -83,6 +84,67 @@ fn lay_next(
     }
 }
 
+// A field, whole: its own words and its type are two steps, and each would hand the walk over in memory.
+fn lay_field(
+    words: &[u32],
+    pairs: &[u32],
+    text: &[u8],
+    rules: &[u32],
+    table: &[usize; 160],
+    k: usize,
+    walk: Walk,
+    out: &mut [u32],
+    pos: usize,
+    limit: usize,
+) -> Advance
+    requires { ⌜ Good (now pairs) (now text) × Ruled (now rules) (now pairs) (now text) (now table) k × Readable (leftIn (now words) (now pairs) walk)
+        × (walk .place ≤ length (now words)) × (pos ≤ limit) × (limit ≤ length (now out)) × FieldNext walk ⌝ }
+    ensures { λ r. ⌜ Advanced (mapping (now (rules .entry)) (now (pairs .entry)) (now (text .entry))) (now (words .entry)) (now (pairs .entry)) walk limit
+        (now (out .entry)) pos (now (out .exit)) r ⌝ }
+{
+    let place = walk.place;
+    let at = pieces::field_type(walk);
+    let Laying::To(p) = rebuild::lay(words, place, at - place, out, pos, limit) else {
+        return Advance::NoSpace;
+    };
+    match rebuild::rebuild_type(words, pairs, text, rules, table, k, at, out, p, limit) {
+        Rebuilt::Done {
+            next,
+            pos: q,
+            depth,
+        } => Advance::Further {
+            walk: pieces::past_field(walk, next),
+            pos: q,
+            depth,
+        },
+        Rebuilt::Full => Advance::NoSpace,
+    }
+}
+
+// A field, or one step.
+fn lay_piece(
+    words: &[u32],
+    pairs: &[u32],
+    text: &[u8],
+    rules: &[u32],
+    table: &[usize; 160],
+    k: usize,
+    walk: Walk,
+    out: &mut [u32],
+    pos: usize,
+    limit: usize,
+) -> Advance
+    requires { ⌜ Good (now pairs) (now text) × Ruled (now rules) (now pairs) (now text) (now table) k × Readable (leftIn (now words) (now pairs) walk)
+        × (walk .place ≤ length (now words)) × (pos ≤ limit) × (limit ≤ length (now out)) ⌝ }
+    ensures { λ r. ⌜ Advanced (mapping (now (rules .entry)) (now (pairs .entry)) (now (text .entry))) (now (words .entry)) (now (pairs .entry)) walk limit
+        (now (out .entry)) pos (now (out .exit)) r ⌝ }
+{
+    if pieces::is_field_next(walk) {
+        return lay_field(words, pairs, text, rules, table, k, walk, out, pos, limit);
+    }
+    lay_next(words, pairs, text, rules, table, k, walk, out, pos, limit)
+}
+
 // What is left of an accepted declaration to a walk, rebuilt.
 fn rebuild_rest(
     words: &[u32],
@@ -105,7 +167,7 @@ fn rebuild_rest(
     let mut p = pos;
     let mut deepest = 0;
     loop {
-        match lay_next(words, pairs, text, rules, table, k, w, out, p, limit) {
+        match lay_piece(words, pairs, text, rules, table, k, w, out, p, limit) {
             Advance::Further {
                 walk: next,
                 pos: q,

@@ -30,7 +30,7 @@ module _ (b : ℕ) (ws : List ℕ) where
       let ds = all-within again most h (k - 1) (f .middle) ts n (f .others ∙ ap (λ v. got v n) j) in
       omega (arith, ds, d, ap depth i)
 
-  within : (deep at : ℕ) (t : Ty ℕ) (n : ℕ) → readType b ws (λ x. x) deep at ≡ got t n → depth t ≤ deep
+  pub within : (deep at : ℕ) (t : Ty ℕ) (n : ℕ) → readType b ws (λ x. x) deep at ≡ got t n → depth t ≤ deep
   unfolding readType
   within zero at t n e = impossible (cc)
   within (suc deep) at t n e =

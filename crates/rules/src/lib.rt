@@ -257,7 +257,7 @@ fn stands_at(
     if words.len() - at < count {
         return false;
     }
-    if comparison::are_apart(words, at, rules, from, count) {
+    if comparison::are_apart(pairs, text, words, at, rules, from, count) {
         return false;
     }
     comparison::same_words(pairs, text, words, at, rules, from, count)

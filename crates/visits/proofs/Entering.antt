@@ -1,12 +1,9 @@
 -- What the visitor goes through of a declaration that was accepted, by a walk over its words.
 use Prim.Native.Nat.{ℕ, suc, _+_, _≤_, _<_}
 use mathlib.Core.Path.{_≡_, refl, ap, sym, _∙_, subst}
-use mathlib.Core.Bool.{Bool, true, false}
 use mathlib.Core.List.{List, [], _∷_, _++_, map, append-nil}
 use native.Mathlib.Omega.{arith}
 use native.Mathlib.Nat.{add-zero}
-use borrow.Author.Tests.{eqb-true, eqb-false}
-use lib.Dec.{eqb}
 use lib.ListN.{length, length-map}
 use Rattle.rast.specs.Bytes.{Bytes}
 use Rattle.rast.specs.Tree.{Ty, Tys, nil, cons}
@@ -14,15 +11,13 @@ use Rattle.rast.specs.Declaration.{Use, Declaration, UseDecl}
 use Rattle.output.specs.Wrote.{Wrote}
 use Rattle.output.proofs.Laws.{wrote-nothing, wrote-then, wrote-as, wrote-kept}
 use Rattle.encoding.specs.declared.Refusal.{Refusal}
-use Rattle.encoding.specs.Refusals.{pick}
-use Rattle.encoding.specs.Reading.{Reading, got, stop, readBelow}
+use Rattle.encoding.specs.Reading.{got}
 use Rattle.encoding.specs.declared.Scan.the-variants.{At}
 use Rattle.encoding.specs.Scans.{ended}
 use Rattle.encoding.specs.Tables.{nameBytes, nameCount}
 use Rattle.encoding.specs.Types.{readTypes, typeAt}
 use Rattle.encoding.specs.Declarations.{declarationAt}
 use Rattle.encoding.proofs.Tables.{impossible}
-use Rattle.encoding.proofs.Inside.{below-there}
 use Rattle.encoding.proofs.Types.{bind-got, type-lies}
 use Rattle.trees.specs.Encode.{Token, tokenWord, renamedToken, words}
 use Rattle.trees.proofs.Renaming.{type-words}
@@ -34,14 +29,14 @@ use Rattle.pieces.specs.declared.Start.{Start}
 use Rattle.pieces.specs.declared.Start.the-variants.{NotBegun}
 use Rattle.pieces.specs.declared.Next.the-variants.{OwnWords, TypeDue, Ended, Halted}
 use Rattle.pieces.specs.Pieces.{Piece, type, owned, typePiece, useTokens, front, rest, pieces}
-use Rattle.pieces.specs.Walks.{leftAt, readTwo, moved, inField, Stepped, type-due, field, no-field, nameless, no-nameless, Opening, opened, readOpening, started}
-use Rattle.pieces.proofs.Steps.{own-step, due-step, end-step, halt-step}
+use Rattle.pieces.specs.Walks.{leftAt, moved, inField, FieldNext, fieldType, pastField, Stepped, type-due, Opening, opened, readOpening, started}
+use Rattle.pieces.proofs.Steps.{own-step, due-step, end-step, halt-step, field-opens}
 use Rattle.pieces.proofs.OpeningRuns.{opening-run}
 use Rattle.pieces.proofs.Passes.{BegunAt, not-begun}
 use Rattle.pieces.proofs.Fronts.{Behind, behind-got, whole-left, Kind, a-struct, an-enum, a-synonym, a-use, kind-of}
 use Rattle.visits.specs.Visited.{visitedFrom, visitedPieces, entered, visitedDeclaration, positions}
 use Rattle.pieces.specs.declared.Whole.the-variants.{ADeclaration}
-use Rattle.visits.specs.Calls.{enteredAfter, enteredWalk, FieldNext, fieldType, pastField, Ahead, Entered, AllVisited, Due, Visited}
+use Rattle.visits.specs.Calls.{enteredAfter, enteredWalk, Ahead, Entered, AllVisited, Due, Visited}
 use Rattle.visits.proofs.Lists.{listOf, positions-append}
 
 module _ {N : Type 0} where
@@ -250,30 +245,8 @@ module _ (ws pairs : List ℕ) (text : Bytes) where
     going-halt {w} g s = let k = halt-step (nameCount pairs) ws (nameBytes pairs text) (typeAt ws pairs text) w s in impossible (cc (k, g .left))
 
     -- a field that comes next has been accepted: its own words,
-    two-end : (b c at : ℕ) {v : ℕ × ℕ} {q : ℕ} → readTwo b c ws at ≡ got v q → q ≡ at + 2
-    unfolding readTwo
-    two-end b c at {v} {q} e =
-        let r₁ = bind-got (readBelow b ws at) _ e in
-        let r₂ = bind-got (readBelow c ws (r₁ .end)) _ (r₁ .rest) in
-        let n₁ = below-there b ws at (r₁ .first) .next in
-        let n₂ = below-there c ws (r₁ .end) (r₂ .first) .next in
-        let z : r₂ .end ≡ q = cc (r₂ .rest) in
-        omega (arith, n₁, n₂, z)
-
     field-own : {w : Walk} {o′ : List ℕ} {p : ℕ} → Going w₀ o w o′ p → FieldNext w → Gone w (inField w (fieldType w)) o′ p
-    field-own {w} {o′} {p} g (t, m, a, f) = kinds (eqb (w .kind) 0) refl
-      where
-        named : w .kind ≡ 0 → (x : Reading (ℕ × ℕ)) → readTwo 2 (nameCount pairs) ws (w .place) ≡ x → Gone w (inField w (w .place + 2)) o′ p
-        named k (got v q) e = subst (λ (i : ℕ). Gone w (inField w i) o′ p) (two-end 2 (nameCount pairs) (w .place) e) (going-own g (field t m a f k e))
-        named k (stop r) e = absurd (going-halt g (no-field t m a f k e))
-
-        nameless-one : (w .kind ≡ 0 → ⊥) → (x : Reading ℕ) → readBelow 2 ws (w .place) ≡ x → Gone w (inField w (w .place + 1)) o′ p
-        nameless-one k (got v q) e = subst (λ (i : ℕ). Gone w (inField w i) o′ p) (below-there 2 ws (w .place) e .next) (going-own g (nameless t m a f k e))
-        nameless-one k (stop r) e = absurd (going-halt g (no-nameless t m a f k e))
-
-        kinds : (b : Bool) → eqb (w .kind) 0 ≡ b → Gone w (inField w (pick b (w .place + 2) (w .place + 1))) o′ p
-        kinds true e = named (eqb-true (w .kind) 0 e) (readTwo 2 (nameCount pairs) ws (w .place)) refl
-        kinds false e = nameless-one (eqb-false (w .kind) 0 e) (readBelow 2 ws (w .place)) refl
+    field-own {w} g f = going-own g (field-opens (nameCount pairs) ws (nameBytes pairs text) (typeAt ws pairs text) w (g .left) f)
 
     -- its type,
     pub field-due : {w : Walk} {o′ : List ℕ} {p : ℕ} → Going w₀ o w o′ p → FieldNext w → Due ws pairs text (fieldType w) 1 p

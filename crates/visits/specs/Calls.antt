@@ -1,13 +1,12 @@
 -- What the visit calls give, and what a pass over accepted types needs and does.
-use Prim.Native.Nat.{ℕ, _+_, _-_, _≤_, _<_}
+use Prim.Native.Nat.{ℕ, _≤_}
 use mathlib.Core.Path.{_≡_}
 use mathlib.Core.List.{List}
-use lib.Dec.{eqb}
 use lib.ListN.{length}
 use Rattle.rast.specs.Bytes.{Bytes}
 use Rattle.rast.specs.Tree.{Tys}
 use Rattle.output.specs.Wrote.{Wrote}
-use Rattle.encoding.specs.Refusals.{pick, Answer, mapAnswer}
+use Rattle.encoding.specs.Refusals.{Answer, mapAnswer}
 use Rattle.encoding.specs.Filled.{filledBy}
 use Rattle.encoding.specs.Reading.{got, whole}
 use Rattle.encoding.specs.Types.{readTypes, typeAt}
@@ -57,16 +56,6 @@ enteredAfter NoMore = NoMore
 
 abbrev pub enteredWalk : Walk → Walk
 enteredWalk w = record { place = w .place; types = w .types; parameters = w .parameters; after = enteredAfter (w .after); kind = w .kind; fields = w .fields; cases = w .cases }
-
--- a field comes next; where its type stands; and the walk behind it, at q
-abbrev pub FieldNext : Walk → Type 0
-FieldNext w = (w .types ≡ 0) × (w .parameters ≡ 0) × (w .after ≡ NoMore) × (0 < w .fields)
-
-abbrev pub fieldType : Walk → ℕ
-fieldType w = pick (eqb (w .kind) 0) (w .place + 2) (w .place + 1)
-
-abbrev pub pastField : Walk → ℕ → Walk
-pastField w q = record { place = q; types = 0; parameters = 0; after = NoMore; kind = w .kind; fields = w .fields - 1; cases = w .cases }
 
 -- what is left to the walk w was accepted
 pub record Ahead (ws pairs : List ℕ) (text : Bytes) (w : Walk) : Type 0 where

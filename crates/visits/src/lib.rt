@@ -1,7 +1,6 @@
 // Visit lists: the positions of the types that `Type.Fold` and the visitor of declarations go through, in their order.
 ghost use mathlib.Core.Path.{_≡_};
 ghost use mathlib.Core.List.{[], _∷_};
-ghost use mathlib.Core.Bool.{true};
 ghost use Prim.Native.Nat.{_≤_, _<_, _^_};
 ghost use lib.ListN.{length};
 ghost use Rattle.output.specs.Wrote.{Wrote};
@@ -9,7 +8,7 @@ ghost use Rattle.encoding.specs.Tables.{Good, nameCount};
 ghost use Rattle.encoding.specs.Declarations.{declarationAt};
 ghost use Rattle.writing.specs.Written.{Readable};
 ghost use Rattle.visits.specs.Visited.{typeVisits, declarationVisits};
-ghost use Rattle.visits.specs.Calls.{filled, Due, Visited, enteredAfter, enteredWalk, FieldNext, fieldType, pastField, Ahead, Entered, AllVisited, Fills, wholeVisits};
+ghost use Rattle.visits.specs.Calls.{filled, Due, Visited, enteredAfter, enteredWalk, Ahead, Entered, AllVisited, Fills, wholeVisits};
 ghost use Rattle.pieces.specs.Ends.{heldAt};
 ghost use Rattle.pieces.specs.declared.Whole.the-variants.{AType, ADeclaration};
 use encoding::Check;
@@ -109,55 +108,6 @@ fn entered_walk(walk: Walk) -> Walk
     }
 }
 
-// Whether a field comes next.
-fn is_field_next(walk: Walk) -> bool
-    ensures { λ r. ⌜ (r ≡ true → FieldNext walk) ⌝ }
-{
-    let after = walk.after;
-    if walk.fields == 0 {
-        return false;
-    }
-    if walk.types != 0 {
-        return false;
-    }
-    if walk.parameters != 0 {
-        return false;
-    }
-    match after {
-        After::FieldList => false,
-        After::CaseList => false,
-        After::OneType => false,
-        After::NoMore => true,
-    }
-}
-
-// Where the type of the next field stands: behind its visibility, and behind its name if fields have names.
-fn field_type(walk: Walk) -> usize
-    requires { ⌜ walk .place ≤ 8192 ⌝ }
-    ensures { λ r. ⌜ r ≡ fieldType walk ⌝ }
-{
-    if walk.kind == 0 {
-        return walk.place + 2;
-    }
-    walk.place + 1
-}
-
-// The walk behind the next field, which ends at `place`.
-fn past_field(walk: Walk, place: usize) -> Walk
-    requires { ⌜ 0 < walk .fields ⌝ }
-    ensures { λ r. ⌜ r ≡ pastField walk place ⌝ }
-{
-    Walk {
-        place,
-        types: 0,
-        parameters: 0,
-        after: After::NoMore,
-        kind: walk.kind,
-        fields: walk.fields - 1,
-        cases: walk.cases,
-    }
-}
-
 // The types that a walk comes to, which were accepted. The answer is how many positions there are. Most steps of a long enum are fields: these are taken whole, since a
 // single step hands the walk over in memory.
 fn visit_walk(
@@ -174,9 +124,9 @@ fn visit_walk(
     let mut w = walk;
     let mut p = 0;
     loop {
-        if is_field_next(w) {
-            let spot = visit_types(words, pairs, text, field_type(w), 1, out, p);
-            w = past_field(w, spot.next);
+        if pieces::is_field_next(w) {
+            let spot = visit_types(words, pairs, text, pieces::field_type(w), 1, out, p);
+            w = pieces::past_field(w, spot.next);
             p = spot.pos;
             continue;
         }

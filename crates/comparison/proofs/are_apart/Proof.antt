@@ -1,41 +1,84 @@
-use Rattle.comparison.specs.Looks.{toldApart}
-use mathlib.Core.Path.{_∙_, ap, sym}
+use native.Mathlib.Omega.{arith}
+use mathlib.Core.Path.{_∙_, sym}
+use borrow.Author.Tests.{not-true}
+use Rattle.encoding.proofs.Tables.{impossible}
+use Rattle.encoding.specs.Tables.{nameBytes}
+use Rattle.comparison.specs.declared.Due.the-variants.{Kind}
+use Rattle.comparison.proofs.Steps.{runs-later, runs-stop}
+use Rattle.comparison.proofs.Looks.{may-not, told-apart}
+use Prim.Native.Nat.{_+_, _-_}
 use borrow.Author.Needs.{needs}
 use Rattle.comparison.proofs.are_apart.Statement.{statement}
 use Rattle.comparison.proofs.are_apart.Tie as tie
 
-look-at-words-requires : tie.Need-look-at-words-requires
-look-at-words-requires c κs = search needs
+equal-front-requires : tie.Need-equal-front-requires
+equal-front-requires c κs = search needs
 
-enum-told : tie.Need-enum-told
-enum-told c = search needs
+add-numbers-apart : tie.Need-add-numbers-apart
+add-numbers-apart c = search needs
 
-enum-told-2 : tie.Need-enum-told-2
-enum-told-2 c = search needs
+add-numbers-apart-2 : tie.Need-add-numbers-apart-2
+add-numbers-apart-2 c = search needs
 
-enum-told-3 : tie.Need-enum-told-3
-enum-told-3 c = search needs
+sub-numbers-apart : tie.Need-sub-numbers-apart
+sub-numbers-apart c = search needs
+
+numbers-apart-requires : tie.Need-numbers-apart-requires
+numbers-apart-requires c κs = search needs
 
 returns : tie.Need-returns
-unfolding toldApart
-returns c = sym (ap toldApart (sym (c .before .before .look-at-words .ensures) ∙ c .enum-told .given .1))
+returns c = λ e.
+    let s = c .before .before .before .before .before .before .before in let a = s .args in let k = c .before .before .equal-front .result in
+    runs-later (nameBytes (a .pairs .now) (a .text .now)) (a .a .now) (a .b .now) k (a .start) (a .from) (a .count) (c .before .before .equal-front .ensures) (s .pre .1) (s .pre .2)
+    (λ due. told-apart (a .pairs .now) (a .text .now) due _ _ (sym (c .before .numbers-apart .ensures) ∙ c .if1 .taken)) Kind
 
 returns-2 : tie.Need-returns-2
-unfolding toldApart
-returns-2 c = sym (ap toldApart (sym (c .before .before .look-at-words .ensures) ∙ c .enum-told2 .given .1))
+returns-2 c = λ e. impossible (cc)
+
+add-may-agree : tie.Need-add-may-agree
+add-may-agree c = search needs
+
+mul-may-agree : tie.Need-mul-may-agree
+mul-may-agree c = search needs
+
+shared-slice-read-may-agree : tie.Need-shared-slice-read-may-agree
+shared-slice-read-may-agree c = search needs
+
+add-may-agree-2 : tie.Need-add-may-agree-2
+add-may-agree-2 c = search needs
+
+mul-may-agree-2 : tie.Need-mul-may-agree-2
+mul-may-agree-2 c = search needs
+
+shared-slice-read-may-agree-2 : tie.Need-shared-slice-read-may-agree-2
+shared-slice-read-may-agree-2 c = search needs
+
+may-agree-requires : tie.Need-may-agree-requires
+may-agree-requires c κs = search needs
 
 returns-3 : tie.Need-returns-3
-unfolding toldApart
-returns-3 c = sym (ap toldApart (sym (c .before .before .look-at-words .ensures) ∙ c .enum-told3 .given .1))
+returns-3 c = λ e.
+    let s = c .before .before .before .before .before .before .before .before .before .before .before in let a = s .args in let k = c .before .before .before .before .before .before .equal-front .result in let h = c .before .before .before .before .before .before .equal-front .ensures in let n = c .before .before .before .if2 .left in
+    runs-later (nameBytes (a .pairs .now) (a .text .now)) (a .a .now) (a .b .now) k (a .start) (a .from) (a .count) h (s .pre .1) (s .pre .2)
+    (λ due. runs-stop (nameBytes (a .pairs .now) (a .text .now)) due (a .a .now) (a .b .now) (a .start + k) (a .from + k) (a .count - k) (omega (arith, h, n, s .pre .1)) (omega (arith, h, n, s .pre .2)) (omega (arith, h, n))
+    (may-not (nameBytes (a .pairs .now) (a .text .now)) _ _ (sym (c .may-agree .ensures) ∙ not-true _ e) due)) Kind
 
 pub are-apart-spec : {M : Type 1} → statement M
 are-apart-spec =
     tie.close
     (tie.spec
-    look-at-words-requires
-    enum-told
-    enum-told-2
-    enum-told-3
+    equal-front-requires
+    add-numbers-apart
+    add-numbers-apart-2
+    sub-numbers-apart
+    numbers-apart-requires
     returns
     returns-2
+    add-may-agree
+    mul-may-agree
+    shared-slice-read-may-agree
+    add-may-agree-2
+    mul-may-agree-2
+    shared-slice-read-may-agree-2
+    may-agree-requires
     returns-3)

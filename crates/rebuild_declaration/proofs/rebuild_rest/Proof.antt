@@ -20,8 +20,8 @@ loop-holds c =
     let a = c .before .before .before .before .before .args in
     going-starts (mapping (a .rules .now) (a .pairs .now) (a .text .now)) (a .words .now) (a .pairs .now) (a .walk) (a .limit) (a .out .now) (a .pos) (c .before .before .before .before .before .pre .2) (c .before .before .before .before .before .pre .3) (c .before .before .before .before .before .pre .4) (c .before .before .before .before .before .pre .5)
 
-lay-next-requires : tie.Need-lay-next-requires Inv-loop μ-loop
-lay-next-requires c κs =
+lay-piece-requires : tie.Need-lay-piece-requires Inv-loop μ-loop
+lay-piece-requires c κs =
     let i = c .before .loop .inv in
     (c .before .before .before .before .before .before .before .pre .0, c .before .before .before .before .before .before .before .pre .1, i .readable, i .inside, i .within, omega (arith, i .grown .kept, c .before .before .before .before .before .before .before .pre .5))
 
@@ -34,13 +34,13 @@ larger-requires c κs = search needs
 loop-less : tie.Need-loop-less Inv-loop μ-loop
 loop-less c =
     let a = c .before .before .before .before .before .before .before .before .before .before .before .before .before .before .args in
-    let g = going-on (mapping (a .rules .now) (a .pairs .now) (a .text .now)) (a .words .now) (a .pairs .now) (a .walk) (a .limit) (a .out .now) (a .pos) (c .before .before .before .before .before .before .before .before .loop .inv) (c .before .before .before .before .before .before .lay-next .ensures) (c .before .before .next .given .1) (c .larger .ensures) in
+    let g = going-on (mapping (a .rules .now) (a .pairs .now) (a .text .now)) (a .words .now) (a .pairs .now) (a .walk) (a .limit) (a .out .now) (a .pos) (c .before .before .before .before .before .before .before .before .loop .inv) (c .before .before .before .before .before .before .lay-piece .ensures) (c .before .before .next .given .1) (c .larger .ensures) in
     omega (arith, g .1, g .0 .inside)
 
 loop-again : tie.Need-loop-again Inv-loop μ-loop
 loop-again c =
     let a = c .before .before .before .before .before .before .before .before .before .before .before .before .before .before .args in
-    going-on (mapping (a .rules .now) (a .pairs .now) (a .text .now)) (a .words .now) (a .pairs .now) (a .walk) (a .limit) (a .out .now) (a .pos) (c .before .before .before .before .before .before .before .before .loop .inv) (c .before .before .before .before .before .before .lay-next .ensures) (c .before .before .next .given .1) (c .larger .ensures) .0
+    going-on (mapping (a .rules .now) (a .pairs .now) (a .text .now)) (a .words .now) (a .pairs .now) (a .walk) (a .limit) (a .out .now) (a .pos) (c .before .before .before .before .before .before .before .before .loop .inv) (c .before .before .before .before .before .before .lay-piece .ensures) (c .before .before .next .given .1) (c .larger .ensures) .0
 
 enum-told : tie.Need-enum-told Inv-loop μ-loop
 enum-told c = search needs
@@ -51,7 +51,7 @@ same-length c = search needs
 returns : tie.Need-returns Inv-loop μ-loop
 returns c =
     let a = c .before .before .before .before .before .before .before .before .before .before .before .before .args in
-    going-ends (mapping (a .rules .now) (a .pairs .now) (a .text .now)) (a .words .now) (a .pairs .now) (a .walk) (a .limit) (a .out .now) (a .pos) (c .before .before .before .before .before .before .loop .inv) (c .before .before .before .before .lay-next .ensures) (c .enum-told .given .1)
+    going-ends (mapping (a .rules .now) (a .pairs .now) (a .text .now)) (a .words .now) (a .pairs .now) (a .walk) (a .limit) (a .out .now) (a .pos) (c .before .before .before .before .before .before .loop .inv) (c .before .before .before .before .lay-piece .ensures) (c .enum-told .given .1)
 
 enum-told-2 : tie.Need-enum-told-2 Inv-loop μ-loop
 enum-told-2 c = search needs
@@ -62,7 +62,7 @@ same-length-2 c = search needs
 returns-2 : tie.Need-returns-2 Inv-loop μ-loop
 returns-2 c =
     let a = c .before .before .before .before .before .before .before .before .before .before .before .before .args in
-    going-full (mapping (a .rules .now) (a .pairs .now) (a .text .now)) (a .words .now) (a .pairs .now) (a .walk) (a .limit) (a .out .now) (a .pos) (c .before .before .before .before .before .before .loop .inv) (c .before .before .before .before .lay-next .ensures) (c .enum-told2 .given .1)
+    going-full (mapping (a .rules .now) (a .pairs .now) (a .text .now)) (a .words .now) (a .pairs .now) (a .walk) (a .limit) (a .out .now) (a .pos) (c .before .before .before .before .before .before .loop .inv) (c .before .before .before .before .lay-piece .ensures) (c .enum-told2 .given .1)
 
 pub rebuild-rest-spec : {M : Type 1} → statement M
 rebuild-rest-spec =
@@ -71,7 +71,7 @@ rebuild-rest-spec =
     Inv-loop
     μ-loop
     loop-holds
-    lay-next-requires
+    lay-piece-requires
     enum-known-next
     larger-requires
     loop-less

@@ -1,5 +1,3 @@
-use Rattle.comparison.proofs.Looks.{told-apart}
-use Rattle.comparison.specs.declared.Due.the-variants.{Kind}
 use Rattle.encoding.specs.Tables.{nameBytes}
 use Rattle.rules.proofs.Steps.{stands-run, stands-short}
 use mathlib.Core.Path.{_∙_, sym}
@@ -43,12 +41,12 @@ returns c =
 are-apart-requires : tie.Need-are-apart-requires
 are-apart-requires c κs =
     let a = c .before .before .before .before .before .before .before .args in let pre = c .before .before .before .before .before .before .before .pre in let f = pre .1 in
-    (omega (arith, c .if1 .left, pre .3), omega (arith, f .from (a .i) (pre .2), f .to (a .i) (pre .2), f .inside (a .i) (pre .2)))
+    (pre .0, omega (arith, c .if1 .left, pre .3), omega (arith, f .from (a .i) (pre .2), f .to (a .i) (pre .2), f .inside (a .i) (pre .2)))
 
 returns-2 : tie.Need-returns-2
 returns-2 c =
     let a = c .before .before .before .before .before .before .before .before .before .args in let pre = c .before .before .before .before .before .before .before .before .before .pre in
-    sym (stands-run (nameBytes (a .pairs .now) (a .text .now)) (a .rules .now) (a .table .now) (pre .1) (a .words .now) (a .at) (pre .3) (a .i) (pre .2) ∙ told-apart (a .pairs .now) (a .text .now) Kind _ _ (sym (c .before .are-apart .ensures) ∙ c .if2 .taken))
+    sym (stands-run (nameBytes (a .pairs .now) (a .text .now)) (a .rules .now) (a .table .now) (pre .1) (a .words .now) (a .at) (pre .3) (a .i) (pre .2) ∙ c .before .are-apart .ensures (c .if2 .taken))
 
 same-words-requires : tie.Need-same-words-requires
 same-words-requires c κs =

@@ -1,8 +1,8 @@
 use Rattle.encoding.proofs.Tables.{impossible}
 use native.Mathlib.Omega.{arith}
-use Rattle.visits.proofs.is_field_next.Statement.{statement}
+use Rattle.pieces.proofs.is_field_next.Statement.{statement}
 use borrow.Author.Needs.{needs}
-use Rattle.visits.proofs.is_field_next.Tie as tie
+use Rattle.pieces.proofs.is_field_next.Tie as tie
 
 returns : tie.Need-returns
 returns c = λ e. impossible (cc)

@@ -1,8 +1,8 @@
 use mathlib.Core.Path.{refl}
 use borrow.Author.Tests.{eq-eqb, ne-eqb}
-use Rattle.visits.proofs.field_type.Statement.{statement}
+use Rattle.pieces.proofs.field_type.Statement.{statement}
 use borrow.Author.Needs.{needs}
-use Rattle.visits.proofs.field_type.Tie as tie
+use Rattle.pieces.proofs.field_type.Tie as tie
 
 add-result : tie.Need-add-result
 add-result c = search needs

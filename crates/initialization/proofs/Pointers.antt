@@ -1,0 +1,225 @@
+-- The pointer that a type is, by the words that stand there, and its name.
+use Prim.Native.Nat.{ℕ, _+_, _≤_}
+use mathlib.Core.Path.{_≡_, refl, ap, sym, _∙_}
+use mathlib.Core.Bool.{Bool, true, false}
+use mathlib.Core.List.{List}
+use native.Mathlib.Omega.{arith}
+use borrow.Author.Tests.{ne-eqb}
+use lib.Dec.{eqb}
+use lib.ListN.{getD}
+use Rattle.rast.specs.Bytes.{Bytes, ascii, same, _and_, _or_}
+use Rattle.rast.specs.Tree.{Ty, Tys, Primitive, TIdentifier, TypeFromPath, TypeApp, Borrowed, BorrowedMut, ImplType, DynType, TupleType, FnType, IntersectionType, Array, TSynonym, TMetaData, nil, cons}
+use Rattle.rast.specs.DeclarationToString.{Expand}
+use Rattle.encoding.specs.declared.PathAt.{PathAt}
+use Rattle.encoding.specs.Heads.{InsidePath}
+use Rattle.encoding.specs.Refusals.{pick}
+use Rattle.encoding.specs.Reading.{got}
+use Rattle.encoding.specs.Tables.{nameBytes, nameCount}
+use Rattle.encoding.specs.Types.{pathOf, typeAt}
+use Rattle.encoding.proofs.Tables.{impossible}
+use Rattle.encoding.proofs.Names.{and-false}
+use Rattle.writing.specs.Written.{Readable}
+use Rattle.trees.specs.Encode.{count, words}
+use Rattle.trees.specs.Numbered.{treeAt}
+use Rattle.trees.specs.Places.{place}
+use Rattle.trees.specs.Renamed.{renamed}
+use Rattle.trees.proofs.Nodes.{types-count}
+use Rattle.trees.proofs.Renaming.{type-words}
+use Rattle.wrappers.specs.Asked.{Judges, ExpandsAt}
+use Rattle.wrappers.proofs.TypesIn.{apply-of}
+use Rattle.classes.specs.declared.Class.{Class}
+use Rattle.classes.specs.declared.Class.the-variants.{ObjectClass, PtrClass}
+use Rattle.classes.specs.declared.Found.the-variants.{At}
+use Rattle.classes.specs.Asked.{InRuntime, found, Finds}
+use Rattle.classes.specs.Classes.{inClass, memberIn, arity, isOf}
+use Rattle.classes.specs.Matches.{applied}
+use Rattle.classes.specs.Steps.{when, typeAtIndex, argumentAt, argumentOf}
+use Rattle.classes.proofs.Paths.{class-object, class-pointer}
+use Rattle.classes.proofs.Worded.{word-other, count-other, base-word-other, path-word, path-here}
+use Rattle.shapes.specs.Parts.{expandedAt, expanded, ObjectOrPointerUnderlying}
+use Rattle.shapes.specs.Shapes.{IsObject, IsObjectOrPointer}
+use Rattle.shapes.proofs.Pointers.{expanded-tree, pointer-is}
+use Rattle.initialization.specs.declared.Pointer.{Pointer}
+use Rattle.initialization.specs.declared.Pointer.the-variants.{To, NoPointer}
+use Rattle.initialization.specs.Initialized.{nameAt, Member, OfRuntime, partOf, Points}
+use Rattle.initialization.proofs.Changes.{type-read, expanded-place}
+
+-- ---- members of `dafny_runtime`
+
+object-member : Member ObjectClass
+unfolding arity
+object-member = record { one = refl; by = class-object }
+
+pointer-member : Member PtrClass
+unfolding arity
+pointer-member = record { one = refl; by = class-pointer }
+
+module _ (ws pairs : List ℕ) (text : Bytes) (at : ℕ) where
+  runtime-none : ((class : Class) → Member class → Judges (isOf class) (typeAt ws pairs text at) false) → OfRuntime ws pairs text at false
+  unfolding _and_
+  runtime-none h = record { inside = λ e. impossible (cc); below = λ e. impossible (cc); of = h; argument = λ t n e. impossible (cc) }
+
+  pub runtime-kind : (getD ws at 0 ≡ 14 → ⊥) → OfRuntime ws pairs text at false
+  runtime-kind h = runtime-none λ class m. word-other ws pairs text at class h
+
+  module _ (k : getD ws at 0 ≡ 14) where
+    pub runtime-arguments : (getD ws (at + 1) 0 ≡ 1 → ⊥) → OfRuntime ws pairs text at false
+    runtime-arguments h = runtime-none λ class m. count-other ws pairs text at class k (sym (m .one)) h
+
+    pub runtime-base : (getD ws (at + 2) 0 ≡ 13 → ⊥) → OfRuntime ws pairs text at false
+    runtime-base h = runtime-none λ class m. base-word-other ws pairs text at class k h
+
+first-index : (p : ℕ) (ts : Tys Bytes) → count ts ≡ 1 → found (typeAtIndex 0 p ts) ≡ At p
+unfolding typeAtIndex found count
+first-index p nil e = absurd (let z : ⊥ = omega (arith, e) in z)
+first-index p (cons t ts) e = refl
+
+module _ (ws pairs : List ℕ) (text : Bytes) (at : ℕ) (x : Readable (typeAt ws pairs text at)) (k : getD ws at 0 ≡ 14) (j : getD ws (at + 1) 0 ≡ 1) (h : getD ws (at + 2) 0 ≡ 13) where
+  abbrev there : PathAt
+  there = record { root = getD ws (at + 2 + 1) 0; start = at + 2 + 3; count = getD ws (at + 2 + 2) 0 }
+
+  pub runtime-path : {r : Bool} → InRuntime ws pairs text there r → OfRuntime ws pairs text at r
+  unfolding argumentAt
+  runtime-path {r} i = record {
+    inside = λ e. omega (arith, own .inside, i .two e);
+    below = λ e. rw last (own .below (at + 2 + 3 + 1) (omega arith) (omega (arith, i .two e)));
+    of = λ class m. path-word ws pairs text at class k (sym (m .one)) j h (member class m);
+    argument = λ t n e d.
+        let a = apply-of ws pairs text at d k .1 in
+        let p = path-here ws pairs text at (record { value = t; end = n; reads = d }) k h in
+        let c = types-count (typeAt ws pairs text) (getD ws (at + 1) 0) (a .middle) (a .reads₂) ∙ j in
+        let w = type-words ws pairs text (at + 2) (a .reads) in
+        let q : at + 2 + words (a .left) ≡ at + 7 = omega (arith, w, p .end, i .two e) in
+        rw (a .made) (first-index (at + 2 + words (a .left)) (a .right) c ∙ ap At q);
+  }
+    where
+      own : InsidePath (nameCount pairs) ws there
+      own = path-here ws pairs text at x k h .own
+
+      last : at + 6 ≡ at + 2 + 3 + 1
+      last = omega arith
+
+      member : (class : Class) → Member class → (r and memberIn class (nameBytes pairs text (getD ws (at + 6) 0))) ≡ inClass class (pathOf ws (nameBytes pairs text) there)
+      member class m = rw last (sym (m .by (pathOf ws (nameBytes pairs text) there) ∙ i .says (memberIn class)))
+
+-- ---- behind wrappers
+
+behind : (p : ℕ) (t : Ty Bytes) → p ≤ expandedAt p t .at
+unfolding expandedAt
+behind p (Primitive x) = omega arith
+behind p (TIdentifier x) = omega arith
+behind p (TypeFromPath x) = omega arith
+behind p (TypeApp b ts) = omega arith
+behind p (Borrowed t) = omega arith
+behind p (BorrowedMut t) = omega arith
+behind p (ImplType t) = omega arith
+behind p (DynType t) = omega arith
+behind p (TupleType ts) = omega arith
+behind p (FnType ts t) = omega arith
+behind p (IntersectionType l r) = omega arith
+behind p (Array t s) = omega arith
+behind p (TSynonym d b) = let h = behind (p + 1 + words d) b in omega (arith, h)
+behind p (TMetaData d c o) = let h = behind (p + 2) d in omega (arith, h)
+
+and-true : (a : Bool) → (a and true) ≡ a
+unfolding _and_
+and-true true = refl
+and-true false = refl
+
+-- a type in wrappers is no application itself
+bare-only : (t : Ty Bytes) → isOf ObjectClass t ≡ (isOf ObjectClass (Expand t) and eqb (expandedAt 0 t .at) 0)
+unfolding isOf applied Expand expandedAt _and_
+bare-only (Primitive x) = refl
+bare-only (TIdentifier x) = refl
+bare-only (TypeFromPath x) = refl
+bare-only (TypeApp b ts) = sym (and-true (isOf ObjectClass (TypeApp b ts)))
+bare-only (Borrowed t) = refl
+bare-only (BorrowedMut t) = refl
+bare-only (ImplType t) = refl
+bare-only (DynType t) = refl
+bare-only (TupleType ts) = refl
+bare-only (FnType ts t) = refl
+bare-only (IntersectionType l r) = refl
+bare-only (Array t s) = refl
+bare-only (TSynonym d b) =
+    let h = behind (0 + 1 + words d) b in
+    sym (ap (λ x. isOf ObjectClass (Expand b) and x) (ne-eqb (expandedAt (0 + 1 + words d) b .at) 0 (λ e. omega (arith, h, e))) ∙ and-false (isOf ObjectClass (Expand b)))
+bare-only (TMetaData d c o) =
+    let h = behind (0 + 2) d in
+    sym (ap (λ x. isOf ObjectClass (Expand d) and x) (ne-eqb (expandedAt (0 + 2) d .at) 0 (λ e. omega (arith, h, e))) ∙ and-false (isOf ObjectClass (Expand d)))
+
+module _ (ws pairs : List ℕ) (text : Bytes) (r : Readable (treeAt ws pairs 0)) (at : ℕ) (x : ExpandsAt (typeAt ws pairs text) 0 at) {b : Bool} (o : OfRuntime ws pairs text at b) where
+  abbrev bytes : ℕ → Bytes
+  bytes = nameBytes pairs text
+
+  abbrev type : Ty Bytes
+  type = renamed bytes (r .value)
+
+  abbrev member : Bytes
+  member = bytes (getD ws (at + 6) 0)
+
+  opened : typeAt ws pairs text at ≡ got (Expand type) (r .end)
+  opened = x .expands type (r .end) (type-read ws pairs text 0 (r .reads))
+
+  object-is : (b and same member (ascii "Object")) ≡ isOf ObjectClass (Expand type)
+  unfolding memberIn
+  object-is = o .of ObjectClass object-member .says (Expand type) (r .end) opened
+
+  pointer-like : (b and same member (ascii "Ptr")) ≡ isOf PtrClass (Expand type)
+  unfolding memberIn
+  pointer-like = o .of PtrClass pointer-member .says (Expand type) (r .end) opened
+
+  -- the answer to the type that was read
+  part-of : (m : Pointer) → partOf m ≡ found (ObjectOrPointerUnderlying (place 0 type)) → Finds ObjectOrPointerUnderlying (typeAt ws pairs text) 0 (partOf m)
+  part-of m e = record {
+    says = λ t n d.
+        let k = type-read ws pairs text 0 (r .reads) in
+        let i : type ≡ t = cc (k, d) in
+        e ∙ ap (λ u. found (ObjectOrPointerUnderlying (place 0 u))) i;
+  }
+
+  pub no-pointer-here : (b and same member (ascii "Object")) ≡ false → (b and same member (ascii "Ptr")) ≡ false → Points ws pairs text NoPointer
+  unfolding ObjectOrPointerUnderlying when found partOf
+  no-pointer-here h k =
+      let z : IsObjectOrPointer type ≡ false = sym (pointer-is type) ∙ rw (sym pointer-like, sym object-is, h, k) refl in
+      record { part = part-of NoPointer (rw z refl); name = λ n p e. impossible (cc) }
+
+  points-to : (k : ℕ) → b ≡ true → IsObjectOrPointer type ≡ true → k ≡ pick (isOf ObjectClass (Expand type) and eqb at 0) 11 12 → Points ws pairs text (To k (at + 7))
+  unfolding ObjectOrPointerUnderlying expanded argumentOf when partOf IsObject isOf inClass arity
+  points-to k e y n =
+      let q : found (argumentAt 0 at (Expand type)) ≡ At (at + 7) = o .argument (Expand type) (r .end) e opened in
+      record {
+        part = part-of (To k (at + 7)) (rw (y, expanded-tree 0 type, expanded-place ws pairs text 0 r at x) (sym q));
+        name = λ m p d. record {
+          names = λ t l c.
+              let i : r .value ≡ t = cc (r .reads, c) in
+              let j : k ≡ m = cc in
+              sym j ∙ n ∙ ap (λ u. pick u 11 12) (sym (bare-only type ∙ ap (λ u. isOf ObjectClass (Expand type) and eqb u 0) (expanded-place ws pairs text 0 r at x)) ∙ ap (λ u. isOf ObjectClass (renamed bytes u)) i);
+        };
+      }
+
+  module _ (e : b ≡ true) where
+    pub object-here : {k : ℕ} → same member (ascii "Object") ≡ true → k ≡ nameAt at → Points ws pairs text (To k (at + 7))
+    unfolding _and_ nameAt
+    object-here {k} h n =
+        let i : isOf ObjectClass (Expand type) ≡ true = sym object-is ∙ rw (e, h) refl in
+        points-to k e (sym (pointer-is type) ∙ rw i (or-true (isOf PtrClass (Expand type)))) (n ∙ rw i refl)
+      where
+        or-true : (a : Bool) → (a or true) ≡ true
+        or-true true = refl
+        or-true false = refl
+
+    pub pointer-here : same member (ascii "Object") ≡ false → same member (ascii "Ptr") ≡ true → Points ws pairs text (To 12 (at + 7))
+    unfolding _and_
+    pointer-here h k =
+        let i : isOf ObjectClass (Expand type) ≡ false = sym object-is ∙ rw (e, h) refl in
+        let j : isOf PtrClass (Expand type) ≡ true = sym pointer-like ∙ rw (e, k) refl in
+        points-to 12 e (sym (pointer-is type) ∙ rw j refl) (rw i refl)
+
+    pub neither-here : same member (ascii "Object") ≡ false → same member (ascii "Ptr") ≡ false → Points ws pairs text NoPointer
+    unfolding _and_
+    neither-here h k = no-pointer-here (rw (e, h) refl) (rw (e, k) refl)
+
+  pub none-here : b ≡ false → Points ws pairs text NoPointer
+  unfolding _and_
+  none-here e = no-pointer-here (rw e refl) (rw e refl)
