@@ -16,11 +16,11 @@ ghost use Rattle.rebuild.specs.Calls.{laidDown, Fills};
 ghost use Rattle.initialization.specs.declared.Initial.the-variants.{OfArray};
 ghost use Rattle.initialization.specs.declared.Pointer.the-variants.{To};
 ghost use Rattle.initialization.specs.Initialized.{laidInit, wholeInitialized, typeInitialized, typeWithin, initialWords, newArray, nameAt, Becomes, Named, OfRuntime, Points, Shallow, Whole};
-use acceptance::Acceptance;
 use classes::Class;
 use classes::Found;
 use encoding::Check;
 use encoding::Refusal;
+use encoding::Scan;
 use rebuild::RebuildAnswer;
 
 // Fixed names, by their numbers.
@@ -238,13 +238,13 @@ fn accept_within(words: &[u32], pairs: &[u32], text: &[u8], inside: usize) -> Ch
     ensures { λ r. ⌜ r ≡ acceptance (whole (length (now (words .entry))) (typeWithin (64 - inside) (now (words .entry)) (now (pairs .entry)) (now (text .entry)))) ⌝ }
 {
     match acceptance::accept_type(words, pairs, text, 0, inside) {
-        Acceptance::Accepted(next) => {
+        Scan::At(next) => {
             if next != words.len() {
                 return Check::Failed(Refusal::LeftOver);
             }
             Check::Passed
         }
-        Acceptance::Denied(r) => Check::Failed(r),
+        Scan::Refused(r) => Check::Failed(r),
     }
 }
 
