@@ -86,7 +86,7 @@ enum Settling {
 fn give_way(
     rules: &[u32],
     pairs: &[u32],
-    table: &[usize; 160],
+    table: &[u16; 160],
     k: usize,
     i: usize,
     out: &mut [u32],
@@ -97,8 +97,8 @@ fn give_way(
         × (start ≤ limit) × (limit ≤ length (now out)) ⌝ }
     ensures { λ r. ⌜ GivesTo (now (rules .entry)) (now (pairs .entry)) (now (table .entry)) i limit (now (out .entry)) start (now (out .exit)) r ⌝ }
 {
-    let to = table[4 * i + 1];
-    let count = table[4 * i + 2] - to;
+    let to = table[4 * i + 1] as usize;
+    let count = table[4 * i + 2] as usize - to;
     match lay(rules, to, count, out, start, limit) {
         Laying::To(pos) => {
             let depth = rules::depth_in(rules, pairs, to, count);
@@ -113,7 +113,7 @@ fn settle(
     pairs: &[u32],
     text: &[u8],
     rules: &[u32],
-    table: &[usize; 160],
+    table: &[u16; 160],
     k: usize,
     out: &mut [u32],
     start: usize,
@@ -148,7 +148,7 @@ fn rebuild_next(
     pairs: &[u32],
     text: &[u8],
     rules: &[u32],
-    table: &[usize; 160],
+    table: &[u16; 160],
     k: usize,
     at: usize,
     out: &mut [u32],
@@ -200,7 +200,7 @@ fn rebuild_below(
     pairs: &[u32],
     text: &[u8],
     rules: &[u32],
-    table: &[usize; 160],
+    table: &[u16; 160],
     k: usize,
     at: usize,
     n: usize,
@@ -229,7 +229,7 @@ fn rebuild_types(
     pairs: &[u32],
     text: &[u8],
     rules: &[u32],
-    table: &[usize; 160],
+    table: &[u16; 160],
     k: usize,
     at: usize,
     n: usize,
@@ -276,7 +276,7 @@ pub fn rebuild_type(
     pairs: &[u32],
     text: &[u8],
     rules: &[u32],
-    table: &[usize; 160],
+    table: &[u16; 160],
     k: usize,
     at: usize,
     out: &mut [u32],

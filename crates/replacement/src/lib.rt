@@ -30,7 +30,7 @@ fn rebuild_whole(
     pairs: &[u32],
     text: &[u8],
     rules: &[u32],
-    table: &[usize; 160],
+    table: &[u16; 160],
     k: usize,
     out: &mut [u32],
     limit: usize,
@@ -64,7 +64,7 @@ fn attempt(
     pairs: &[u32],
     text: &[u8],
     rules: &[u32],
-    table: &[usize; 160],
+    table: &[u16; 160],
     k: usize,
     scratch: &mut [u32],
     out: &mut [u32],
@@ -91,7 +91,7 @@ fn fill_large(
     pairs: &[u32],
     text: &[u8],
     rules: &[u32],
-    table: &[usize; 160],
+    table: &[u16; 160],
     k: usize,
     out: &mut [u32],
 ) -> RebuildAnswer
@@ -119,7 +119,7 @@ fn fill(
     pairs: &[u32],
     text: &[u8],
     rules: &[u32],
-    table: &[usize; 160],
+    table: &[u16; 160],
     k: usize,
     out: &mut [u32],
 ) -> RebuildAnswer
@@ -164,7 +164,8 @@ fn read_and_fill(
             if holds_no_rule(rules) {
                 return rebuild::copy_unaltered(words, out);
             }
-            let mut table = [0usize; 160];
+            // Positions need no more than 16 bits, and a table must be cleared before use.
+            let mut table = [0u16; 160];
             match rules::read_rules(rules, pairs, text, &mut table) {
                 RulesAnswer::Rules(k) => fill(what, words, pairs, text, rules, &table, k, out),
                 RulesAnswer::NoRules(r) => RebuildAnswer::Refused(r),

@@ -249,3 +249,8 @@ module _ (name : ℕ → Bytes) (rules table : List ℕ) {k : ℕ} (f : Fits rul
       (from-missed name rules table f rules (getD table (4 * i) 0) (getD table (4 * i + 1) 0 - getD table (4 * i) 0) (omega (arith, f .from i h, f .to i h, f .inside i h)) (omega (arith, f .from i h)))
       (i + 1) (k - (i + 1)) (omega arith)
       ∙ ap (firstAlong (isFrom name rules table (fromWords rules table i)) k) (sym (l .next i (omega arith) h)))
+
+-- a link is no more than there are rules
+pub link-within : (rules table : List ℕ) (k s link : ℕ) → Along rules table k s link → link ≤ k
+link-within rules table k s zero a = omega arith
+link-within rules table k s (suc i) a = omega (arith, a .within i refl)

@@ -222,6 +222,14 @@ rule-read rules pairs at f t = rule (f .1) (t .1)
 pub rule-stops : {rules pairs : List ℕ} {at : ℕ} {k : Refusal} → readRule (treeAt rules pairs) at ≡ stop k → RuleRead rules pairs at (NoRule k)
 rule-stops e = none e
 
+-- a rule that was read lies within the words
+pub rule-inside : (rules pairs : List ℕ) (at : ℕ) {m n : ℕ} → at ≤ length rules → RuleRead rules pairs at (OneRule m n) → (m ≤ length rules) × (n ≤ length rules)
+rule-inside rules pairs at {m} h (rule {from = f} {to = t} e d) =
+    let a = tree-run rules pairs at h e in
+    let i : m ≤ length rules = omega (arith, a .1, a .0 .ends, encode-words f) in
+    let b = tree-run rules pairs m i d in
+    (i, omega (arith, b .1, b .0 .ends, encode-words t))
+
 pub rule-found : {rules pairs : List ℕ} {at m n : ℕ} {r : RuleScan} → RuleRead rules pairs at r → r ≡ OneRule m n → RuleRead rules pairs at (OneRule m n)
 rule-found {rules} {pairs} {at} k e = subst (RuleRead rules pairs at) e k
 

@@ -93,13 +93,13 @@ fn scan_rule(rules: &[u32], pairs: &[u32], text: &[u8], at: usize) -> RuleScan
 }
 
 // Rule `i` of the table: where its from begins, and where its to begins and ends.
-fn enter_rule(table: &mut [usize; 160], i: usize, from: usize, to: usize, end: usize)
-    requires { ⌜ i < 32 ⌝ }
+fn enter_rule(table: &mut [u16; 160], i: usize, from: usize, to: usize, end: usize)
+    requires { ⌜ (i < 32) × (from ≤ 8192) × (to ≤ 8192) × (end ≤ 8192) ⌝ }
     ensures { λ r. ⌜ now (table .exit) ≡ entered (now (table .entry)) i from to end ⌝ }
 {
-    table[4 * i] = from;
-    table[4 * i + 1] = to;
-    table[4 * i + 2] = end;
+    table[4 * i] = from as u16;
+    table[4 * i + 1] = to as u16;
+    table[4 * i + 2] = end as u16;
 }
 
 // `n` rules from `at` on, entered in the table.
@@ -109,7 +109,7 @@ fn scan_list(
     text: &[u8],
     n: usize,
     at: usize,
-    table: &mut [usize; 160],
+    table: &mut [u16; 160],
 ) -> Scan
     requires { ⌜ Good (now pairs) (now text) × (length (now rules) ≤ 8192) × (n ≤ 32) × (at ≤ length (now rules)) × Unlinked (now table) ⌝ }
     ensures { λ r. ⌜ Listed (now (rules .entry)) (now (pairs .entry)) n at (now (table .exit)) r ⌝ }
@@ -142,18 +142,18 @@ fn slot_of(word: u32) -> usize
 }
 
 // Rule `i` comes first among those of its slot, before the one that came first so far.
-fn link_rule(rules: &[u32], table: &mut [usize; 160], i: usize)
+fn link_rule(rules: &[u32], table: &mut [u16; 160], i: usize)
     requires { ⌜ (i < 32) × (getD (now table) (4 * i) 0 < length (now rules)) ⌝ }
     ensures { λ r. ⌜ now (table .exit) ≡ linked (now (table .entry)) i (slotOf (now (rules .entry)) (now (table .entry)) i) ⌝ }
 {
-    let from = table[4 * i];
+    let from = table[4 * i] as usize;
     let s = slot_of(rules[from]);
     table[4 * i + 3] = table[s];
-    table[s] = i + 1;
+    table[s] = (i + 1) as u16;
 }
 
 // Rules whose froms begin with the same word are linked, the last rule first, so that a search meets them in their order.
-fn link_rules(rules: &[u32], table: &mut [usize; 160], k: usize)
+fn link_rules(rules: &[u32], table: &mut [u16; 160], k: usize)
     requires { ⌜ Fits (now rules) (now table) k × Unlinked (now table) ⌝ }
     ensures { λ r. ⌜ Entries (now (table .entry)) (now (table .exit)) × Links (now (rules .entry)) (now (table .exit)) 0 k ⌝ }
 {
@@ -169,7 +169,7 @@ fn is_from(
     rules: &[u32],
     pairs: &[u32],
     text: &[u8],
-    table: &[usize; 160],
+    table: &[u16; 160],
     k: usize,
     i: usize,
     out: &[u32],
@@ -179,8 +179,8 @@ fn is_from(
     requires { ⌜ Good (now pairs) (now text) × Fits (now rules) (now table) k × (i < k) × (start + count ≤ length (now out)) ⌝ }
     ensures { λ r. ⌜ r ≡ isFrom (nameBytes (now (pairs .entry)) (now (text .entry))) (now (rules .entry)) (now (table .entry)) (take count (drop start (now (out .entry)))) i ⌝ }
 {
-    let from = table[4 * i];
-    if table[4 * i + 1] - from != count {
+    let from = table[4 * i] as usize;
+    if table[4 * i + 1] as usize - from != count {
         return false;
     }
     comparison::same_words(pairs, text, out, start, rules, from, count)
@@ -197,7 +197,7 @@ fn find_along(
     rules: &[u32],
     pairs: &[u32],
     text: &[u8],
-    table: &[usize; 160],
+    table: &[u16; 160],
     k: usize,
     link: usize,
     out: &[u32],
@@ -214,7 +214,7 @@ fn find_along(
         if is_from(rules, pairs, text, table, k, i, out, start, count) {
             return Found::At(i);
         }
-        next = table[4 * i + 3];
+        next = table[4 * i + 3] as usize;
     }
     Found::Nothing
 }
@@ -224,7 +224,7 @@ pub fn find_rule(
     rules: &[u32],
     pairs: &[u32],
     text: &[u8],
-    table: &[usize; 160],
+    table: &[u16; 160],
     k: usize,
     out: &[u32],
     start: usize,
@@ -234,7 +234,7 @@ pub fn find_rule(
     ensures { λ r. ⌜ r ≡ foundFrom (nameBytes (now (pairs .entry)) (now (text .entry))) (now (rules .entry)) (now (table .entry)) 0 k
         (take count (drop start (now (out .entry)))) ⌝ }
 {
-    let link = table[slot_of(out[start])];
+    let link = table[slot_of(out[start])] as usize;
     find_along(rules, pairs, text, table, k, link, out, start, count)
 }
 
@@ -243,7 +243,7 @@ fn stands_at(
     rules: &[u32],
     pairs: &[u32],
     text: &[u8],
-    table: &[usize; 160],
+    table: &[u16; 160],
     k: usize,
     i: usize,
     words: &[u32],
@@ -252,8 +252,8 @@ fn stands_at(
     requires { ⌜ Good (now pairs) (now text) × Fits (now rules) (now table) k × (i < k) × (at < length (now words)) ⌝ }
     ensures { λ r. ⌜ r ≡ stands (nameBytes (now (pairs .entry)) (now (text .entry))) (now (rules .entry)) (now (table .entry)) (drop at (now (words .entry))) i ⌝ }
 {
-    let from = table[4 * i];
-    let count = table[4 * i + 1] - from;
+    let from = table[4 * i] as usize;
+    let count = table[4 * i + 1] as usize - from;
     if words.len() - at < count {
         return false;
     }
@@ -268,7 +268,7 @@ fn some_stands(
     rules: &[u32],
     pairs: &[u32],
     text: &[u8],
-    table: &[usize; 160],
+    table: &[u16; 160],
     k: usize,
     words: &[u32],
     at: usize,
@@ -276,13 +276,13 @@ fn some_stands(
     requires { ⌜ Good (now pairs) (now text) × Fits (now rules) (now table) k × Links (now rules) (now table) 0 k × (at < length (now words)) ⌝ }
     ensures { λ r. ⌜ r ≡ someStands (nameBytes (now (pairs .entry)) (now (text .entry))) (now (rules .entry)) (now (table .entry)) 0 k (drop at (now (words .entry))) ⌝ }
 {
-    let mut next = table[slot_of(words[at])];
+    let mut next = table[slot_of(words[at])] as usize;
     while 0 < next {
         let i = next - 1;
         if stands_at(rules, pairs, text, table, k, i, words, at) {
             return true;
         }
-        next = table[4 * i + 3];
+        next = table[4 * i + 3] as usize;
     }
     false
 }
@@ -292,7 +292,7 @@ pub fn none_stands(
     rules: &[u32],
     pairs: &[u32],
     text: &[u8],
-    table: &[usize; 160],
+    table: &[u16; 160],
     k: usize,
     words: &[u32],
 ) -> bool
@@ -323,7 +323,7 @@ fn is_among(
     rules: &[u32],
     pairs: &[u32],
     text: &[u8],
-    table: &[usize; 160],
+    table: &[u16; 160],
     k: usize,
     i: usize,
 ) -> bool
@@ -331,14 +331,14 @@ fn is_among(
     ensures { λ r. ⌜ r ≡ amongFrom (nameBytes (now (pairs .entry)) (now (text .entry))) (now (rules .entry)) (now (table .entry)) (i + 1) (k - (i + 1))
         (fromWords (now (rules .entry)) (now (table .entry)) i) ⌝ }
 {
-    let start = table[4 * i];
-    let count = table[4 * i + 1] - start;
-    let link = table[4 * i + 3];
+    let start = table[4 * i] as usize;
+    let count = table[4 * i + 1] as usize - start;
+    let link = table[4 * i + 3] as usize;
     is_found(find_along(rules, pairs, text, table, k, link, rules, start, count))
 }
 
 // Whether two of `k` rules have the same from.
-fn are_repeated(rules: &[u32], pairs: &[u32], text: &[u8], table: &[usize; 160], k: usize) -> bool
+fn are_repeated(rules: &[u32], pairs: &[u32], text: &[u8], table: &[u16; 160], k: usize) -> bool
     requires { ⌜ Good (now pairs) (now text) × Fits (now rules) (now table) k × Links (now rules) (now table) 0 k ⌝ }
     ensures { λ r. ⌜ r ≡ repeatedFrom (nameBytes (now (pairs .entry)) (now (text .entry))) (now (rules .entry)) (now (table .entry)) 0 k ⌝ }
 {
@@ -359,12 +359,7 @@ pub enum RulesAnswer {
 }
 
 // The rules of a list, entered in the table.
-pub fn read_rules(
-    rules: &[u32],
-    pairs: &[u32],
-    text: &[u8],
-    table: &mut [usize; 160],
-) -> RulesAnswer
+pub fn read_rules(rules: &[u32], pairs: &[u32], text: &[u8], table: &mut [u16; 160]) -> RulesAnswer
     requires { ⌜ Good (now pairs) (now text) × (length (now rules) ≤ 8192) × Unlinked (now table) ⌝ }
     ensures { λ r. ⌜ RulesRead (now (rules .entry)) (now (pairs .entry)) (now (text .entry)) (now (table .exit)) r ⌝ }
 {

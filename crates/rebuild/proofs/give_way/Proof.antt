@@ -1,4 +1,4 @@
-use Prim.Native.Nat.{_+_, _-_, _*_}
+use Prim.Native.Nat.{_*_, _+_, _-_, _<_, _^_}
 use Rattle.rules.specs.Scans.{Spans}
 use Rattle.trees.specs.Numbered.{treeAt}
 use Rattle.rebuild.proofs.Growing.{gives-over, gives-to}
@@ -21,6 +21,11 @@ mul-to-2 c = search needs
 element-copy-out-to : tie.Need-element-copy-out-to
 element-copy-out-to c = search needs
 
+cast-to : tie.Need-cast-to
+cast-to c =
+    let s = c .before .before .before .before in let a = s .args in let f = s .pre .0 in
+    let h : getD (a .table .now) (4 * a .i + 1) 0 < 2 ^ 64 = omega (arith, f .to (a .i) (s .pre .1), f .inside (a .i) (s .pre .1)) in search needs
+
 mul-count : tie.Need-mul-count
 mul-count c = search needs
 
@@ -32,6 +37,11 @@ mul-count-2 c = search needs
 
 element-copy-out-count : tie.Need-element-copy-out-count
 element-copy-out-count c = search needs
+
+cast-count : tie.Need-cast-count
+cast-count c =
+    let s = c .before .before .before .before .before in let a = s .args in let f = s .pre .0 in
+    let h : getD (a .table .now) (4 * a .i + 2) 0 < 2 ^ 64 = omega (arith, f .inside (a .i) (s .pre .1)) in search needs
 
 sub-count : tie.Need-sub-count
 sub-count c =
@@ -76,10 +86,12 @@ give-way-spec =
     add-to
     mul-to-2
     element-copy-out-to
+    cast-to
     mul-count
     add-count
     mul-count-2
     element-copy-out-count
+    cast-count
     sub-count
     lay-requires
     enum-known-pos

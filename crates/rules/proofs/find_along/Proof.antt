@@ -1,6 +1,6 @@
-use Prim.Native.Nat.{suc, _+_, _-_, _*_, _<_}
+use Prim.Native.Nat.{_*_, _+_, _-_, _<_, _^_, suc}
 use Rattle.encoding.specs.Tables.{nameBytes}
-use Rattle.rules.proofs.Links.{along-here, along-more, along-none, along-on, togo, togo-less}
+use Rattle.rules.proofs.Links.{along-here, along-more, along-none, along-on, link-within, togo, togo-less}
 use Rattle.rules.proofs.Steps.{from-missed}
 use Rattle.rules.specs.Table.{Along, firstAlong, isFrom, slot}
 use lib.ListN.{drop, getD, take}
@@ -56,6 +56,13 @@ element-copy-out-next c =
     let a = c .before .before .before .before .before .before .before .before .args in let pre = c .before .before .before .before .before .before .before .before .pre in let l = c .before .before .before .loop in
     let z : l .next ≡ suc (l .next - 1) = omega (arith, c .before .before .loop-test .taken) in omega (arith, l .inv .0 .within _ z, pre .1 .few)
 
+cast-next : tie.Need-cast-next Inv-loop μ-loop
+cast-next c =
+    let s = c .before .before .before .before .before .before .before .before .before in let a = s .args in let l = c .before .before .before .before .loop in
+    let z : l .next ≡ suc (l .next - 1) = omega (arith, c .before .before .before .loop-test .taken) in
+    let n = link-within (a .rules .now) (a .table .now) (a .k) _ _ (along-more (a .rules .now) (a .table .now) (a .k) (s .pre .2) (l .next - 1) (l .inv .0 .within _ z)) in
+    let h : getD (a .table .now) (4 * (l .next - 1) + 3) 0 < 2 ^ 64 = omega (arith, n, s .pre .1 .few) in search needs
+
 loop-less : tie.Need-loop-less Inv-loop μ-loop
 loop-less c =
     let a = c .before .before .before .before .before .before .before .before .before .args in let pre = c .before .before .before .before .before .before .before .before .before .pre in let l = c .before .before .before .before .loop in
@@ -88,6 +95,7 @@ find-along-spec =
     add-next
     mul-next-2
     element-copy-out-next
+    cast-next
     loop-less
     loop-again
     returns-2)

@@ -1,5 +1,6 @@
+use Prim.Native.Nat.{_^_, _<_}
 use Rattle.encoding.specs.Tables.{nameBytes}
-use Rattle.rules.proofs.Links.{along-first, found-along}
+use Rattle.rules.proofs.Links.{along-first, found-along, link-within}
 use Rattle.rules.specs.Table.{slot}
 use lib.ListN.{getD}
 use mathlib.Core.Path.{_∙_, sym}
@@ -23,6 +24,12 @@ mul-link c = search needs
 element-copy-out-link : tie.Need-element-copy-out-link
 element-copy-out-link c = search needs
 
+cast-link : tie.Need-cast-link
+cast-link c =
+    let s = c .before .before .before .before .before .before .before in let a = s .args in let e = c .before .slot-of .ensures in
+    let n = link-within (a .rules .now) (a .table .now) (a .k) _ _ (along-first (a .rules .now) (a .table .now) (a .k) (s .pre .2) (c .before .slot-of .result) (e .1) (e .2)) in
+    let h : getD (a .table .now) (c .before .slot-of .result) 0 < 2 ^ 64 = omega (arith, n, s .pre .1 .few) in search needs
+
 find-along-requires : tie.Need-find-along-requires
 find-along-requires c κs =
     let a = c .before .before .before .before .before .before .before .args in let pre = c .before .before .before .before .before .before .before .pre in let s = c .before .slot-of .ensures in
@@ -42,5 +49,6 @@ find-rule-spec =
     slot-of-requires
     mul-link
     element-copy-out-link
+    cast-link
     find-along-requires
     returns)

@@ -1,5 +1,7 @@
+use lib.ListN.{getD}
+use Prim.Native.Nat.{_*_, _+_, _^_, _<_}
 use Rattle.encoding.specs.Tables.{nameBytes}
-use Rattle.rules.proofs.Links.{along-more, among-along}
+use Rattle.rules.proofs.Links.{along-more, among-along, link-within}
 use Rattle.rules.specs.Table.{fromWords, isFound, slotOf}
 use mathlib.Core.Path.{_∙_, ap, sym}
 use native.Mathlib.Omega.{arith}
@@ -16,6 +18,11 @@ mul-start-2 c = search needs
 element-copy-out-start : tie.Need-element-copy-out-start
 element-copy-out-start c = search needs
 
+cast-start : tie.Need-cast-start
+cast-start c =
+    let s = c .before .before .before .before in let a = s .args in let f = s .pre .1 in
+    let h : getD (a .table .now) (4 * a .i) 0 < 2 ^ 64 = omega (arith, f .from (a .i) (s .pre .3), f .to (a .i) (s .pre .3), f .inside (a .i) (s .pre .3)) in search needs
+
 mul-count : tie.Need-mul-count
 mul-count c = search needs
 
@@ -27,6 +34,11 @@ mul-count-2 c = search needs
 
 element-copy-out-count : tie.Need-element-copy-out-count
 element-copy-out-count c = search needs
+
+cast-count : tie.Need-cast-count
+cast-count c =
+    let s = c .before .before .before .before .before in let a = s .args in let f = s .pre .1 in
+    let h : getD (a .table .now) (4 * a .i + 1) 0 < 2 ^ 64 = omega (arith, f .from (a .i) (s .pre .3), f .to (a .i) (s .pre .3), f .inside (a .i) (s .pre .3)) in search needs
 
 sub-count : tie.Need-sub-count
 sub-count c = omega (arith, c .before .before .before .before .before .pre .1 .from (c .before .before .before .before .before .args .i) (c .before .before .before .before .before .pre .3))
@@ -42,6 +54,12 @@ mul-link-2 c = search needs
 
 element-copy-out-link : tie.Need-element-copy-out-link
 element-copy-out-link c = search needs
+
+cast-link : tie.Need-cast-link
+cast-link c =
+    let s = c .before .before .before .before .before .before in let a = s .args in
+    let n = link-within (a .rules .now) (a .table .now) (a .k) _ _ (along-more (a .rules .now) (a .table .now) (a .k) (s .pre .2) (a .i) (s .pre .3)) in
+    let h : getD (a .table .now) (4 * a .i + 3) 0 < 2 ^ 64 = omega (arith, n, s .pre .1 .few) in search needs
 
 find-along-requires : tie.Need-find-along-requires
 unfolding slotOf
@@ -65,15 +83,18 @@ is-among-spec =
     mul-start
     mul-start-2
     element-copy-out-start
+    cast-start
     mul-count
     add-count
     mul-count-2
     element-copy-out-count
+    cast-count
     sub-count
     mul-link
     add-link
     mul-link-2
     element-copy-out-link
+    cast-link
     find-along-requires
     is-found-requires
     returns)

@@ -1,4 +1,4 @@
-use Prim.Native.Nat.{_*_}
+use Prim.Native.Nat.{_*_, _+_, _<_, _^_}
 use Rattle.comparison.specs.Runs.{sameRuns}
 use Rattle.comparison.specs.declared.Due.the-variants.{Kind}
 use Rattle.encoding.specs.Tables.{nameBytes}
@@ -20,6 +20,11 @@ mul-from-2 c = search needs
 element-copy-out-from : tie.Need-element-copy-out-from
 element-copy-out-from c = search needs
 
+cast-from : tie.Need-cast-from
+cast-from c =
+    let s = c .before .before .before .before .before in let a = s .args in let f = s .pre .1 in
+    let h : getD (a .table .now) (4 * a .i) 0 < 2 ^ 64 = omega (arith, f .from (a .i) (s .pre .2), f .to (a .i) (s .pre .2), f .inside (a .i) (s .pre .2)) in search needs
+
 mul-if1 : tie.Need-mul-if1
 mul-if1 c = search needs
 
@@ -31,6 +36,11 @@ mul-if1-2 c = search needs
 
 element-copy-out-if1 : tie.Need-element-copy-out-if1
 element-copy-out-if1 c = search needs
+
+cast-if1 : tie.Need-cast-if1
+cast-if1 c =
+    let s = c .before .before .before .before .before .before in let a = s .args in let f = s .pre .1 in
+    let h : getD (a .table .now) (4 * a .i + 1) 0 < 2 ^ 64 = omega (arith, f .from (a .i) (s .pre .2), f .to (a .i) (s .pre .2), f .inside (a .i) (s .pre .2)) in search needs
 
 sub-if1 : tie.Need-sub-if1
 sub-if1 c =
@@ -60,10 +70,12 @@ is-from-spec =
     mul-from
     mul-from-2
     element-copy-out-from
+    cast-from
     mul-if1
     add-if1
     mul-if1-2
     element-copy-out-if1
+    cast-if1
     sub-if1
     returns
     same-words-requires

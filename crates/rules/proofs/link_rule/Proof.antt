@@ -13,6 +13,9 @@ mul-from-2 c = search needs
 element-copy-out-from : tie.Need-element-copy-out-from
 element-copy-out-from c = search needs
 
+cast-from : tie.Need-cast-from
+cast-from c = search needs
+
 mul-slot-of : tie.Need-mul-slot-of
 mul-slot-of c = search needs
 
@@ -43,6 +46,9 @@ element-write-table c = search needs
 add-table-2 : tie.Need-add-table-2
 add-table-2 c = search needs
 
+cast-table : tie.Need-cast-table
+cast-table c = search needs
+
 mul-table-4 : tie.Need-mul-table-4
 mul-table-4 c = search needs
 
@@ -60,6 +66,7 @@ link-rule-spec =
     mul-from
     mul-from-2
     element-copy-out-from
+    cast-from
     mul-slot-of
     shared-slice-read-slot-of
     slot-of-requires
@@ -70,6 +77,7 @@ link-rule-spec =
     mul-table-3
     element-write-table
     add-table-2
+    cast-table
     mul-table-4
     element-write-table-2
     returns)

@@ -1,5 +1,6 @@
+use native.Mathlib.Omega.{arith}
 use Prim.Native.Nat.{_-_}
-use Rattle.rules.proofs.Lists.{Filling, filling-ends, filling-more, filling-starts, filling-stops, rule-found, rule-stop}
+use Rattle.rules.proofs.Lists.{Filling, filling-ends, filling-more, filling-starts, filling-stops, rule-found, rule-inside, rule-stop}
 use borrow.Author.Needs.{needs}
 use Rattle.rules.proofs.scan_list.Statement.{statement}
 use Rattle.rules.proofs.scan_list.Tie as tie
@@ -21,7 +22,10 @@ enum-known-middle : tie.Need-enum-known-middle Inv-loop μ-loop
 enum-known-middle c = search needs
 
 enter-rule-requires : tie.Need-enter-rule-requires Inv-loop μ-loop
-enter-rule-requires c κs = search needs
+enter-rule-requires c κs =
+    let s = c .before .before .before .before .before .before .before .before .before .before in let a = s .args in let l = c .before .before .before .before .before .before .loop in
+    let r = rule-inside (a .rules .now) (a .pairs .now) (l .place) (l .inv .inside) (rule-found (c .before .before .before .before .scan-rule .ensures) (c .before .before .middle .given .1)) in
+    (omega (arith, c .before .before .before .before .before .loop-test .taken, s .pre .2), omega (arith, l .inv .inside, s .pre .1), omega (arith, r .0, s .pre .1), omega (arith, r .1, s .pre .1))
 
 enum-known-r : tie.Need-enum-known-r Inv-loop μ-loop
 enum-known-r c = search needs

@@ -1,6 +1,6 @@
-use Prim.Native.Nat.{suc, _+_, _-_, _*_, _<_}
+use Prim.Native.Nat.{_*_, _+_, _-_, _<_, _^_, suc}
 use Rattle.encoding.specs.Tables.{nameBytes}
-use Rattle.rules.proofs.Links.{along-first, along-here, along-more, along-none, along-on, some-along, togo, togo-less}
+use Rattle.rules.proofs.Links.{along-first, along-here, along-more, along-none, along-on, link-within, some-along, togo, togo-less}
 use Rattle.rules.proofs.Steps.{stands-missed}
 use Rattle.rules.specs.Table.{Along, firstAlong, isFound, slot, someStands, stands}
 use lib.ListN.{drop, getD}
@@ -32,6 +32,12 @@ mul-next c = search needs
 
 element-copy-out-next : tie.Need-element-copy-out-next Inv-loop μ-loop
 element-copy-out-next c = search needs
+
+cast-next : tie.Need-cast-next Inv-loop μ-loop
+cast-next c =
+    let s = c .before .before .before .before .before .before .before in let a = s .args in let e = c .before .slot-of .ensures in
+    let n = link-within (a .rules .now) (a .table .now) (a .k) _ _ (along-first (a .rules .now) (a .table .now) (a .k) (s .pre .2) (c .before .slot-of .result) (e .1) (e .2)) in
+    let h : getD (a .table .now) (c .before .slot-of .result) 0 < 2 ^ 64 = omega (arith, n, s .pre .1 .few) in search needs
 
 loop-holds : tie.Need-loop-holds Inv-loop μ-loop
 loop-holds c =
@@ -74,6 +80,13 @@ element-copy-out-next-2 c =
     let a = c .before .before .before .before .before .before .before .before .before .before .before .args in let pre = c .before .before .before .before .before .before .before .before .before .before .before .pre in let l = c .before .before .before .loop in
     let z : l .next ≡ suc (l .next - 1) = omega (arith, c .before .before .loop-test .taken) in omega (arith, l .inv .0 .within _ z, pre .1 .few)
 
+cast-next-2 : tie.Need-cast-next-2 Inv-loop μ-loop
+cast-next-2 c =
+    let s = c .before .before .before .before .before .before .before .before .before .before .before .before in let a = s .args in let l = c .before .before .before .before .loop in
+    let z : l .next ≡ suc (l .next - 1) = omega (arith, c .before .before .before .loop-test .taken) in
+    let n = link-within (a .rules .now) (a .table .now) (a .k) _ _ (along-more (a .rules .now) (a .table .now) (a .k) (s .pre .2) (l .next - 1) (l .inv .0 .within _ z)) in
+    let h : getD (a .table .now) (4 * (l .next - 1) + 3) 0 < 2 ^ 64 = omega (arith, n, s .pre .1 .few) in search needs
+
 loop-less : tie.Need-loop-less Inv-loop μ-loop
 loop-less c =
     let a = c .before .before .before .before .before .before .before .before .before .before .before .before .args in let pre = c .before .before .before .before .before .before .before .before .before .before .before .before .pre in let l = c .before .before .before .before .loop in
@@ -104,6 +117,7 @@ some-stands-spec =
     slot-of-requires
     mul-next
     element-copy-out-next
+    cast-next
     loop-holds
     sub-i
     stands-at-requires
@@ -112,6 +126,7 @@ some-stands-spec =
     add-next
     mul-next-3
     element-copy-out-next-2
+    cast-next-2
     loop-less
     loop-again
     returns-2)

@@ -1,3 +1,5 @@
+use lib.ListN.{getD}
+use Prim.Native.Nat.{_*_, _+_, _^_, _<_}
 use Rattle.encoding.specs.Tables.{nameBytes}
 use Rattle.rules.proofs.Steps.{stands-run, stands-short}
 use mathlib.Core.Path.{_∙_, sym}
@@ -15,6 +17,11 @@ mul-from-2 c = search needs
 element-copy-out-from : tie.Need-element-copy-out-from
 element-copy-out-from c = search needs
 
+cast-from : tie.Need-cast-from
+cast-from c =
+    let s = c .before .before .before .before .before in let a = s .args in let f = s .pre .1 in
+    let h : getD (a .table .now) (4 * a .i) 0 < 2 ^ 64 = omega (arith, f .from (a .i) (s .pre .2), f .to (a .i) (s .pre .2), f .inside (a .i) (s .pre .2)) in search needs
+
 mul-count : tie.Need-mul-count
 mul-count c = search needs
 
@@ -26,6 +33,11 @@ mul-count-2 c = search needs
 
 element-copy-out-count : tie.Need-element-copy-out-count
 element-copy-out-count c = search needs
+
+cast-count : tie.Need-cast-count
+cast-count c =
+    let s = c .before .before .before .before .before .before in let a = s .args in let f = s .pre .1 in
+    let h : getD (a .table .now) (4 * a .i + 1) 0 < 2 ^ 64 = omega (arith, f .from (a .i) (s .pre .2), f .to (a .i) (s .pre .2), f .inside (a .i) (s .pre .2)) in search needs
 
 sub-count : tie.Need-sub-count
 sub-count c = omega (arith, c .before .before .before .before .before .before .pre .1 .from (c .before .before .before .before .before .before .args .i) (c .before .before .before .before .before .before .pre .2))
@@ -65,10 +77,12 @@ stands-at-spec =
     mul-from
     mul-from-2
     element-copy-out-from
+    cast-from
     mul-count
     add-count
     mul-count-2
     element-copy-out-count
+    cast-count
     sub-count
     sub-if1
     returns
