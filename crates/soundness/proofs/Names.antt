@@ -1,20 +1,23 @@
 -- Laws of words, of the words that are no names, and of names and sizes.
-use Prim.Native.Nat.{ℕ, suc, _+_, _-_, _≤_, _<_}
-use mathlib.Core.Path.{_≡_, refl}
+use Prim.Native.Nat.{ℕ, zero, suc, _+_, _-_, _%_, _≤_, _<_}
+use mathlib.Core.Path.{_≡_, refl, sym, _∙_, subst}
 use mathlib.Core.Bool.{Bool, true, false, not, Bool·beq}
 use mathlib.Core.List.{List, [], _∷_}
 use mathlib.Core.Option.{some}
 use native.Mathlib.Omega.{arith}
 use native.Mathlib.Numerals.{add-one}
-use borrow.Author.Tests.{ne-eqb, leb-true}
+use borrow.Author.Tests.{eqb-true, eqb-false, ne-eqb, leb-true}
 use lib.Dec.{eqb, leb}
-use lib.ListN.{length, getD, take, drop, drop-of-length-le}
-use lib.Seq.{drop-cons}
+use lib.ListN.{length, getD, set, replicate, length-set, take, drop, drop-of-length-le}
+use lib.Seq.{drop-cons, getD-set-same, getD-set-other}
 use Rattle.rast.specs.Bytes.{Bytes, ascii, same, each, among, _and_, _or_}
 use Rattle.rast.specs.Sound.{within, isLetter, isWordStart, isWordByte, isWord, excluded, soundName, soundSize}
-use Rattle.encoding.specs.Tables.{fixedNames, nameBytes}
+use Rattle.encoding.specs.Refusals.{pick}
+use Rattle.encoding.specs.Tables.{fixedNames, nameBytes, nameCount}
 use Rattle.encoding.specs.Types.{sizeOf}
-use Rattle.soundness.specs.Judging.{beginsExcluded}
+use Rattle.soundness.specs.declared.NameCheck.{NameCheck}
+use Rattle.soundness.specs.declared.NameCheck.the-variants.{Fine, Poor, NoName}
+use Rattle.soundness.specs.Judging.{beginsExcluded, Known, unlessJudged, Checked, fine, poor, no-name}
 use Rattle.encoding.proofs.Tables.{impossible, everyBelow, every-at, same-eq, name-fixed}
 use Rattle.encoding.proofs.Names.{beq-eq}
 
@@ -33,6 +36,10 @@ and-assoc true b c = refl
 and-assoc false b c = refl
 
 -- ---- words
+
+word-start : (x : ℕ) → isWordStart x ≡ true → isWordByte x ≡ true
+unfolding isWordByte
+word-start x e = rw e
 
 pub each-more : (f : ℕ → Bool) (l : Bytes) (i : ℕ) → i < length l → each f (drop i l) ≡ (f (getD l i 0) and each f (drop (i + 1) l))
 unfolding each
@@ -135,3 +142,97 @@ pub size-some : (l : Bytes) → 0 < length l → soundSize (some l) ≡ each isW
 unfolding soundSize each
 size-some [] h = absurd (let z : ⊥ = omega arith in z)
 size-some (x ∷ l) h = refl
+
+-- ---- names that were found sound
+
+pub judged-sound : (ask : ℕ) {s : Bool} → s ≡ true → unlessJudged ask s ≡ true
+unfolding unlessJudged
+judged-sound ask e = rw e (go (eqb ask 0))
+  where
+    go : (b : Bool) → pick b true true ≡ true
+    go true = refl
+    go false = refl
+
+module _ (pairs : List ℕ) (text : Bytes) where
+  -- at the start the first place holds a name that belongs elsewhere, so that it does not hold the empty name
+  pub known-none : Known pairs text (set (replicate 128 0) 0 1)
+  known-none = record { room = refl; inside = λ x e. absurd (elsewhere x e); sound = λ x e. absurd (elsewhere x e) }
+    where
+      zeros : (n i : ℕ) → getD (replicate {A = ℕ} n 0) i 0 ≡ 0
+      zeros zero i = refl
+      zeros (suc n) zero = refl
+      zeros (suc n) (suc i) = zeros n i
+
+      elsewhere : (x : ℕ) → getD (set (replicate {A = ℕ} 128 0) 0 1) (x % 128) 0 ≡ x → ⊥
+      elsewhere x e = go (eqb (x % 128) 0) refl
+        where
+          go : (b : Bool) → eqb (x % 128) 0 ≡ b → ⊥
+          go true d =
+              let i = eqb-true (x % 128) 0 d in
+              let k : 1 ≡ x = sym (getD-set-same (replicate {A = ℕ} 128 0) 0 1 0 (omega arith)) ∙ (rw i at e) in
+              omega arith
+          go false d =
+              let i = eqb-false (x % 128) 0 d in
+              let k : 0 ≡ x = sym (getD-set-other (replicate {A = ℕ} 128 0) 0 (x % 128) 1 0 i ∙ zeros 128 (x % 128)) ∙ e in
+              omega arith
+
+  -- one name more
+  pub known-more : {known : List ℕ} → Known pairs text known → (y : ℕ) → y < nameCount pairs → soundName (nameBytes pairs text y) ≡ true
+      → Known pairs text (set known (y % 128) y)
+  known-more {known} k y h s = record {
+    room = simp length-set (k .room);
+    inside = λ x e. place x (λ z. z < nameCount pairs) h (k .inside x) e;
+    sound = λ x e. place x (λ z. soundName (nameBytes pairs text z) ≡ true) s (k .sound x) e;
+  }
+    where
+      place : (x : ℕ) (P : ℕ → Type 0) → P y → (getD known (x % 128) 0 ≡ x → P x) → getD (set known (y % 128) y) (x % 128) 0 ≡ x → P x
+      place x P here there e = go (eqb (x % 128) (y % 128)) refl
+        where
+          go : (b : Bool) → eqb (x % 128) (y % 128) ≡ b → P x
+          go true d =
+              let i = eqb-true (x % 128) (y % 128) d in
+              let same : y ≡ x = sym (getD-set-same known (y % 128) y 0 (omega (arith, k .room))) ∙ (rw i at e) in
+              subst P same here
+          go false d =
+              let i = eqb-false (x % 128) (y % 128) d in
+              there (sym (getD-set-other known (y % 128) (x % 128) y 0 i) ∙ e)
+
+-- ---- a name, as it was found
+
+module _ {pairs : List ℕ} {text : Bytes} {x ask : ℕ} where
+  pub checked-sound : x < nameCount pairs → soundName (nameBytes pairs text x) ≡ true → Checked pairs text x ask Fine
+  checked-sound h s = fine h (judged-sound ask s)
+
+  pub checked-unjudged : x < nameCount pairs → ask ≡ 0 → Checked pairs text x ask Fine
+  unfolding unlessJudged
+  checked-unjudged h e = fine h (rw e)
+
+  pub checked-poor : (ask ≡ 0 → ⊥) → soundName (nameBytes pairs text x) ≡ false → Checked pairs text x ask Poor
+  unfolding unlessJudged
+  checked-poor h s = poor (rw (ne-eqb ask 0 h, s))
+
+  pub was-fine : {r : NameCheck} → Checked pairs text x ask r → r ≡ Fine → (x < nameCount pairs) × (unlessJudged ask (soundName (nameBytes pairs text x)) ≡ true)
+  was-fine (fine h s) d = (h, s)
+  was-fine (poor s) d = impossible (cc)
+  was-fine (no-name h) d = impossible (cc)
+
+  pub was-poor : {r : NameCheck} → Checked pairs text x ask r → r ≡ Poor → unlessJudged ask (soundName (nameBytes pairs text x)) ≡ false
+  was-poor (fine h s) d = impossible (cc)
+  was-poor (poor s) d = s
+  was-poor (no-name h) d = impossible (cc)
+
+  pub was-no-name : {r : NameCheck} → Checked pairs text x ask r → r ≡ NoName → nameCount pairs ≤ x
+  was-no-name (fine h s) d = impossible (cc)
+  was-no-name (poor s) d = impossible (cc)
+  was-no-name (no-name h) d = h
+
+-- a sound name is a sound size
+pub size-of-name : (l : Bytes) → soundName l ≡ true → soundSize (some l) ≡ true
+unfolding soundName isWord soundSize _and_
+size-of-name [] e = impossible (cc)
+size-of-name (x ∷ l) e = go (isWordStart x) refl (each isWordByte l) e
+  where
+    go : (a : Bool) → isWordStart x ≡ a → (b : Bool) → (a and b and not (among (x ∷ l) excluded)) ≡ true → (isWordByte x and b) ≡ true
+    go true i true d = rw (word-start x i)
+    go true i false d = impossible (cc)
+    go false i b d = impossible (cc)
