@@ -1,3 +1,4 @@
--- Laws of heads that were read and of the walk.
+-- Laws of heads that were read, of the walk, and of what it gives.
 pub mod Scans
 pub mod Walks
+pub mod Accepted

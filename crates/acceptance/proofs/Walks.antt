@@ -1,16 +1,15 @@
 -- The walk as a pass of `measure`: its levels, its start and its steps.
-use Prim.Native.Nat.{ℕ, zero, suc, _+_, _*_, _-_, _/_, _%_, _≤_, _<_}
+use Prim.Native.Nat.{ℕ, zero, suc, _+_, _*_, _-_, _/_, _≤_, _<_}
 use mathlib.Core.Path.{_≡_, refl, ap, sym, _∙_}
-use mathlib.Core.List.{List, [], _∷_, map}
+use mathlib.Core.List.{List, [], _∷_}
 use native.Mathlib.Omega.{arith}
 use native.Mathlib.Nat.{add-zero}
-use lib.ListN.{length, getD, set, replicate, length-map}
+use lib.ListN.{length, getD, set, replicate}
 use Rattle.rast.specs.Bytes.{Bytes}
 use Rattle.rast.specs.Tree.{Ty, nil, cons}
 use Rattle.encoding.specs.declared.Refusal.the-variants.{EndsEarly}
 use Rattle.encoding.specs.Reading.{Reading, got, stop, _>>=_}
 use Rattle.encoding.specs.Tables.{nameBytes, nameCount}
-use Rattle.encoding.specs.Heads.{readHead}
 use Rattle.encoding.specs.Types.{readTypes, readType}
 use Rattle.encoding.proofs.Heads.{head-end}
 use Rattle.measure.specs.Levels.{shownLength, levelsAt, restAt, stacked, restOf}

@@ -1,5 +1,5 @@
 -- Document 01's "sheet" is here an encoding: words, pairs and a text. What is asked of them before a word is read, and the bytes of names.
-use Prim.Native.Nat.{ℕ, _+_, _*_, _-_, _/_}
+use Prim.Native.Nat.{ℕ, _+_, _*_, _-_, _/_, _≤_, _<_}
 use mathlib.Core.Path.{_≡_}
 use mathlib.Core.Bool.{Bool, true, false}
 use mathlib.Core.List.{List, [], _∷_}
@@ -46,6 +46,13 @@ fixedNames =
     ascii "" ∷ ascii "std" ∷ ascii "rc" ∷ ascii "Rc" ∷ ascii "sync" ∷ ascii "Arc" ∷ ascii "boxed" ∷ ascii "Box"
     ∷ ascii "mem" ∷ ascii "MaybeUninit" ∷ ascii "dafny_runtime" ∷ ascii "Object" ∷ ascii "Ptr"
     ∷ ascii "MaybePlacebo" ∷ ascii "_" ∷ ascii "self" ∷ []
+
+-- the letters hold each fixed name from its start on, as long as its length says
+pub record HoldsNames (letters : Bytes) (starts lengths : List ℕ) : Type 0 where
+  pub part : (k : ℕ) → k < 16 → take (getD lengths k 0) (drop (getD starts k 0) letters) ≡ getD fixedNames k []
+  pub count : (k : ℕ) → k < 16 → getD lengths k 0 ≡ length (getD fixedNames k [])
+  pub inside : (k : ℕ) → k < 16 → getD starts k 0 + getD lengths k 0 ≤ 75
+  pub size : length letters ≡ 75
 
 -- the bytes of pair i
 unfoldable pub pairBytes : List ℕ → Bytes → ℕ → Bytes

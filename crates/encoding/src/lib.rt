@@ -9,7 +9,7 @@ ghost use Rattle.rast.specs.Tree.{U8};
 ghost use Rattle.rast.specs.ToString.{Primitive·ToString};
 ghost use Rattle.output.specs.Wrote.{Wrote};
 ghost use Rattle.encoding.specs.Refusals.{number};
-ghost use Rattle.encoding.specs.Tables.{checkLevel, checkTables, checkCall, goodPairs, fixedNames, nameBytes, nameLength, nameCount, Good};
+ghost use Rattle.encoding.specs.Tables.{checkLevel, checkTables, checkCall, goodPairs, fixedNames, HoldsNames, nameBytes, nameLength, nameCount, Good};
 ghost use Rattle.encoding.specs.Reading.{readWord, readBelow, readNames};
 ghost use Rattle.encoding.specs.Types.{primitives};
 ghost use Rattle.encoding.specs.Heads.{readPath, pathHead, headAfter, readHead, kids, HeadHere, typesBelow, ownEnd};
@@ -116,7 +116,7 @@ pub fn check_call(words: &[u32], pairs: &[u32], text: &[u8], level: u32) -> Chec
     }
 }
 
-// The sixteen fixed names stand one behind the other in `put_fixed`: where each starts, and how long it is.
+// The sixteen fixed names stand one behind the other in `fixed_names`: where each starts, and how long it is.
 const STARTS: [u8; 16] = [0, 0, 3, 5, 7, 11, 14, 19, 22, 25, 36, 49, 55, 58, 70, 71];
 
 const LENGTHS: [u8; 16] = [0, 3, 2, 2, 4, 3, 5, 3, 3, 11, 13, 6, 3, 12, 1, 4];
@@ -140,15 +140,51 @@ pub fn name_length(pairs: &[u32], name: u32) -> usize
     pairs[2 * i + 1] as usize
 }
 
+// The fixed names, where they can be lent: a path lays them out once for all its names.
+pub struct FixedNames {
+    pub letters: [u8; 75],
+    pub starts: [u8; 16],
+    pub lengths: [u8; 16],
+}
+
+pub fn fixed_names() -> FixedNames
+    ensures { λ r. ⌜ HoldsNames (r .letters) (r .starts) (r .lengths) ⌝ }
+{
+    FixedNames {
+        letters: *b"stdrcRcsyncArcboxedBoxmemMaybeUninitdafny_runtimeObjectPtrMaybePlacebo_self",
+        starts: STARTS,
+        lengths: LENGTHS,
+    }
+}
+
 // The bytes of a fixed name.
-fn put_fixed(name: usize, out: &mut [u8], pos: usize) -> usize
+pub fn put_fixed(
+    letters: &[u8; 75],
+    starts: &[u8; 16],
+    lengths: &[u8; 16],
+    name: usize,
+    out: &mut [u8],
+    pos: usize,
+) -> usize
+    requires { ⌜ HoldsNames (now letters) (now starts) (now lengths) × (name < 16) × (pos + length (getD fixedNames name []) ≤ length (now out)) ⌝ }
+    ensures { λ r. ⌜ Wrote (now (out .entry)) pos (getD fixedNames name []) (now (out .exit)) r ⌝ }
+{
+    let start = starts[name] as usize;
+    let count = lengths[name] as usize;
+    output::put_part(letters, start, count, out, pos)
+}
+
+// The same, from tables of its own.
+fn put_one_fixed(name: usize, out: &mut [u8], pos: usize) -> usize
     requires { ⌜ (name < 16) × (pos + length (getD fixedNames name []) ≤ length (now out)) ⌝ }
     ensures { λ r. ⌜ Wrote (now (out .entry)) pos (getD fixedNames name []) (now (out .exit)) r ⌝ }
 {
-    let all = b"stdrcRcsyncArcboxedBoxmemMaybeUninitdafny_runtimeObjectPtrMaybePlacebo_self";
-    let start = STARTS[name] as usize;
-    let count = LENGTHS[name] as usize;
-    output::put_part(all, start, count, out, pos)
+    let FixedNames {
+        letters,
+        starts,
+        lengths,
+    } = fixed_names();
+    put_fixed(&letters, &starts, &lengths, name, out, pos)
 }
 
 // The bytes of a name that stands in the text.
@@ -170,7 +206,7 @@ pub fn put_name(pairs: &[u32], text: &[u8], name: u32, out: &mut [u8], pos: usiz
     ensures { λ r. ⌜ Wrote (now (out .entry)) pos (nameBytes (now (pairs .entry)) (now (text .entry)) name) (now (out .exit)) r ⌝ }
 {
     if name < 16 {
-        return put_fixed(name as usize, out, pos);
+        return put_one_fixed(name as usize, out, pos);
     }
     put_pair(pairs, text, name, out, pos)
 }

@@ -4,10 +4,11 @@ ghost use lib.ListN.{length, getD};
 ghost use Rattle.rast.specs.Tree.{U8};
 ghost use Rattle.rast.specs.ToString.{Path·ToString, Primitive·ToString};
 ghost use Rattle.output.specs.Wrote.{Wrote};
-ghost use Rattle.encoding.specs.Tables.{Good, nameBytes, nameCount};
+ghost use Rattle.encoding.specs.Tables.{Good, HoldsNames, nameBytes, nameCount};
 ghost use Rattle.encoding.specs.Heads.{InsidePath};
 ghost use Rattle.encoding.specs.Types.{primitives, rootOf, pathOf, sizeOf};
 ghost use Rattle.leaves.specs.Texts.{memberText, endText};
+use encoding::FixedNames;
 use encoding::PathAt;
 
 // Where the plain types' texts stand in the byte string below, by their kinds; each ends where the next one starts.
@@ -35,19 +36,29 @@ fn put_root(root: u32, out: &mut [u8], pos: usize) -> usize
     }
 }
 
-// One more name of a path. Most stand in the text: these are copied here, without a call.
-fn put_member(pairs: &[u32], text: &[u8], name: u32, out: &mut [u8], pos: usize) -> usize
-    requires { ⌜ (name < nameCount (now pairs)) × Good (now pairs) (now text)
+// One more name of a path, by the tables of the fixed names.
+fn put_member(
+    letters: &[u8; 75],
+    starts: &[u8; 16],
+    lengths: &[u8; 16],
+    pairs: &[u32],
+    text: &[u8],
+    name: u32,
+    out: &mut [u8],
+    pos: usize,
+) -> usize
+    requires { ⌜ HoldsNames (now letters) (now starts) (now lengths) × (name < nameCount (now pairs)) × Good (now pairs) (now text)
         × (pos + length (memberText (nameBytes (now pairs) (now text) name)) ≤ length (now out)) ⌝ }
     ensures { λ r. ⌜ Wrote (now (out .entry)) pos (memberText (nameBytes (now (pairs .entry)) (now (text .entry)) name)) (now (out .exit)) r ⌝ }
 {
     let p = output::put(b"::", out, pos);
     if name < 16 {
-        return encoding::put_name(pairs, text, name, out, p);
+        return encoding::put_fixed(letters, starts, lengths, name as usize, out, p);
     }
     encoding::put_pair(pairs, text, name, out, p)
 }
 
+// A path. The tables of the fixed names are laid out once for all its names.
 pub fn put_path(
     words: &[u32],
     pairs: &[u32],
@@ -62,10 +73,15 @@ pub fn put_path(
 {
     let start = path.start;
     let end = start + path.count as usize;
+    let FixedNames {
+        letters,
+        starts,
+        lengths,
+    } = encoding::fixed_names();
     let mut p = put_root(path.root, out, pos);
     let mut i = start;
     while i < end {
-        p = put_member(pairs, text, words[i], out, p);
+        p = put_member(&letters, &starts, &lengths, pairs, text, words[i], out, p);
         i += 1;
     }
     p

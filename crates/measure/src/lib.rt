@@ -13,7 +13,6 @@ ghost use Rattle.encoding.specs.declared.Head.the-variants.{Name, Apply, Tuple,
 ghost use Rattle.measure.specs.Lengths.{measureOf, pathLength, arrayLength, namesHead, worded, Counted, Scanned};
 ghost use Rattle.measure.specs.Levels.{leaving, beside, under, pushed, Outward, Kept, Stepped};
 use encoding::PathAt;
-use encoding::PathScan;
 use encoding::Refusal;
 use encoding::WordScan;
 

@@ -9,11 +9,11 @@ ghost use Rattle.encoding.specs.Scans.{ended};
 ghost use Rattle.pieces.specs.declared.After.the-variants.{FieldList, CaseList, NoMore};
 ghost use Rattle.pieces.specs.Walks.{readEntry, readTwo, twoScan, moved, inField, Stepped, readOneAttribute, readAttributes, readUsing, readOpening, startedAt, titled, started};
 ghost use Rattle.pieces.specs.Ends.{parameterAt, formalAt, fieldEnd, eachFieldEnd, fieldsAt, caseAt, signatureEnd, headingEnd, structAt, enumAt, synonymAt, useEnd, heldAt};
+use acceptance::Acceptance;
 use encoding::PathScan;
 use encoding::Refusal;
 use encoding::Scan;
 use encoding::WordScan;
-use measure::Measure;
 
 // What follows the parameters.
 pub enum After {
@@ -433,9 +433,9 @@ fn scan_type(words: &[u32], pairs: &[u32], text: &[u8], at: usize) -> Scan
     if words[at] < 12 {
         return Scan::At(at + 1);
     }
-    match measure::measure_type(words, pairs, text, at) {
-        Measure::Measured { next, bytes: _ } => Scan::At(next),
-        Measure::Stopped(r) => Scan::Refused(r),
+    match acceptance::accept_type(words, pairs, text, at, 0) {
+        Acceptance::Accepted(next) => Scan::At(next),
+        Acceptance::Denied(r) => Scan::Refused(r),
     }
 }
 

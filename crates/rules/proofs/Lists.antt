@@ -20,10 +20,10 @@ use Rattle.encoding.specs.Tables.{overlong, goodPairs, checkTables, nameBytes, 
 use Rattle.encoding.specs.Types.{readTypes, typeAt}
 use Rattle.encoding.specs.Declarations.{readList}
 use Rattle.encoding.proofs.Tables.{impossible, tables-passed}
-use Rattle.measure.specs.declared.Measure.{Measure}
-use Rattle.measure.specs.declared.Measure.the-variants.{Measured, Stopped}
-use Rattle.measure.specs.Lengths.{measureOf}
-use Rattle.measure.proofs.Measured.{measured-got, measured-stop}
+use Rattle.acceptance.specs.declared.Acceptance.{Acceptance}
+use Rattle.acceptance.specs.declared.Acceptance.the-variants.{Accepted, Denied}
+use Rattle.acceptance.specs.Walks.{acceptanceOf}
+use Rattle.acceptance.proofs.Accepted.{accepted-got, accepted-stop}
 use Rattle.trees.specs.Renamed.{renamed}
 use Rattle.trees.specs.Numbered.{treeAt}
 use Rattle.trees.specs.Encode.{encode}
@@ -42,14 +42,14 @@ use Rattle.rules.specs.Table.{entered, repeatedFrom, Fits, Links, Unlink
 use Rattle.rules.specs.Scans.{Deepens, Spans, depthOf, RuleRead, rule, none, Listed, listed, unlisted, RulesRead, read, unread}
 use Rattle.rules.proofs.Tables.{tabled-kept, tabled-more, same-tabled, rule-entered, still-unlinked, tabled-fits, repeated-trees}
 
--- ---- from the measure of a type to its tree
+-- ---- from the acceptance of a type to its tree
 
-pub measured-tree : (ws pairs : List ℕ) (text : Bytes) (at : ℕ) {r : Measure} {n b : ℕ} → r ≡ measureOf (typeAt ws pairs text at) → r ≡ Measured n b → (t : Ty ℕ) × (treeAt ws pairs at ≡ got t n)
-measured-tree ws pairs text at e d = let u = numbered ws pairs text at (measured-got (typeAt ws pairs text at) e d .reads) in (u .tree, u .reads)
+pub accepted-tree : (ws pairs : List ℕ) (text : Bytes) (at : ℕ) {r : Acceptance} {n : ℕ} → r ≡ acceptanceOf (typeAt ws pairs text at) → r ≡ Accepted n → (t : Ty ℕ) × (treeAt ws pairs at ≡ got t n)
+accepted-tree ws pairs text at e d = let u = numbered ws pairs text at (accepted-got (typeAt ws pairs text at) e d .reads) in (u .tree, u .reads)
 
-pub measured-no-tree : (ws pairs : List ℕ) (text : Bytes) (at : ℕ) {r : Measure} {k : Refusal} → r ≡ measureOf (typeAt ws pairs text at) → r ≡ Stopped k → treeAt ws pairs at ≡ stop k
+pub accepted-no-tree : (ws pairs : List ℕ) (text : Bytes) (at : ℕ) {r : Acceptance} {k : Refusal} → r ≡ acceptanceOf (typeAt ws pairs text at) → r ≡ Denied k → treeAt ws pairs at ≡ stop k
 unfolding mapReading
-measured-no-tree ws pairs text at {r} {k} e d = go (treeAt ws pairs at) (sym (spelled ws pairs text at) ∙ measured-stop (typeAt ws pairs text at) e d)
+accepted-no-tree ws pairs text at {r} {k} e d = go (treeAt ws pairs at) (sym (spelled ws pairs text at) ∙ accepted-stop (typeAt ws pairs text at) e d)
   where
     go : (x : Reading (Ty ℕ)) → mapReading (renamed (nameBytes pairs text)) x ≡ stop k → x ≡ stop k
     go (got t m) g = impossible (cc)

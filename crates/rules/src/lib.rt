@@ -9,11 +9,11 @@ ghost use Rattle.replace.specs.Rules.{checkAll};
 ghost use Rattle.writing.specs.Written.{Readable};
 ghost use Rattle.rules.specs.Table.{entered, slot, slotOf, linked, isFound, firstAlong, isFrom, stands, someStands, noneStands, fromWords, foundFrom, amongFrom, repeatedFrom, Fits, Links, Along, Unlinked, Entries};
 ghost use Rattle.rules.specs.Scans.{Deepens, Spans, depthOf, RuleRead, Listed, RulesRead};
+use acceptance::Acceptance;
 use encoding::Check;
 use encoding::Refusal;
 use encoding::Scan;
 use encoding::WordScan;
-use measure::Measure;
 
 // The limits, those on the rules' words with those on the tree's; then the pairs.
 pub fn check_all(words: &[u32], rules: &[u32], pairs: &[u32], text: &[u8]) -> Check
@@ -84,18 +84,18 @@ fn scan_rule(rules: &[u32], pairs: &[u32], text: &[u8], at: usize) -> RuleScan
     requires { ⌜ Good (now pairs) (now text) × (length (now rules) ≤ 8192) ⌝ }
     ensures { λ r. ⌜ RuleRead (now (rules .entry)) (now (pairs .entry)) at r ⌝ }
 {
-    match measure::measure_type(rules, pairs, text, at) {
-        Measure::Measured {
-            next: middle,
-            bytes: _,
-        } => match measure::measure_type(rules, pairs, text, middle) {
-            Measure::Measured {
-                next: end,
-                bytes: _,
-            } => RuleScan::OneRule { middle, end },
-            Measure::Stopped(r) => RuleScan::NoRule(r),
+    match acceptance::accept_type(rules, pairs, text, at, 0) {
+        Acceptance::Accepted(middle) => match acceptance::accept_type(
+            rules,
+            pairs,
+            text,
+            middle,
+            0,
+        ) {
+            Acceptance::Accepted(end) => RuleScan::OneRule { middle, end },
+            Acceptance::Denied(r) => RuleScan::NoRule(r),
         },
-        Measure::Stopped(r) => RuleScan::NoRule(r),
+        Acceptance::Denied(r) => RuleScan::NoRule(r),
     }
 }
 

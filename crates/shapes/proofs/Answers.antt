@@ -17,10 +17,10 @@ use Rattle.encoding.specs.Tables.{Good, checkTables}
 use Rattle.encoding.specs.Reading.{Reading, got, stop, whole}
 use Rattle.encoding.specs.Types.{typeAt, typeOf}
 use Rattle.encoding.proofs.Tables.{impossible, tables-passed}
-use Rattle.measure.specs.declared.Measure.{Measure}
-use Rattle.measure.specs.declared.Measure.the-variants.{Measured, Stopped}
-use Rattle.measure.specs.Lengths.{measureOf}
-use Rattle.measure.proofs.Measured.{measured-got, measured-stop}
+use Rattle.acceptance.specs.declared.Acceptance.{Acceptance}
+use Rattle.acceptance.specs.declared.Acceptance.the-variants.{Accepted as AcceptedTo, Denied}
+use Rattle.acceptance.specs.Walks.{acceptanceOf}
+use Rattle.acceptance.proofs.Accepted.{accepted-got, accepted-stop}
 use Rattle.writing.specs.Written.{Readable}
 use Rattle.wrappers.specs.Asked.{Judges}
 use Rattle.shapes.specs.declared.ShapeAnswer.{ShapeAnswer}
@@ -30,17 +30,17 @@ use Rattle.shapes.specs.Asked.{shapeAnswer, acceptance}
 -- ---- accepting
 
 module _ (size : ℕ) where
-  pub whole-left : (x : Reading (Ty Bytes)) {m : Measure} {n b : ℕ} → m ≡ measureOf x → m ≡ Measured n b → (n ≡ size → ⊥) → Failed LeftOver ≡ acceptance (whole size x)
+  pub whole-left : (x : Reading (Ty Bytes)) {m : Acceptance} {n : ℕ} → m ≡ acceptanceOf x → m ≡ AcceptedTo n → (n ≡ size → ⊥) → Failed LeftOver ≡ acceptance (whole size x)
   unfolding whole
-  whole-left x {n = n} e d h = rw (measured-got x e d .reads, ne-eqb n size h)
+  whole-left x {n = n} e d h = rw (accepted-got x e d .reads, ne-eqb n size h)
 
-  pub whole-passed : (x : Reading (Ty Bytes)) {m : Measure} {n b : ℕ} → m ≡ measureOf x → m ≡ Measured n b → n ≡ size → Passed ≡ acceptance (whole size x)
+  pub whole-passed : (x : Reading (Ty Bytes)) {m : Acceptance} {n : ℕ} → m ≡ acceptanceOf x → m ≡ AcceptedTo n → n ≡ size → Passed ≡ acceptance (whole size x)
   unfolding whole
-  whole-passed x {n = n} e d h = rw (measured-got x e d .reads, eq-eqb n size h)
+  whole-passed x {n = n} e d h = rw (accepted-got x e d .reads, eq-eqb n size h)
 
-  pub whole-stopped : (x : Reading (Ty Bytes)) {m : Measure} {r : Refusal} → m ≡ measureOf x → m ≡ Stopped r → Failed r ≡ acceptance (whole size x)
+  pub whole-stopped : (x : Reading (Ty Bytes)) {m : Acceptance} {r : Refusal} → m ≡ acceptanceOf x → m ≡ Denied r → Failed r ≡ acceptance (whole size x)
   unfolding whole
-  whole-stopped x e d = rw (measured-stop x e d)
+  whole-stopped x e d = rw (accepted-stop x e d)
 
   whole-given : (x : Reading (Ty Bytes)) (t : Ty Bytes) → whole size x ≡ given t → x ≡ got t size
   unfolding whole

@@ -14,11 +14,11 @@ ghost use Rattle.classes.specs.Matches.{unsized};
 ghost use Rattle.shapes.specs.Asked.{nameStep, nameKind, shapeAnswer, acceptance};
 ghost use Rattle.shapes.specs.Parts.{removedAt, ownedAt, BoxDynUnderlying, MultiArrayUnderlying, ObjectOrPointerUnderlying, GetBuiltinCollectionElement, uninitElement, ExtractMaybeUninitArrayElement};
 ghost use Rattle.shapes.specs.Shapes.{EndsWithNameThatCanAcceptGenerics, IsAutoSize, CanReadWithoutClone, IsRcOrBorrowedRc, IsMultiArray, IsMaybeUninit, IsUninitArray, IsBox, NeedsAsRefForBorrow, IsObject, IsPointer, IsObjectOrPointer, IsBuiltinCollection, IsRc, IsBoxDyn, uninitCases};
+use acceptance::Acceptance;
 use classes::Class;
 use classes::Found;
 use encoding::Check;
 use encoding::Refusal;
-use measure::Measure;
 
 // A shape answer: yes, no, or the refusal.
 pub enum ShapeAnswer {
@@ -343,14 +343,14 @@ fn accept_words(words: &[u32], pairs: &[u32], text: &[u8]) -> Check
     requires { ⌜ Good (now pairs) (now text) × (length (now words) ≤ 8192) ⌝ }
     ensures { λ r. ⌜ r ≡ acceptance (whole (length (now (words .entry))) (typeAt (now (words .entry)) (now (pairs .entry)) (now (text .entry)) 0)) ⌝ }
 {
-    match measure::measure_type(words, pairs, text, 0) {
-        Measure::Measured { next, bytes: _ } => {
+    match acceptance::accept_type(words, pairs, text, 0, 0) {
+        Acceptance::Accepted(next) => {
             if next != words.len() {
                 return Check::Failed(Refusal::LeftOver);
             }
             Check::Passed
         }
-        Measure::Stopped(r) => Check::Failed(r),
+        Acceptance::Denied(r) => Check::Failed(r),
     }
 }
 

@@ -12,10 +12,10 @@ ghost use Rattle.visits.specs.Visited.{typeVisits, declarationVisits};
 ghost use Rattle.visits.specs.Calls.{filled, Due, Visited, enteredAfter, enteredWalk, FieldNext, fieldType, pastField, Ahead, Entered, AllVisited, Fills, wholeVisits};
 ghost use Rattle.pieces.specs.Ends.{heldAt};
 ghost use Rattle.pieces.specs.declared.Whole.the-variants.{AType, ADeclaration};
+use acceptance::Acceptance;
 use encoding::Check;
 use encoding::Refusal;
 use encoding::Scan;
-use measure::Measure;
 use pieces::After;
 use pieces::Next;
 use pieces::Start;
@@ -253,8 +253,8 @@ fn fill_type(words: &[u32], pairs: &[u32], text: &[u8], out: &mut [u32]) -> Visi
     requires { ⌜ Good (now pairs) (now text) × (length (now words) ≤ 8192) ⌝ }
     ensures { λ r. ⌜ (r, now (out .exit)) ≡ filled (now (out .entry)) (wholeVisits AType (now (words .entry)) (now (pairs .entry)) (now (text .entry))) ⌝ }
 {
-    match measure::measure_type(words, pairs, text, 0) {
-        Measure::Measured { next, bytes: _ } => {
+    match acceptance::accept_type(words, pairs, text, 0, 0) {
+        Acceptance::Accepted(next) => {
             if next != words.len() {
                 return VisitAnswer::Refused(Refusal::LeftOver);
             }
@@ -264,7 +264,7 @@ fn fill_type(words: &[u32], pairs: &[u32], text: &[u8], out: &mut [u32]) -> Visi
             let all = visit_types(words, pairs, text, 0, 1, out, 0);
             VisitAnswer::Count(all.pos)
         }
-        Measure::Stopped(r) => VisitAnswer::Refused(r),
+        Acceptance::Denied(r) => VisitAnswer::Refused(r),
     }
 }
 

@@ -1,4 +1,4 @@
-use mathlib.Core.Path.{refl, ap}
+use mathlib.Core.Path.{ap}
 use Rattle.encoding.specs.declared.Head.the-variants.{Tuple}
 use Rattle.encoding.specs.Reading.{readWord}
 use Rattle.encoding.proofs.Reading.{word-got, word-stop}

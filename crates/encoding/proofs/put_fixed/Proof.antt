@@ -1,49 +1,47 @@
-use Rattle.rast.specs.Bytes.{ascii}
 use Rattle.output.proofs.Laws.{wrote-as}
-use Rattle.encoding.proofs.Tables.{starts, lengths, letters, fixed-inside, fixed-length, fixed-part}
 use native.Mathlib.Omega.{arith}
 use borrow.Author.Needs.{needs}
 use Rattle.encoding.proofs.put_fixed.Statement.{statement}
 use Rattle.encoding.proofs.put_fixed.Tie as tie
 
-array-read-start : tie.Need-array-read-start
-array-read-start c = search needs
+element-copy-out-start : tie.Need-element-copy-out-start
+element-copy-out-start c = search needs
 
 cast-start : tie.Need-cast-start
-unfolding starts lengths
-cast-start c = let h = fixed-inside (c .before .before .args .name) (search needs) in omega arith
+cast-start c =
+    let s = c .before .before in
+    omega (arith, s .pre .0 .inside (s .args .name) (s .pre .1))
 
-array-read-count : tie.Need-array-read-count
-array-read-count c = search needs
+element-copy-out-count : tie.Need-element-copy-out-count
+element-copy-out-count c = search needs
 
 cast-count : tie.Need-cast-count
-unfolding starts lengths
-cast-count c = let h = fixed-inside (c .before .before .args .name) (search needs) in omega arith
+cast-count c =
+    let s = c .before .before .before in
+    omega (arith, s .pre .0 .inside (s .args .name) (s .pre .1))
 
 put-part-requires : tie.Need-put-part-requires
-unfolding starts lengths
 put-part-requires c κs =
-    let a = c .before .before .before .before .args in
-    let h = fixed-inside (a .name) (search needs) in
-    let k = fixed-length (a .name) (search needs) in
-    (omega arith, omega arith)
+    let s = c .before .before .before .before .before in
+    let h = s .pre .0 in
+    let name = s .args .name in
+    (omega (arith, h .inside name (s .pre .1), h .size), omega (arith, h .count name (s .pre .1), s .pre .2))
 
 same-length : tie.Need-same-length
 same-length c = search needs
 
 returns : tie.Need-returns
-unfolding starts lengths letters ascii
 returns c =
-    let a = c .before .before .before .before .before .before .before .args in
-    wrote-as (fixed-part (a .name) (search needs)) (c .before .before .put-part .ensures)
+    let s = c .before .before .before .before .before .before .before .before in
+    wrote-as (s .pre .0 .part (s .args .name) (s .pre .1)) (c .before .before .put-part .ensures)
 
 pub put-fixed-spec : {M : Type 1} → statement M
 put-fixed-spec =
     tie.close
     (tie.spec
-    array-read-start
+    element-copy-out-start
     cast-start
-    array-read-count
+    element-copy-out-count
     cast-count
     put-part-requires
     same-length

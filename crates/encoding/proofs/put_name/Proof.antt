@@ -7,8 +7,8 @@ use borrow.Author.Needs.{needs}
 use Rattle.encoding.proofs.put_name.Statement.{statement}
 use Rattle.encoding.proofs.put_name.Tie as tie
 
-put-fixed-requires : tie.Need-put-fixed-requires
-put-fixed-requires c κs =
+put-one-fixed-requires : tie.Need-put-one-fixed-requires
+put-one-fixed-requires c κs =
     let a = c .before .before .before .before .before .args in
     let room = c .before .before .before .before .before .pre .2 in
     let e = name-fixed (a .pairs .now) (a .text .now) (a .name) (search needs) in
@@ -20,7 +20,7 @@ same-length c = search needs
 returns : tie.Need-returns
 returns c =
     let a = c .before .before .before .before .before .before .before .before .args in
-    wrote-as (sym (name-fixed (a .pairs .now) (a .text .now) (a .name) (search needs))) (c .before .before .put-fixed .ensures)
+    wrote-as (sym (name-fixed (a .pairs .now) (a .text .now) (a .name) (search needs))) (c .before .before .put-one-fixed .ensures)
 
 put-pair-requires : tie.Need-put-pair-requires
 put-pair-requires c κs = search needs
@@ -34,4 +34,4 @@ returns-2 c = search needs
 pub put-name-spec : {M : Type 1} → statement M
 put-name-spec =
     tie.close
-    (tie.spec put-fixed-requires same-length returns put-pair-requires same-length-2 returns-2)
+    (tie.spec put-one-fixed-requires same-length returns put-pair-requires same-length-2 returns-2)

@@ -1,11 +1,9 @@
-use Rattle.output.proofs.Laws.{wrote-kept, wrote-nothing, wrote-then, wrote-as, room-after}
-use mathlib.Core.List.{[], _++_, map, append-assoc, append-nil, flatten}
-use lib.ListN.{length, getD, take, drop, length-append}
 use Prim.Native.Nat.{_+_, _-_}
 use mathlib.Core.Path.{_≡_, refl, sym, ap, _∙_}
-use mathlib.Core.List.{[], _++_, append-assoc, append-nil}
-use lib.ListN.{length, getD, length-append}
+use mathlib.Core.List.{[], _++_, map, append-assoc, append-nil, flatten}
+use lib.ListN.{getD, take, drop, length, length-append}
 use Rattle.rast.specs.ToString.{Path·ToString}
+use Rattle.output.proofs.Laws.{wrote-kept, wrote-nothing, wrote-then, wrote-as, room-after}
 use Rattle.encoding.specs.Tables.{nameBytes}
 use Rattle.encoding.specs.Types.{rootOf}
 use Rattle.leaves.specs.Texts.{memberText}
@@ -16,10 +14,10 @@ use Rattle.leaves.proofs.put_path.Statement.{statement}
 use Rattle.leaves.proofs.put_path.Tie as tie
 
 abbrev Inv-loop : tie.InvT-loop
-Inv-loop words pairs text out₀ pos start end p₀ i₀ out p i = MembersLeft words (nameBytes pairs text) start end out₀ p₀ out p i
+Inv-loop words pairs text out₀ pos start end letters starts lengths p₀ i₀ out p i = MembersLeft words (nameBytes pairs text) start end out₀ p₀ out p i
 
 abbrev μ-loop : tie.MeasureT-loop
-μ-loop words pairs text out₀ pos start end p₀ i₀ out p i = end - i
+μ-loop words pairs text out₀ pos start end letters starts lengths p₀ i₀ out p i = end - i
 
 cast-end : tie.Need-cast-end Inv-loop μ-loop
 cast-end c = search needs
@@ -27,11 +25,15 @@ cast-end c = search needs
 add-end : tie.Need-add-end Inv-loop μ-loop
 add-end c = search needs
 
+fixed-names-requires : tie.Need-fixed-names-requires Inv-loop μ-loop
+fixed-names-requires c κs = search needs
+
 put-root-requires : tie.Need-put-root-requires Inv-loop μ-loop
 put-root-requires c κs =
-    let a = c .before .before .before .before .before .before .args in
+    let s = c .before .before .before .before .before .before .before .before .before .before in
+    let a = s .args in
     let e = path-text (a .words .now) (nameBytes (a .pairs .now) (a .text .now)) (a .path) in
-    omega (arith, c .before .before .before .before .before .before .pre .2, simp length-append at (ap length e))
+    omega (arith, s .pre .2, simp length-append at (ap length e))
 
 loop-holds : tie.Need-loop-holds Inv-loop μ-loop
 loop-holds c =
@@ -50,14 +52,19 @@ shared-slice-read-put-member c = search needs
 
 put-member-requires : tie.Need-put-member-requires Inv-loop μ-loop
 put-member-requires c κs =
-    let a = c .before .before .before .before .before .before .before .before .before .before .before .before .before .args in
-    let l = c .before .before .before .loop in
+    let s = c .before .before .before .before .before .before .before .before .before .before .before .before .before .before .before .before .before .before .before .before in
+    let a = s .args in
+    let l = c .before .before .before .before .before .before .loop in
     let i = l .inv in
     let name = nameBytes (a .pairs .now) (a .text .now) in
-    let e = members-from name (a .words .now) (l .i) (a .path .start + a .path .count) (search needs) (c .before .before .before .before .before .before .before .before .before .before .before .before .before .pre .0 .inside) in
-    let root = c .before .before .before .before .before .before .put-root .ensures in
-    let whole = path-text (a .words .now) name (a .path) ∙ ap (λ x. Path·ToString (rootOf (a .path .root)) ++ x) (i .splits ∙ ap (λ x. i .front ++ x) e) ∙ sym (append-assoc (Path·ToString (rootOf (a .path .root))) (i .front) _) in
-    (c .before .before .before .before .before .before .before .before .before .before .before .before .before .pre .0 .below (l .i) (i .inside .0) (search needs), c .before .before .before .before .before .before .before .before .before .before .before .before .before .pre .1, room-after (memberText (name (getD (a .words .now) (l .i) 0))) (membersText (map name (take (a .path .start + a .path .count - (l .i + 1)) (drop (l .i + 1) (a .words .now))))) (c .before .before .before .before .before .before .before .before .before .before .before .before .before .pre .2) (wrote-then root (i .wrote)) whole)
+    let e = members-from name (a .words .now) (l .i) (a .path .start + a .path .count) (search needs) (s .pre .0 .inside) in
+    let root = c .before .before .before .before .before .before .before .before .before .put-root .ensures in
+    let whole = path-text (a .words .now) name (a .path) ∙ ap (λ x. Path·ToString (rootOf (a .path .root)) ++ x) (i .splits ∙ ap (λ x. i .front ++ x) e) ∙ sym (append-assoc (Path·ToString (rootOf (a .path .root))) (i .front) _) in (
+      c .before .before .before .before .before .before .before .before .before .before .before .before .before .before .fixed-names .ensures,
+      s .pre .0 .below (l .i) (i .inside .0) (search needs),
+      s .pre .1,
+      room-after (memberText (name (getD (a .words .now) (l .i) 0))) (membersText (map name (take (a .path .start + a .path .count - (l .i + 1)) (drop (l .i + 1) (a .words .now))))) (s .pre .2) (wrote-then root (i .wrote)) whole,
+    )
 
 add-i : tie.Need-add-i Inv-loop μ-loop
 add-i c = search needs
@@ -67,11 +74,12 @@ loop-less c = search needs
 
 loop-again : tie.Need-loop-again Inv-loop μ-loop
 loop-again c =
-    let a = c .before .before .before .before .before .before .before .before .before .before .before .before .before .before .before .before .args in
-    let l = c .before .before .before .before .before .before .loop in
+    let s = c .before .before .before .before .before .before .before .before .before .before .before .before .before .before .before .before .before .before .before .before .before .before .before in
+    let a = s .args in
+    let l = c .before .before .before .before .before .before .before .before .before .loop in
     let i = l .inv in
     let name = nameBytes (a .pairs .now) (a .text .now) in
-    let e = members-from name (a .words .now) (l .i) (a .path .start + a .path .count) (search needs) (c .before .before .before .before .before .before .before .before .before .before .before .before .before .before .before .before .pre .0 .inside) in
+    let e = members-from name (a .words .now) (l .i) (a .path .start + a .path .count) (search needs) (s .pre .0 .inside) in
     record {
       front = i .front ++ memberText (name (getD (a .words .now) (l .i) 0));
       wrote = wrote-then (i .wrote) (c .before .before .put-member .ensures);
@@ -85,7 +93,7 @@ same-length c = wrote-kept (wrote-then (c .before .before .before .before .put-r
 returns : tie.Need-returns Inv-loop μ-loop
 unfolding flatten
 returns c =
-    let a = c .before .before .before .before .before .before .before .before .before .before .before .args in
+    let a = c .before .before .before .before .before .before .before .before .before .before .before .before .before .before .before .args in
     let l = c .before .loop in
     let name = nameBytes (a .pairs .now) (a .text .now) in
     let z : a .path .start + a .path .count - l .i ≡ 0 = omega arith in
@@ -100,6 +108,7 @@ put-path-spec =
     μ-loop
     cast-end
     add-end
+    fixed-names-requires
     put-root-requires
     loop-holds
     mul-put-member

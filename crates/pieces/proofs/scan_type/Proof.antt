@@ -1,7 +1,7 @@
 use Rattle.encoding.specs.Scans.{ended}
 use Rattle.encoding.specs.Types.{typeAt}
 use Rattle.encoding.proofs.Types.{type-end}
-use Rattle.measure.proofs.Measured.{measured-got, measured-stop}
+use Rattle.acceptance.proofs.Accepted.{accepted-got, accepted-stop}
 use Rattle.pieces.proofs.Ends.{type-plain}
 use mathlib.Core.Path.{ap, sym}
 use borrow.Author.Needs.{needs}
@@ -27,8 +27,8 @@ returns-2 c =
     let a = c .before .before .before .before .before .before .args in
     sym (type-plain (a .words .now) (a .pairs .now) (a .text .now) (a .at) (search needs) (c .if2 .taken))
 
-measure-type-requires : tie.Need-measure-type-requires
-measure-type-requires c κs = search needs
+accept-type-requires : tie.Need-accept-type-requires
+accept-type-requires c κs = search needs
 
 enum-known-next : tie.Need-enum-known-next
 enum-known-next c = search needs
@@ -39,12 +39,12 @@ enum-known-r c = search needs
 returns-3 : tie.Need-returns-3
 returns-3 c =
     let a = c .before .before .before .before .before .before .before .before .before .before .args in
-    ap ended (sym (measured-got (typeAt (a .words .now) (a .pairs .now) (a .text .now) (a .at)) (c .before .before .before .measure-type .ensures) (c .before .next .given .1) .reads))
+    ap ended (sym (accepted-got (typeAt (a .words .now) (a .pairs .now) (a .text .now) (a .at)) (c .before .before .before .accept-type .ensures) (c .before .next .given .1) .reads))
 
 returns-4 : tie.Need-returns-4
 returns-4 c =
     let a = c .before .before .before .before .before .before .before .before .before .before .args in
-    ap ended (sym (measured-stop (typeAt (a .words .now) (a .pairs .now) (a .text .now) (a .at)) (c .before .before .before .measure-type .ensures) (c .before .r .given .1)))
+    ap ended (sym (accepted-stop (typeAt (a .words .now) (a .pairs .now) (a .text .now) (a .at)) (c .before .before .before .accept-type .ensures) (c .before .r .given .1)))
 
 pub scan-type-spec : {M : Type 1} → statement M
 scan-type-spec =
@@ -55,7 +55,7 @@ scan-type-spec =
     shared-slice-read-if2
     add-t12
     returns-2
-    measure-type-requires
+    accept-type-requires
     enum-known-next
     enum-known-r
     returns-3

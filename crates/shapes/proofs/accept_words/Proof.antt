@@ -1,3 +1,4 @@
+use native.Mathlib.Omega.{arith}
 use Rattle.encoding.specs.Types.{typeAt}
 use Rattle.shapes.proofs.Answers.{whole-left, whole-passed, whole-stopped}
 use Rattle.shapes.proofs.accept_words.Statement.{statement}
@@ -5,8 +6,8 @@ use lib.ListN.{length}
 use borrow.Author.Needs.{needs}
 use Rattle.shapes.proofs.accept_words.Tie as tie
 
-measure-type-requires : tie.Need-measure-type-requires
-measure-type-requires c κs = (c .before .before .before .pre .0, c .before .before .before .pre .1)
+accept-type-requires : tie.Need-accept-type-requires
+accept-type-requires c κs = (c .before .before .before .pre .0, c .before .before .before .pre .1, omega arith)
 
 enum-known-next : tie.Need-enum-known-next
 enum-known-next c = search needs
@@ -14,7 +15,7 @@ enum-known-next c = search needs
 returns : tie.Need-returns
 returns c =
     let a = c .before .before .before .before .before .before .before .before .args in
-    whole-left (length (a .words .now)) (typeAt (a .words .now) (a .pairs .now) (a .text .now) 0) (c .before .before .before .before .measure-type .ensures) (c .before .before .next .given .1) (c .if1 .taken)
+    whole-left (length (a .words .now)) (typeAt (a .words .now) (a .pairs .now) (a .text .now) 0) (c .before .before .before .before .accept-type .ensures) (c .before .before .next .given .1) (c .if1 .taken)
 
 enum-known-r : tie.Need-enum-known-r
 enum-known-r c = search needs
@@ -22,18 +23,18 @@ enum-known-r c = search needs
 returns-2 : tie.Need-returns-2
 returns-2 c =
     let a = c .before .before .before .before .before .before .before .before .args in
-    whole-passed (length (a .words .now)) (typeAt (a .words .now) (a .pairs .now) (a .text .now) 0) (c .before .before .before .before .measure-type .ensures) (c .before .before .next .given .1) (c .if1 .left)
+    whole-passed (length (a .words .now)) (typeAt (a .words .now) (a .pairs .now) (a .text .now) 0) (c .before .before .before .before .accept-type .ensures) (c .before .before .next .given .1) (c .if1 .left)
 
 returns-3 : tie.Need-returns-3
 returns-3 c =
     let a = c .before .before .before .before .before .before .before .args in
-    whole-stopped (length (a .words .now)) (typeAt (a .words .now) (a .pairs .now) (a .text .now) 0) (c .before .before .before .measure-type .ensures) (c .before .r .given .1)
+    whole-stopped (length (a .words .now)) (typeAt (a .words .now) (a .pairs .now) (a .text .now) 0) (c .before .before .before .accept-type .ensures) (c .before .r .given .1)
 
 pub accept-words-spec : {M : Type 1} → statement M
 accept-words-spec =
     tie.close
     (tie.spec
-    measure-type-requires
+    accept-type-requires
     enum-known-next
     returns
     enum-known-r

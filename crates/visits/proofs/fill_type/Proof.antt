@@ -1,5 +1,5 @@
 use Rattle.encoding.specs.Types.{typeAt}
-use Rattle.measure.proofs.Measured.{measured-got, measured-stop}
+use Rattle.acceptance.proofs.Accepted.{accepted-got, accepted-stop}
 use Rattle.pieces.specs.declared.Whole.the-variants.{AType}
 use native.Mathlib.Omega.{arith}
 use Rattle.visits.proofs.Answers.{fills, fills-readable, type-due, type-visited, visits-done, visits-left, visits-stop}
@@ -7,8 +7,8 @@ use Rattle.visits.proofs.fill_type.Statement.{statement}
 use borrow.Author.Needs.{needs}
 use Rattle.visits.proofs.fill_type.Tie as tie
 
-measure-type-requires : tie.Need-measure-type-requires
-measure-type-requires c κs = search needs
+accept-type-requires : tie.Need-accept-type-requires
+accept-type-requires c κs = search needs
 
 enum-known-next : tie.Need-enum-known-next
 enum-known-next c = search needs
@@ -16,12 +16,12 @@ enum-known-next c = search needs
 returns : tie.Need-returns
 returns c =
     let a = c .before .before .before .before .before .before .before .before .before .args in
-    visits-left (a .words .now) (a .pairs .now) (a .text .now) AType (a .out .now) (measured-got (typeAt (a .words .now) (a .pairs .now) (a .text .now) 0) (c .before .before .before .before .measure-type .ensures) (c .before .before .next .given .1) .reads) (c .if1 .taken)
+    visits-left (a .words .now) (a .pairs .now) (a .text .now) AType (a .out .now) (accepted-got (typeAt (a .words .now) (a .pairs .now) (a .text .now) 0) (c .before .before .before .before .accept-type .ensures) (c .before .before .next .given .1) .reads) (c .if1 .taken)
 
 fill-short-requires : tie.Need-fill-short-requires
 fill-short-requires c κs =
     let a = c .before .before .before .before .before .before .before .before .before .before .before .args in
-    (c .before .before .before .before .before .before .before .before .before .before .before .pre .1, fills (a .words .now) (a .pairs .now) (a .text .now) AType (measured-got (typeAt (a .words .now) (a .pairs .now) (a .text .now) 0) (c .before .before .before .before .before .before .measure-type .ensures) (c .before .before .before .before .next .given .1) .reads) (c .before .before .if1 .left))
+    (c .before .before .before .before .before .before .before .before .before .before .before .pre .1, fills (a .words .now) (a .pairs .now) (a .text .now) AType (accepted-got (typeAt (a .words .now) (a .pairs .now) (a .text .now) 0) (c .before .before .before .before .before .before .accept-type .ensures) (c .before .before .before .before .next .given .1) .reads) (c .before .before .if1 .left))
 
 same-length : tie.Need-same-length
 same-length c = search needs
@@ -32,7 +32,7 @@ returns-2 c = c .before .before .fill-short .ensures
 visit-types-requires : tie.Need-visit-types-requires
 visit-types-requires c κs =
     let a = c .before .before .before .before .before .before .before .before .before .before .before .args in
-    type-due (a .words .now) (a .pairs .now) (a .text .now) (c .before .before .before .before .before .before .before .before .before .before .before .pre .1) (fills-readable (a .words .now) (a .pairs .now) (a .text .now) (fills (a .words .now) (a .pairs .now) (a .text .now) AType (measured-got (typeAt (a .words .now) (a .pairs .now) (a .text .now) 0) (c .before .before .before .before .before .before .measure-type .ensures) (c .before .before .before .before .next .given .1) .reads) (c .before .before .if1 .left)))
+    type-due (a .words .now) (a .pairs .now) (a .text .now) (c .before .before .before .before .before .before .before .before .before .before .before .pre .1) (fills-readable (a .words .now) (a .pairs .now) (a .text .now) (fills (a .words .now) (a .pairs .now) (a .text .now) AType (accepted-got (typeAt (a .words .now) (a .pairs .now) (a .text .now) 0) (c .before .before .before .before .before .before .accept-type .ensures) (c .before .before .before .before .next .given .1) .reads) (c .before .before .if1 .left)))
 
 enum-known-r : tie.Need-enum-known-r
 enum-known-r c = search needs
@@ -43,20 +43,20 @@ same-length-2 c = search needs
 returns-3 : tie.Need-returns-3
 returns-3 c =
     let a = c .before .before .before .before .before .before .before .before .before .before .before .before .before .before .args in
-    let f = fills (a .words .now) (a .pairs .now) (a .text .now) AType (measured-got (typeAt (a .words .now) (a .pairs .now) (a .text .now) 0) (c .before .before .before .before .before .before .before .before .before .measure-type .ensures) (c .before .before .before .before .before .before .before .next .given .1) .reads) (c .before .before .before .before .before .if1 .left) in
+    let f = fills (a .words .now) (a .pairs .now) (a .text .now) AType (accepted-got (typeAt (a .words .now) (a .pairs .now) (a .text .now) 0) (c .before .before .before .before .before .before .before .before .before .accept-type .ensures) (c .before .before .before .before .before .before .before .next .given .1) .reads) (c .before .before .before .before .before .if1 .left) in
     let v = type-visited (a .words .now) (a .pairs .now) (a .text .now) (fills-readable (a .words .now) (a .pairs .now) (a .text .now) f) (c .before .before .visit-types .ensures) in
     visits-done (a .words .now) (a .pairs .now) (a .text .now) AType (a .out .now) f v (omega (arith, v .counted, c .before .before .before .before .if2 .left))
 
 returns-4 : tie.Need-returns-4
 returns-4 c =
     let a = c .before .before .before .before .before .before .before .before .args in
-    visits-stop (a .words .now) (a .pairs .now) (a .text .now) AType (a .out .now) (measured-stop (typeAt (a .words .now) (a .pairs .now) (a .text .now) 0) (c .before .before .before .measure-type .ensures) (c .before .r .given .1))
+    visits-stop (a .words .now) (a .pairs .now) (a .text .now) AType (a .out .now) (accepted-stop (typeAt (a .words .now) (a .pairs .now) (a .text .now) 0) (c .before .before .before .accept-type .ensures) (c .before .r .given .1))
 
 pub fill-type-spec : {M : Type 1} → statement M
 fill-type-spec =
     tie.close
     (tie.spec
-    measure-type-requires
+    accept-type-requires
     enum-known-next
     returns
     fill-short-requires
