@@ -7,7 +7,7 @@ use lib.Dec.{ltb, eqb}
 use lib.ListN.{length, getD, take, drop, set}
 use Rattle.rast.specs.Bytes.{Bytes, _and_, _or_}
 use Rattle.rast.specs.Tree.{Ty, Tys, nil, cons}
-use Rattle.rast.specs.Sound.{soundName, soundSize, soundPath, isNamed, isIntersection, sound}
+use Rattle.rast.specs.Sound.{isWordByte, soundName, soundSize, soundPath, isNamed, isIntersection, sound}
 use Rattle.encoding.specs.declared.Refusal.{Refusal}
 use Rattle.encoding.specs.declared.Head.{Head}
 use Rattle.encoding.specs.declared.Head.the-variants.{Plain, Name, FromPath, Apply, Ref, RefMut, Impl, Dyn, Tuple, Function, Both, ArrayOf, Synonym, Meta}
@@ -36,11 +36,15 @@ Ready pairs text = Good pairs text × (length pairs / 2 ≤ 1024)
 unfoldable pub beginsExcluded : ℕ → Bool
 beginsExcluded x = eqb x 83 or eqb x 98 or eqb x 99 or eqb x 100 or eqb x 105 or eqb x 109 or eqb x 117
 
+-- from start to end there are letters, underscores and digits
+abbrev pub WordBytes : Bytes → ℕ → ℕ → Type 0
+WordBytes text start end = (i : ℕ) → start ≤ i → i < end → isWordByte (getD text i 0) ≡ true
+
 -- names that were found sound: each that stands in its place is one
 pub record Known (pairs : List ℕ) (text : Bytes) (known : List ℕ) : Type 0 where
-  pub room : length known ≡ 128
-  pub inside : (x : ℕ) → getD known (x % 128) 0 ≡ x → x < nameCount pairs
-  pub sound : (x : ℕ) → getD known (x % 128) 0 ≡ x → soundName (nameBytes pairs text x) ≡ true
+  pub room : length known ≡ 64
+  pub inside : (x : ℕ) → getD known (x % 64) 0 ≡ x → x < nameCount pairs
+  pub sound : (x : ℕ) → getD known (x % 64) 0 ≡ x → soundName (nameBytes pairs text x) ≡ true
 
 -- each of some names, by its number
 unfoldable pub allNamesSound : (ℕ → Bytes) → List ℕ → Bool

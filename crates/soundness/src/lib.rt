@@ -6,15 +6,15 @@ ghost use Prim.Native.Nat.{_+_, _-_, _/_, _%_, _^_, _≤_, _<_};
 ghost use lib.Dec.{eqb};
 ghost use lib.ListN.{length, take, drop, getD};
 ghost use Rattle.rast.specs.Bytes.{same, each, among};
-ghost use Rattle.rast.specs.Sound.{isWordStart, isWordByte, isWord, excluded, soundName, soundSize, sound};
-ghost use Rattle.encoding.specs.Refusals.{mapAnswer};
+ghost use Rattle.rast.specs.Sound.{within, isWordStart, isWordByte, isWord, excluded, soundName, soundSize, sound};
+ghost use Rattle.encoding.specs.Refusals.{pick, mapAnswer};
 ghost use Rattle.encoding.specs.Reading.{got, whole, readWord, readBelow};
 ghost use Rattle.encoding.specs.Tables.{nameBytes, nameCount, Good};
 ghost use Rattle.encoding.specs.Heads.{pathHead, headAfter, readHead};
 ghost use Rattle.encoding.specs.Types.{sizeOf, typeAt};
 ghost use Rattle.encoding.specs.declared.Head.the-variants.{Name, Apply, Tuple, Function, ArrayOf, Meta};
 ghost use Rattle.measure.specs.Lengths.{worded, namesHead};
-ghost use Rattle.soundness.specs.Judging.{beginsExcluded, Ready, Known, Checked, Onward, OnwardAlways, unlessJudged, rootScan, nodeScan, bareScan, leafScan, bothScan, Scanned, askNext, nextType, under, pushed, leaving, Outward, Kept, Stepped};
+ghost use Rattle.soundness.specs.Judging.{beginsExcluded, WordBytes, Ready, Known, Checked, Onward, OnwardAlways, unlessJudged, rootScan, nodeScan, bareScan, leafScan, bothScan, Scanned, askNext, nextType, under, pushed, leaving, Outward, Kept, Stepped};
 ghost use Rattle.soundness.specs.Calls.{typeIsSound, soundAnswer};
 use acceptance::Acceptance;
 use encoding::Check;
@@ -95,11 +95,11 @@ fn is_word_byte(b: u8) -> bool
     b <= b'9'
 }
 
-// From `start` on there are only letters, underscores and digits.
-fn all_word_bytes(bytes: &[u8], start: usize) -> bool
-    ensures { λ r. ⌜ r ≡ each isWordByte (drop start (now (bytes .entry))) ⌝ }
+// There are only letters, underscores and digits.
+fn all_word_bytes(bytes: &[u8]) -> bool
+    ensures { λ r. ⌜ r ≡ each isWordByte (now (bytes .entry)) ⌝ }
 {
-    let mut i = start;
+    let mut i = 0;
     while i < bytes.len() {
         if !is_word_byte(bytes[i]) {
             return false;
@@ -109,15 +109,72 @@ fn all_word_bytes(bytes: &[u8], start: usize) -> bool
     true
 }
 
-// A letter or an underscore, and then letters, underscores and digits.
-fn is_word(bytes: &[u8]) -> bool
-    ensures { λ r. ⌜ r ≡ isWord (now (bytes .entry)) ⌝ }
+// 1 for a byte from `low` to `high`, else 0.
+fn lies(b: u8, low: u8, high: u8) -> u8
+    ensures { λ r. ⌜ (r ≡ pick (within low high b) 1 0) × (r ≤ 1) ⌝ }
 {
-    if bytes.len() == 0 {
+    if b < low {
+        return 0;
+    }
+    if high < b {
+        return 0;
+    }
+    1
+}
+
+// 1 for a byte that is no letter, underscore or digit, else 0. All bytes are asked the same, so that it can be done for sixteen at once.
+fn strange(b: u8) -> u8
+    ensures { λ r. ⌜ (r ≡ pick (isWordByte b) 0 1) × (r ≤ 1) ⌝ }
+{
+    if lies(b, b'A', b'Z') + lies(b, b'a', b'z') + lies(b, b'_', b'_') + lies(b, b'0', b'9') == 0 {
+        return 1;
+    }
+    0
+}
+
+// The sixteen bytes from `at` on are letters, underscores and digits.
+fn sixteen_word_bytes(text: &[u8], at: usize) -> bool
+    requires { ⌜ at + 16 ≤ length (now text) ⌝ }
+    ensures { λ r. ⌜ (r ≡ true → WordBytes (now (text .entry)) at (at + 16)) ⌝ }
+{
+    let mut sum = 0u8;
+    let mut j = 0;
+    while j < 16 {
+        sum += strange(text[at + j]);
+        j += 1;
+    }
+    sum == 0
+}
+
+// The bytes from `start` to `end` are letters, underscores and digits. Sixteen at a time are looked at, those behind `end` too where that says enough: what follows
+// a name in the text is often another.
+fn are_word_bytes(text: &[u8], start: usize, end: usize) -> bool
+    requires { ⌜ (start ≤ end) × (end ≤ length (now text)) ⌝ }
+    ensures { λ r. ⌜ r ≡ each isWordByte (take (end - start) (drop start (now (text .entry)))) ⌝ }
+{
+    let mut i = start;
+    while i < end {
+        if text.len() - i < 16 {
+            return all_word_bytes(encoding::part(text, i, end));
+        }
+        if !sixteen_word_bytes(text, i) {
+            return all_word_bytes(encoding::part(text, i, end));
+        }
+        i += 16;
+    }
+    true
+}
+
+// From `start` to `end`: a letter or an underscore, and then letters, underscores and digits.
+fn is_word(text: &[u8], start: usize, end: usize) -> bool
+    requires { ⌜ (start ≤ end) × (end ≤ length (now text)) ⌝ }
+    ensures { λ r. ⌜ r ≡ isWord (take (end - start) (drop start (now (text .entry)))) ⌝ }
+{
+    if end <= start {
         return false;
     }
-    if is_word_start(bytes[0]) {
-        return all_word_bytes(bytes, 1);
+    if is_word_start(text[start]) {
+        return are_word_bytes(text, start + 1, end);
     }
     false
 }
@@ -210,9 +267,11 @@ fn sound_name(pairs: &[u32], text: &[u8], name: u32) -> bool
     if name < 16 {
         return name != 0;
     }
-    let bytes = encoding::pair_bytes(pairs, text, name);
-    if is_word(bytes) {
-        return !is_excluded(bytes);
+    let i = (name - 16) as usize;
+    let start = pairs[2 * i] as usize;
+    let end = start + pairs[2 * i + 1] as usize;
+    if is_word(text, start, end) {
+        return !is_excluded(encoding::part(text, start, end));
     }
     false
 }
@@ -229,7 +288,7 @@ fn sound_size(pairs: &[u32], text: &[u8], size: u32) -> bool
     if bytes.len() == 0 {
         return false;
     }
-    all_word_bytes(bytes, 0)
+    all_word_bytes(bytes)
 }
 
 // An element of a lent array is not known to fit its type, a parameter is.
@@ -240,15 +299,15 @@ fn wide(x: u16) -> u64
 }
 
 // Whether a name is kept as one that was found sound: in the place that its number has.
-fn is_known(known: &[u16; 128], name: u32) -> bool
-    ensures { λ r. ⌜ r ≡ eqb (getD (now (known .entry)) (name % 128) 0) name ⌝ }
+fn is_known(known: &[u16; 64], name: u32) -> bool
+    ensures { λ r. ⌜ r ≡ eqb (getD (now (known .entry)) (name % 64) 0) name ⌝ }
 {
-    let at = (name % 128) as usize;
+    let at = (name % 64) as usize;
     wide(known[at]) == name as u64
 }
 
 // A name that `ask` may ask to be sound. One that is found sound is kept.
-fn check_new(pairs: &[u32], text: &[u8], known: &mut [u16; 128], name: u32, ask: u64) -> NameCheck
+fn check_new(pairs: &[u32], text: &[u8], known: &mut [u16; 64], name: u32, ask: u64) -> NameCheck
     requires { ⌜ Ready (now pairs) (now text) × Known (now pairs) (now text) (now known) ⌝ }
     ensures { λ r. ⌜ Checked (now (pairs .entry)) (now (text .entry)) name ask r × Known (now (pairs .entry)) (now (text .entry)) (now (known .exit)) ⌝ }
 {
@@ -262,7 +321,7 @@ fn check_new(pairs: &[u32], text: &[u8], known: &mut [u16; 128], name: u32, ask:
         return NameCheck::Fine;
     }
     if sound_name(pairs, text, name) {
-        let at = (name % 128) as usize;
+        let at = (name % 64) as usize;
         known[at] = name as u16;
         return NameCheck::Fine;
     }
@@ -274,7 +333,7 @@ fn own_name(
     words: &[u32],
     pairs: &[u32],
     text: &[u8],
-    known: &mut [u16; 128],
+    known: &mut [u16; 64],
     at: usize,
     ask: u64,
 ) -> OwnScan
@@ -308,7 +367,7 @@ fn known_to(
     words: &[u32],
     pairs: &[u32],
     text: &[u8],
-    known: &[u16; 128],
+    known: &[u16; 64],
     start: usize,
     end: usize,
 ) -> usize
@@ -331,7 +390,7 @@ fn new_names(
     words: &[u32],
     pairs: &[u32],
     text: &[u8],
-    known: &mut [u16; 128],
+    known: &mut [u16; 64],
     path: PathAt,
     start: usize,
     ask: u64,
@@ -369,7 +428,7 @@ fn own_names(
     words: &[u32],
     pairs: &[u32],
     text: &[u8],
-    known: &mut [u16; 128],
+    known: &mut [u16; 64],
     path: PathAt,
     ask: u64,
 ) -> OwnScan
@@ -406,7 +465,7 @@ fn own_path(
     words: &[u32],
     pairs: &[u32],
     text: &[u8],
-    known: &mut [u16; 128],
+    known: &mut [u16; 64],
     at: usize,
     ask: u64,
 ) -> OwnScan
@@ -540,7 +599,7 @@ fn own_both(at: usize, ask: u64) -> OwnScan
 }
 
 // An array's size, as `ask` asks it to be. A name that is sound is a sound size.
-fn size_fits(pairs: &[u32], text: &[u8], known: &[u16; 128], size: u32, ask: u64) -> bool
+fn size_fits(pairs: &[u32], text: &[u8], known: &[u16; 64], size: u32, ask: u64) -> bool
     requires { ⌜ (size < nameCount (now pairs) + 1) × Ready (now pairs) (now text) × Known (now pairs) (now text) (now known) ⌝ }
     ensures { λ r. ⌜ r ≡ unlessJudged ask (soundSize (sizeOf (nameBytes (now (pairs .entry)) (now (text .entry))) size)) ⌝ }
 {
@@ -561,7 +620,7 @@ fn own_array(
     words: &[u32],
     pairs: &[u32],
     text: &[u8],
-    known: &[u16; 128],
+    known: &[u16; 64],
     bound: usize,
     at: usize,
     ask: u64,
@@ -597,7 +656,7 @@ fn own_after(
     words: &[u32],
     pairs: &[u32],
     text: &[u8],
-    known: &mut [u16; 128],
+    known: &mut [u16; 64],
     bound: usize,
     w: u32,
     at: usize,
@@ -636,7 +695,7 @@ fn scan_own(
     words: &[u32],
     pairs: &[u32],
     text: &[u8],
-    known: &mut [u16; 128],
+    known: &mut [u16; 64],
     bound: usize,
     at: usize,
     ask: u64,
@@ -731,7 +790,7 @@ fn advance(
     pairs: &[u32],
     text: &[u8],
     bound: usize,
-    known: &mut [u16; 128],
+    known: &mut [u16; 64],
     levels: &mut [u16; 64],
     pass: Pass,
 ) -> Step
@@ -784,6 +843,18 @@ fn sound_to(words: &[u32], next: usize) -> SoundAnswer
     SoundAnswer::Sound
 }
 
+// The fixed names are kept from the start: all but the empty one are sound.
+fn keep_fixed(pairs: &[u32], text: &[u8], known: &mut [u16; 64])
+    requires { ⌜ Known (now pairs) (now text) (now known) ⌝ }
+    ensures { λ r. ⌜ Known (now (pairs .entry)) (now (text .entry)) (now (known .exit)) ⌝ }
+{
+    let mut i = 1;
+    while i < 16 {
+        known[i] = i as u16;
+        i += 1;
+    }
+}
+
 // A type that fills the words.
 fn judge_whole(words: &[u32], pairs: &[u32], text: &[u8]) -> SoundAnswer
     requires { ⌜ Ready (now pairs) (now text) × (length (now words) ≤ 8192) ⌝ }
@@ -792,8 +863,9 @@ fn judge_whole(words: &[u32], pairs: &[u32], text: &[u8]) -> SoundAnswer
 {
     let bound = encoding::name_count(pairs);
     let mut levels = [0u16; 64];
-    let mut known = [0u16; 128];
+    let mut known = [0u16; 64];
     known[0] = 1;
+    keep_fixed(pairs, text, &mut known);
     let mut pass = Pass {
         place: 0,
         depth: 0,
