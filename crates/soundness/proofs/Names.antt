@@ -49,16 +49,6 @@ pub each-end : (f : ℕ → Bool) (l : Bytes) (i : ℕ) → length l ≤ i → e
 unfolding each
 each-end f l i h = rw (drop-of-length-le l h)
 
-pub word-none : (l : Bytes) → length l ≡ 0 → isWord l ≡ false
-unfolding isWord
-word-none [] h = refl
-word-none (x ∷ l) h = absurd (let z : ⊥ = omega arith in z)
-
-pub word-some : (l : Bytes) → 0 < length l → isWord l ≡ (isWordStart (getD l 0 0) and each isWordByte (drop 1 l))
-unfolding isWord
-word-some [] h = absurd (let z : ⊥ = omega arith in z)
-word-some (x ∷ l) h = refl
-
 -- a part of the text, byte by byte
 module _ (f : ℕ → Bool) (l : Bytes) (end : ℕ) where
   pub part-more : (i : ℕ) → i < end → i < length l → each f (take (end - i) (drop i l)) ≡ (f (getD l i 0) and each f (take (end - (i + 1)) (drop (i + 1) l)))

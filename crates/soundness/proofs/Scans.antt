@@ -1,11 +1,11 @@
 -- From a head's reading to the code's answer, and back.
 use Prim.Native.Nat.{ℕ, _+_, _*_, _-_, _/_, _%_, _^_, _<_}
-use mathlib.Core.Path.{_≡_, refl, ap, sym, _∙_}
+use mathlib.Core.Path.{_≡_, refl}
 use mathlib.Core.Bool.{Bool, true, false, not}
 use mathlib.Core.List.{List}
 use native.Mathlib.Omega.{arith}
 use borrow.Author.Tests.{eqb-true}
-use lib.Dec.{eqb, ltb}
+use lib.Dec.{eqb}
 use Rattle.rast.specs.Bytes.{Bytes, _and_}
 use Rattle.rast.specs.Sound.{soundSize}
 use Rattle.encoding.specs.declared.Refusal.{Refusal}

@@ -2,7 +2,7 @@
 ghost use mathlib.Core.Path.{_≡_};
 ghost use mathlib.Core.Bool.{true, false};
 ghost use mathlib.Core.List.{[]};
-ghost use Prim.Native.Nat.{_+_, _-_, _/_, _%_, _^_, _≤_, _<_};
+ghost use Prim.Native.Nat.{_+_, _-_, _%_, _^_, _≤_, _<_};
 ghost use lib.Dec.{eqb};
 ghost use lib.ListN.{length, take, drop, getD};
 ghost use Rattle.rast.specs.Bytes.{same, each, among};
@@ -38,7 +38,7 @@ enum OwnScan {
     NoNode(Refusal),
 }
 
-// A name that was not known to be sound.
+// A name: as it is asked to be, or not, or no name at all.
 enum NameCheck {
     Fine,
     Poor,
