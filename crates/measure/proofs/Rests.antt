@@ -9,7 +9,7 @@ use lib.Dec.{eqb}
 use lib.ListN.{length, getD, set}
 use lib.Seq.{getD-set-same, getD-set-other}
 use Rattle.rast.specs.Bytes.{Bytes}
-use Rattle.rast.specs.Tree.{Ty}
+use Rattle.rast.specs.Tree.{Ty, Tys}
 use Rattle.encoding.specs.declared.Refusal.{Refusal}
 use Rattle.encoding.specs.declared.Refusal.the-variants.{TooDeep}
 use Rattle.encoding.specs.declared.Head.{Head}
@@ -105,6 +105,11 @@ module _ (ws pairs : List ℕ) (text : Bytes) (good : Good pairs text) where
       too-many d k n q (l .1) (omega (arith, l .0)) (omega (arith, l .0))
 
   -- so a count may be cut down
+  pub types-cut : {A : Type 0} (d : ℕ) {k n : ℕ} → Counted k n → (p : ℕ) (g : Tys Bytes → ℕ → Reading A) → length ws ≤ 8192 → 0 < p → p ≤ length ws
+      → (readTypes (types d) k p >>= g) ≡ (readTypes (types d) n p >>= g)
+  types-cut d (exact e) p g f z h = rw e
+  types-cut d {k} {n} (many a b) p g f z h = let i = too-many d k n p h (omega arith) (omega arith) in rw (i .first, i .second)
+
   pub rest-cut : (d m : ℕ) {k n : ℕ} → Counted k n → (ls : List ℕ) (p total : ℕ) → length ws ≤ 8192 → 0 < p → p ≤ length ws
       → restAt types d m k ls p total ≡ restAt types d m n ls p total
   unfolding restAt

@@ -1,4 +1,8 @@
--- Laws of names and of judging.
+-- Laws of names, of heads, of the pass and of what acceptance adds.
 pub mod Names
 pub mod Paths
-pub mod Judging
+pub mod Heads
+pub mod Rests
+pub mod Scans
+pub mod Steps
+pub mod Accepted

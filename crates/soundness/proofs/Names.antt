@@ -1,22 +1,25 @@
 -- Laws of words, of the words that are no names, and of names and sizes.
-use Prim.Native.Nat.{ℕ, suc, _+_, _-_, _≤_, _<_}
-use mathlib.Core.Path.{_≡_, refl}
+use Prim.Native.Nat.{ℕ, zero, suc, _+_, _-_, _%_, _≤_, _<_}
+use mathlib.Core.Path.{_≡_, refl, sym, _∙_, subst}
 use mathlib.Core.Bool.{Bool, true, false, not, Bool·beq}
 use mathlib.Core.List.{List, [], _∷_}
 use mathlib.Core.Option.{some}
 use native.Mathlib.Omega.{arith}
 use native.Mathlib.Numerals.{add-one}
-use borrow.Author.Tests.{ne-eqb, leb-true}
-use lib.Dec.{eqb, leb}
-use lib.ListN.{length, getD, take, drop, drop-of-length-le}
-use lib.Seq.{drop-cons}
+use borrow.Author.Tests.{eqb-true, eqb-false, ltb-true, ltb-false, ne-eqb, leb-true}
+use lib.Dec.{eqb, leb, ltb}
+use lib.ListN.{length, getD, set, replicate, length-set, take, drop, drop-of-length-le}
+use lib.Seq.{drop-cons, getD-set-same, getD-set-other}
 use Rattle.rast.specs.Bytes.{Bytes, ascii, same, each, among, _and_, _or_}
 use Rattle.rast.specs.Sound.{within, isLetter, isWordStart, isWordByte, isWord, excluded, soundName, soundSize}
-use Rattle.encoding.specs.Tables.{fixedNames, nameBytes}
+use Rattle.encoding.specs.Refusals.{pick}
+use Rattle.encoding.specs.Tables.{fixedNames, nameBytes, nameCount}
 use Rattle.encoding.specs.Types.{sizeOf}
-use Rattle.soundness.specs.Judging.{beginsExcluded}
+use Rattle.soundness.specs.declared.NameCheck.{NameCheck}
+use Rattle.soundness.specs.declared.NameCheck.the-variants.{Fine, Poor, NoName}
+use Rattle.soundness.specs.Judging.{beginsExcluded, WordBytes, Known, unlessJudged, Checked, fine, poor, no-name}
 use Rattle.encoding.proofs.Tables.{impossible, everyBelow, every-at, same-eq, name-fixed}
-use Rattle.encoding.proofs.Names.{beq-eq}
+use Rattle.encoding.proofs.Names.{beq-eq, and-yes}
 
 pub and-true : (a : Bool) → (a and true) ≡ a
 unfolding _and_
@@ -34,6 +37,10 @@ and-assoc false b c = refl
 
 -- ---- words
 
+word-start : (x : ℕ) → isWordStart x ≡ true → isWordByte x ≡ true
+unfolding isWordByte
+word-start x e = rw e
+
 pub each-more : (f : ℕ → Bool) (l : Bytes) (i : ℕ) → i < length l → each f (drop i l) ≡ (f (getD l i 0) and each f (drop (i + 1) l))
 unfolding each
 each-more f l i h = rw (add-one i, drop-cons l i 0 h)
@@ -42,15 +49,82 @@ pub each-end : (f : ℕ → Bool) (l : Bytes) (i : ℕ) → length l ≤ i → e
 unfolding each
 each-end f l i h = rw (drop-of-length-le l h)
 
-pub word-none : (l : Bytes) → length l ≡ 0 → isWord l ≡ false
-unfolding isWord
-word-none [] h = refl
-word-none (x ∷ l) h = absurd (let z : ⊥ = omega arith in z)
+-- a part of the text, byte by byte
+module _ (f : ℕ → Bool) (l : Bytes) (end : ℕ) where
+  pub part-more : (i : ℕ) → i < end → i < length l → each f (take (end - i) (drop i l)) ≡ (f (getD l i 0) and each f (take (end - (i + 1)) (drop (i + 1) l)))
+  unfolding each
+  part-more i h k = let e : end - i ≡ suc (end - (i + 1)) = omega arith in rw (e, drop-cons l i 0 k, add-one i)
 
-pub word-some : (l : Bytes) → 0 < length l → isWord l ≡ (isWordStart (getD l 0 0) and each isWordByte (drop 1 l))
+  pub part-end : (i : ℕ) → end ≤ i → each f (take (end - i) (drop i l)) ≡ true
+  unfolding each
+  part-end i h = let e : end - i ≡ 0 = omega arith in rw e
+
+  -- bytes that are as f says can be passed over
+  pub part-past : (k i : ℕ) → i + k ≤ length l → ((j : ℕ) → i ≤ j → j < i + k → f (getD l j 0) ≡ true)
+      → each f (take (end - i) (drop i l)) ≡ each f (take (end - (i + k)) (drop (i + k) l))
+  part-past zero i h w = let e : i + 0 ≡ i = omega arith in rw e
+  part-past (suc k) i h w =
+      let e : i + 1 + k ≡ i + suc k = omega arith in
+      step (ltb i end) refl ∙ (rw e at (part-past k (i + 1) (omega arith) (λ j a b. w j (omega arith) (omega arith))))
+    where
+      step : (t : Bool) → ltb i end ≡ t → each f (take (end - i) (drop i l)) ≡ each f (take (end - (i + 1)) (drop (i + 1) l))
+      step true t = part-more i (ltb-true i end t) (omega arith) ∙ and-yes _ (w i (omega arith) (omega arith))
+      step false t = part-end i (ltb-false i end t) ∙ sym (part-end (i + 1) (let b = ltb-false i end t in omega arith))
+
+pub word-part : (l : Bytes) (start end : ℕ) → start < end → start < length l
+    → isWord (take (end - start) (drop start l)) ≡ (isWordStart (getD l start 0) and each isWordByte (take (end - (start + 1)) (drop (start + 1) l)))
 unfolding isWord
-word-some [] h = absurd (let z : ⊥ = omega arith in z)
-word-some (x ∷ l) h = refl
+word-part l start end h k = let e : end - start ≡ suc (end - (start + 1)) = omega arith in rw (e, drop-cons l start 0 k, add-one start)
+
+pub no-word : (l : Bytes) (start end : ℕ) → end ≤ start → isWord (take (end - start) (drop start l)) ≡ false
+unfolding isWord
+no-word l start end h = let e : end - start ≡ 0 = omega arith in rw e
+
+-- a byte that is strange in none of four ways
+pub word-byte : (x a b c d : ℕ) → _≡_ {A = ℕ} a (pick (within 65 90 x) 1 0) → _≡_ {A = ℕ} b (pick (within 97 122 x) 1 0) → _≡_ {A = ℕ} c (pick (within 95 95 x) 1 0) → _≡_ {A = ℕ} d (pick (within 48 57 x) 1 0)
+    → _≡_ {A = ℕ} (pick (isWordByte x) 0 1) (pick (eqb (a + b + c + d) 0) 1 0)
+unfolding isWordByte isWordStart isLetter
+word-byte x a b c d ea eb ec ed = rw (ea, eb, ec, ed, ← underscore (eqb x 95) refl) (go (within 65 90 x) (within 97 122 x) (within 95 95 x) (within 48 57 x))
+  where
+    underscore : (t : Bool) → eqb x 95 ≡ t → within 95 95 x ≡ eqb x 95
+    underscore true e = rw (eqb-true x 95 e)
+    underscore false e = rw e (go′ (leb 95 x) (leb x 95) refl refl)
+      where
+        go′ : (a b : Bool) → leb 95 x ≡ a → leb x 95 ≡ b → (leb 95 x and leb x 95) ≡ false
+        go′ true true i j = absurd (eqb-false x 95 e (let p = leb-true 95 x i in let q = leb-true x 95 j in omega arith))
+        go′ true false i j = rw (i, j)
+        go′ false b i j = rw i
+
+    go : (p q r s : Bool) → _≡_ {A = ℕ} (pick (p or q or r or s) 0 1) (pick (eqb (pick p 1 0 + pick q 1 0 + pick r 1 0 + pick s 1 0) 0) 1 0)
+    go true true true true = refl
+    go true true true false = refl
+    go true true false true = refl
+    go true true false false = refl
+    go true false true true = refl
+    go true false true false = refl
+    go true false false true = refl
+    go true false false false = refl
+    go false true true true = refl
+    go false true true false = refl
+    go false true false true = refl
+    go false true false false = refl
+    go false false true true = refl
+    go false false true false = refl
+    go false false false true = refl
+    go false false false false = refl
+
+-- one byte more that is not strange
+pub words-more : (text : Bytes) (at j : ℕ) {n : ℕ} → WordBytes text at (at + j) → _≡_ {A = ℕ} n (pick (isWordByte (getD text (at + j) 0)) 0 1) → n ≡ 0
+    → WordBytes text at (at + (j + 1))
+words-more text at j w e z i h k = go (eqb i (at + j)) refl
+  where
+    here : (b : Bool) → isWordByte (getD text (at + j) 0) ≡ b → isWordByte (getD text (at + j) 0) ≡ true
+    here true d = d
+    here false d = absurd (let y = rw d at e in let o : ⊥ = omega arith in o)
+
+    go : (b : Bool) → eqb i (at + j) ≡ b → isWordByte (getD text i 0) ≡ true
+    go true d = rw (eqb-true i (at + j) d) (here (isWordByte (getD text (at + j) 0)) refl)
+    go false d = w i h (let n = eqb-false i (at + j) d in omega arith)
 
 -- ---- the words that are no names
 
@@ -135,3 +209,103 @@ pub size-some : (l : Bytes) → 0 < length l → soundSize (some l) ≡ each isW
 unfolding soundSize each
 size-some [] h = absurd (let z : ⊥ = omega arith in z)
 size-some (x ∷ l) h = refl
+
+-- ---- names that were found sound
+
+pub judged-sound : (ask : ℕ) {s : Bool} → s ≡ true → unlessJudged ask s ≡ true
+unfolding unlessJudged
+judged-sound ask e = rw e (go (eqb ask 0))
+  where
+    go : (b : Bool) → pick b true true ≡ true
+    go true = refl
+    go false = refl
+
+module _ (pairs : List ℕ) (text : Bytes) where
+  -- at the start the first place holds a name that belongs elsewhere, so that it does not hold the empty name
+  pub known-none : Known pairs text (set (replicate 64 0) 0 1)
+  known-none = record { room = refl; inside = λ x e. absurd (elsewhere x e); sound = λ x e. absurd (elsewhere x e) }
+    where
+      zeros : (n i : ℕ) → getD (replicate {A = ℕ} n 0) i 0 ≡ 0
+      zeros zero i = refl
+      zeros (suc n) zero = refl
+      zeros (suc n) (suc i) = zeros n i
+
+      elsewhere : (x : ℕ) → getD (set (replicate {A = ℕ} 64 0) 0 1) (x % 64) 0 ≡ x → ⊥
+      elsewhere x e = go (eqb (x % 64) 0) refl
+        where
+          go : (b : Bool) → eqb (x % 64) 0 ≡ b → ⊥
+          go true d =
+              let i = eqb-true (x % 64) 0 d in
+              let k : 1 ≡ x = sym (getD-set-same (replicate {A = ℕ} 64 0) 0 1 0 (omega arith)) ∙ (rw i at e) in
+              omega arith
+          go false d =
+              let i = eqb-false (x % 64) 0 d in
+              let k : 0 ≡ x = sym (getD-set-other (replicate {A = ℕ} 64 0) 0 (x % 64) 1 0 i ∙ zeros 64 (x % 64)) ∙ e in
+              omega arith
+
+  -- one name more
+  pub known-more : {known : List ℕ} → Known pairs text known → (y : ℕ) → y < nameCount pairs → soundName (nameBytes pairs text y) ≡ true
+      → Known pairs text (set known (y % 64) y)
+  known-more {known} k y h s = record {
+    room = simp length-set (k .room);
+    inside = λ x e. place x (λ z. z < nameCount pairs) h (k .inside x) e;
+    sound = λ x e. place x (λ z. soundName (nameBytes pairs text z) ≡ true) s (k .sound x) e;
+  }
+    where
+      place : (x : ℕ) (P : ℕ → Type 0) → P y → (getD known (x % 64) 0 ≡ x → P x) → getD (set known (y % 64) y) (x % 64) 0 ≡ x → P x
+      place x P here there e = go (eqb (x % 64) (y % 64)) refl
+        where
+          go : (b : Bool) → eqb (x % 64) (y % 64) ≡ b → P x
+          go true d =
+              let i = eqb-true (x % 64) (y % 64) d in
+              let same : y ≡ x = sym (getD-set-same known (y % 64) y 0 (omega (arith, k .room))) ∙ (rw i at e) in
+              subst P same here
+          go false d =
+              let i = eqb-false (x % 64) (y % 64) d in
+              there (sym (getD-set-other known (y % 64) (x % 64) y 0 i) ∙ e)
+
+-- a fixed name more, which is not the empty one
+pub known-fixed : (pairs : List ℕ) (text : Bytes) {known : List ℕ} → Known pairs text known → (i : ℕ) → 0 < i → i < 16 → Known pairs text (set known i i)
+known-fixed pairs text k i h l =
+    let e : i % 64 ≡ i = omega arith in
+    rw e at (known-more pairs text k i (omega arith) (fixed-sound pairs text i l ∙ rw (ne-eqb i 0 (omega arith))))
+
+-- ---- a name, as it was found
+
+module _ {pairs : List ℕ} {text : Bytes} {x ask : ℕ} where
+  pub checked-sound : x < nameCount pairs → soundName (nameBytes pairs text x) ≡ true → Checked pairs text x ask Fine
+  checked-sound h s = fine h (judged-sound ask s)
+
+  pub checked-unjudged : x < nameCount pairs → ask ≡ 0 → Checked pairs text x ask Fine
+  unfolding unlessJudged
+  checked-unjudged h e = fine h (rw e)
+
+  pub checked-poor : (ask ≡ 0 → ⊥) → soundName (nameBytes pairs text x) ≡ false → Checked pairs text x ask Poor
+  unfolding unlessJudged
+  checked-poor h s = poor (rw (ne-eqb ask 0 h, s))
+
+  pub was-fine : {r : NameCheck} → Checked pairs text x ask r → r ≡ Fine → (x < nameCount pairs) × (unlessJudged ask (soundName (nameBytes pairs text x)) ≡ true)
+  was-fine (fine h s) d = (h, s)
+  was-fine (poor s) d = impossible (cc)
+  was-fine (no-name h) d = impossible (cc)
+
+  pub was-poor : {r : NameCheck} → Checked pairs text x ask r → r ≡ Poor → unlessJudged ask (soundName (nameBytes pairs text x)) ≡ false
+  was-poor (fine h s) d = impossible (cc)
+  was-poor (poor s) d = s
+  was-poor (no-name h) d = impossible (cc)
+
+  pub was-no-name : {r : NameCheck} → Checked pairs text x ask r → r ≡ NoName → nameCount pairs ≤ x
+  was-no-name (fine h s) d = impossible (cc)
+  was-no-name (poor s) d = impossible (cc)
+  was-no-name (no-name h) d = h
+
+-- a sound name is a sound size
+pub size-of-name : (l : Bytes) → soundName l ≡ true → soundSize (some l) ≡ true
+unfolding soundName isWord soundSize _and_
+size-of-name [] e = impossible (cc)
+size-of-name (x ∷ l) e = go (isWordStart x) refl (each isWordByte l) e
+  where
+    go : (a : Bool) → isWordStart x ≡ a → (b : Bool) → (a and b and not (among (x ∷ l) excluded)) ≡ true → (isWordByte x and b) ≡ true
+    go true i true d = rw (word-start x i)
+    go true i false d = impossible (cc)
+    go false i b d = impossible (cc)

@@ -1,22 +1,23 @@
 // Document 01's "sound" for the type that an encoding holds. Reading and judging go in one pass.
 ghost use mathlib.Core.Path.{_≡_};
-ghost use mathlib.Core.Bool.{not};
+ghost use mathlib.Core.Bool.{true, false};
 ghost use mathlib.Core.List.{[]};
-ghost use Prim.Native.Nat.{_+_, _-_, _<_};
-ghost use lib.Dec.{ltb};
+ghost use Prim.Native.Nat.{_+_, _-_, _%_, _^_, _≤_, _<_};
+ghost use lib.Dec.{eqb};
 ghost use lib.ListN.{length, take, drop, getD};
-ghost use Rattle.rast.specs.Bytes.{_and_, same, each, among};
-ghost use Rattle.rast.specs.Sound.{isWordStart, isWordByte, isWord, excluded, soundName, soundSize, soundPath, sound};
-ghost use Rattle.encoding.specs.Refusals.{mapAnswer};
-ghost use Rattle.encoding.specs.Reading.{whole, readBelow};
+ghost use Rattle.rast.specs.Bytes.{same, each, among};
+ghost use Rattle.rast.specs.Sound.{within, isWordStart, isWordByte, isWord, excluded, soundName, soundSize, sound};
+ghost use Rattle.encoding.specs.Refusals.{pick, mapAnswer};
+ghost use Rattle.encoding.specs.Reading.{got, whole, readWord, readBelow};
 ghost use Rattle.encoding.specs.Tables.{nameBytes, nameCount, Good};
-ghost use Rattle.encoding.specs.Heads.{InsidePath, InsideHead};
-ghost use Rattle.encoding.specs.Types.{pathOf, sizeOf, readTypes, readType, typeAt};
-ghost use Rattle.soundness.specs.Judging.{beginsExcluded, Ready, NamesAt, allNamesSound, namedShape, intersectionShape, withType, nothingBelow, soundAbove, shapeAbove, above, judgement, nameJudgement, belowScan};
+ghost use Rattle.encoding.specs.Heads.{pathHead, headAfter, readHead};
+ghost use Rattle.encoding.specs.Types.{sizeOf, typeAt};
+ghost use Rattle.encoding.specs.declared.Head.the-variants.{Name, Apply, Tuple, Function, ArrayOf, Meta};
+ghost use Rattle.measure.specs.Lengths.{worded, namesHead};
+ghost use Rattle.soundness.specs.Judging.{beginsExcluded, WordBytes, Ready, Known, Checked, Onward, OnwardAlways, unlessJudged, rootScan, nodeScan, bareScan, leafScan, bothScan, Scanned, askNext, nextType, under, pushed, leaving, Outward, Kept, Stepped};
 ghost use Rattle.soundness.specs.Calls.{typeIsSound, soundAnswer};
+use acceptance::Acceptance;
 use encoding::Check;
-use encoding::Head;
-use encoding::HeadScan;
 use encoding::PathAt;
 use encoding::Refusal;
 use encoding::WordScan;
@@ -28,36 +29,38 @@ pub enum SoundAnswer {
     Refused(Refusal),
 }
 
-// What the type above asks of a type, wrappers aside.
-enum Shape {
-    Named,
-    Intersection,
-    Other,
+// A head that was read and judged: where its own words end, and if types follow, what the first is asked and the level of the others. A head that is not
+// sound, whatever follows it, ends the judging.
+enum OwnScan {
+    Leaf(usize),
+    Node { next: usize, ask: u64, rest: u64 },
+    NotSound,
+    NoNode(Refusal),
 }
 
-// A type that was read: its soundness, its shape, and the position behind it.
-enum Judgement {
-    Judged {
-        sound: bool,
-        shape: Shape,
-        next: usize,
-    },
-    Stopped(Refusal),
+// A name: as it is asked to be, or not, or no name at all.
+enum NameCheck {
+    Fine,
+    Poor,
+    NoName,
 }
 
-// The types below a head: whether there are any, whether all are sound, whether the first is (a wrapper's display), and the shapes of the first and the last.
-struct Below {
-    any: bool,
-    sound: bool,
-    display: bool,
-    first: Shape,
-    last: Shape,
+// A pass that has come to `place` and found all sound, inside `depth` levels that it has left unfinished. The type at `place` is asked `ask`: 0 nothing, inside a
+// synonym's base; 1 to be sound; 2 to be a name or a path too; 3 to be no intersection too. Wrappers hand on what they are asked. Behind it follow the types of the
+// level `rest`: four times their number, and what the last of them is asked; the others are asked to be sound if it is judged at all.
+struct Pass {
+    place: usize,
+    depth: usize,
+    ask: u64,
+    rest: u64,
 }
 
-// All types below a head, and the position behind them.
-enum BelowScan {
-    Types { below: Below, next: usize },
-    NoTypes(Refusal),
+// What a step comes to: a further pass, the end of a sound type, something that is not sound, or a refusal.
+enum Step {
+    On(Pass),
+    Ended(usize),
+    Unfit,
+    Halt(Refusal),
 }
 
 // A letter or an underscore.
@@ -92,11 +95,11 @@ fn is_word_byte(b: u8) -> bool
     b <= b'9'
 }
 
-// From `start` on there are only letters, underscores and digits.
-fn all_word_bytes(bytes: &[u8], start: usize) -> bool
-    ensures { λ r. ⌜ r ≡ each isWordByte (drop start (now (bytes .entry))) ⌝ }
+// There are only letters, underscores and digits.
+fn all_word_bytes(bytes: &[u8]) -> bool
+    ensures { λ r. ⌜ r ≡ each isWordByte (now (bytes .entry)) ⌝ }
 {
-    let mut i = start;
+    let mut i = 0;
     while i < bytes.len() {
         if !is_word_byte(bytes[i]) {
             return false;
@@ -106,15 +109,72 @@ fn all_word_bytes(bytes: &[u8], start: usize) -> bool
     true
 }
 
-// A letter or an underscore, and then letters, underscores and digits.
-fn is_word(bytes: &[u8]) -> bool
-    ensures { λ r. ⌜ r ≡ isWord (now (bytes .entry)) ⌝ }
+// 1 for a byte from `low` to `high`, else 0.
+fn lies(b: u8, low: u8, high: u8) -> u8
+    ensures { λ r. ⌜ (r ≡ pick (within low high b) 1 0) × (r ≤ 1) ⌝ }
 {
-    if bytes.len() == 0 {
+    if b < low {
+        return 0;
+    }
+    if high < b {
+        return 0;
+    }
+    1
+}
+
+// 1 for a byte that is no letter, underscore or digit, else 0. All bytes are asked the same, so that it can be done for sixteen at once.
+fn strange(b: u8) -> u8
+    ensures { λ r. ⌜ (r ≡ pick (isWordByte b) 0 1) × (r ≤ 1) ⌝ }
+{
+    if lies(b, b'A', b'Z') + lies(b, b'a', b'z') + lies(b, b'_', b'_') + lies(b, b'0', b'9') == 0 {
+        return 1;
+    }
+    0
+}
+
+// The sixteen bytes from `at` on are letters, underscores and digits.
+fn sixteen_word_bytes(text: &[u8], at: usize) -> bool
+    requires { ⌜ at + 16 ≤ length (now text) ⌝ }
+    ensures { λ r. ⌜ (r ≡ true → WordBytes (now (text .entry)) at (at + 16)) ⌝ }
+{
+    let mut sum = 0u8;
+    let mut j = 0;
+    while j < 16 {
+        sum += strange(text[at + j]);
+        j += 1;
+    }
+    sum == 0
+}
+
+// The bytes from `start` to `end` are letters, underscores and digits. Sixteen at a time are looked at, those behind `end` too where that says enough: what follows
+// a name in the text is often another.
+fn are_word_bytes(text: &[u8], start: usize, end: usize) -> bool
+    requires { ⌜ (start ≤ end) × (end ≤ length (now text)) ⌝ }
+    ensures { λ r. ⌜ r ≡ each isWordByte (take (end - start) (drop start (now (text .entry)))) ⌝ }
+{
+    let mut i = start;
+    while i < end {
+        if text.len() - i < 16 {
+            return all_word_bytes(encoding::part(text, i, end));
+        }
+        if !sixteen_word_bytes(text, i) {
+            return all_word_bytes(encoding::part(text, i, end));
+        }
+        i += 16;
+    }
+    true
+}
+
+// From `start` to `end`: a letter or an underscore, and then letters, underscores and digits.
+fn is_word(text: &[u8], start: usize, end: usize) -> bool
+    requires { ⌜ (start ≤ end) × (end ≤ length (now text)) ⌝ }
+    ensures { λ r. ⌜ r ≡ isWord (take (end - start) (drop start (now (text .entry)))) ⌝ }
+{
+    if end <= start {
         return false;
     }
-    if is_word_start(bytes[0]) {
-        return all_word_bytes(bytes, 1);
+    if is_word_start(text[start]) {
+        return are_word_bytes(text, start + 1, end);
     }
     false
 }
@@ -207,9 +267,11 @@ fn sound_name(pairs: &[u32], text: &[u8], name: u32) -> bool
     if name < 16 {
         return name != 0;
     }
-    let bytes = encoding::pair_bytes(pairs, text, name);
-    if is_word(bytes) {
-        return !is_excluded(bytes);
+    let i = (name - 16) as usize;
+    let start = pairs[2 * i] as usize;
+    let end = start + pairs[2 * i + 1] as usize;
+    if is_word(text, start, end) {
+        return !is_excluded(encoding::part(text, start, end));
     }
     false
 }
@@ -226,294 +288,605 @@ fn sound_size(pairs: &[u32], text: &[u8], size: u32) -> bool
     if bytes.len() == 0 {
         return false;
     }
-    all_word_bytes(bytes, 0)
+    all_word_bytes(bytes)
 }
 
-// The names whose numbers stand from `start` to `end`.
-fn sound_names(words: &[u32], pairs: &[u32], text: &[u8], start: usize, end: usize) -> bool
-    requires { ⌜ NamesAt (nameCount (now pairs)) (now words) start end × Good (now pairs) (now text) ⌝ }
-    ensures { λ r. ⌜ r ≡ allNamesSound (nameBytes (now (pairs .entry)) (now (text .entry)))
-        (take (end - start) (drop start (now (words .entry)))) ⌝ }
+// An element of a lent array is not known to fit its type, a parameter is.
+fn wide(x: u16) -> u64
+    ensures { λ r. ⌜ (r ≡ x) × (r < 2 ^ 16) ⌝ }
 {
-    let mut i = start;
-    while i < end {
-        if !sound_name(pairs, text, words[i]) {
-            return false;
-        }
-        i += 1;
-    }
-    true
+    x as u64
 }
 
-// All names are sound, and `Global` has one.
-fn sound_path(words: &[u32], pairs: &[u32], text: &[u8], path: PathAt) -> bool
-    requires { ⌜ InsidePath (nameCount (now pairs)) (now words) path × Good (now pairs) (now text) ⌝ }
-    ensures { λ r. ⌜ r ≡ soundPath (pathOf (now (words .entry)) (nameBytes (now (pairs .entry)) (now (text .entry))) path) ⌝ }
+// Whether a name is kept as one that was found sound: in the place that its number has.
+fn is_known(known: &[u16; 64], name: u32) -> bool
+    ensures { λ r. ⌜ r ≡ eqb (getD (now (known .entry)) (name % 64) 0) name ⌝ }
 {
-    let start = path.start;
-    let count = path.count as usize;
-    if count == 0 {
-        return path.root != 0;
-    }
-    sound_names(words, pairs, text, start, start + count)
+    let at = (name % 64) as usize;
+    wide(known[at]) == name as u64
 }
 
-fn is_named(shape: Shape) -> bool
-    ensures { λ r. ⌜ r ≡ namedShape shape ⌝ }
+// A name that `ask` may ask to be sound. One that is found sound is kept.
+fn check_new(pairs: &[u32], text: &[u8], known: &mut [u16; 64], name: u32, ask: u64) -> NameCheck
+    requires { ⌜ Ready (now pairs) (now text) × Known (now pairs) (now text) (now known) ⌝ }
+    ensures { λ r. ⌜ Checked (now (pairs .entry)) (now (text .entry)) name ask r × Known (now (pairs .entry)) (now (text .entry)) (now (known .exit)) ⌝ }
 {
-    match shape {
-        Shape::Named => true,
-        Shape::Intersection => false,
-        Shape::Other => false,
+    if is_known(known, name) {
+        return NameCheck::Fine;
     }
+    if encoding::name_count(pairs) <= name as usize {
+        return NameCheck::NoName;
+    }
+    if ask == 0 {
+        return NameCheck::Fine;
+    }
+    if sound_name(pairs, text, name) {
+        let at = (name % 64) as usize;
+        known[at] = name as u16;
+        return NameCheck::Fine;
+    }
+    NameCheck::Poor
 }
 
-fn is_intersection(shape: Shape) -> bool
-    ensures { λ r. ⌜ r ≡ intersectionShape shape ⌝ }
-{
-    match shape {
-        Shape::Named => false,
-        Shape::Intersection => true,
-        Shape::Other => false,
-    }
-}
-
-fn both(a: bool, b: bool) -> bool
-    ensures { λ r. ⌜ r ≡ (a and b) ⌝ }
-{
-    if a {
-        return b;
-    }
-    false
-}
-
-// One more type.
-fn with_type(below: Below, sound: bool, shape: Shape) -> Below
-    ensures { λ r. ⌜ r ≡ withType below sound shape ⌝ }
-{
-    let all = both(below.sound, sound);
-    if below.any {
-        let first = below.first;
-        return Below {
-            any: true,
-            sound: all,
-            display: below.display,
-            first,
-            last: shape,
-        };
-    }
-    Below {
-        any: true,
-        sound: all,
-        display: sound,
-        first: shape,
-        last: shape,
-    }
-}
-
-// `sound`, if a type of this shape is no intersection.
-fn sound_unless_intersection(shape: Shape, sound: bool) -> bool
-    ensures { λ r. ⌜ r ≡ (not (intersectionShape shape) and sound) ⌝ }
-{
-    if is_intersection(shape) {
-        return false;
-    }
-    sound
-}
-
-// A base with a name, and at least one argument.
-fn sound_apply(base: Shape, arguments: u32, sound: bool) -> bool
-    ensures { λ r. ⌜ r ≡ (namedShape base and ltb 0 arguments and sound) ⌝ }
-{
-    if arguments == 0 {
-        return false;
-    }
-    if is_named(base) {
-        return sound;
-    }
-    false
-}
-
-// The soundness of a head's type.
-fn sound_above(words: &[u32], pairs: &[u32], text: &[u8], head: Head, below: Below) -> bool
-    requires { ⌜ InsideHead (nameCount (now pairs)) (now words) head × Good (now pairs) (now text) ⌝ }
-    ensures { λ r. ⌜ r ≡ soundAbove (now (words .entry)) (nameBytes (now (pairs .entry)) (now (text .entry))) head below ⌝ }
-{
-    let sound = below.sound;
-    let first = below.first;
-    let last = below.last;
-    match head {
-        Head::Plain(_) => true,
-        Head::Name(x) => sound_name(pairs, text, x),
-        Head::FromPath(p) => sound_path(words, pairs, text, p),
-        Head::Apply(n) => sound_apply(first, n, sound),
-        Head::Ref => sound_unless_intersection(last, sound),
-        Head::RefMut => sound_unless_intersection(last, sound),
-        Head::Impl => sound_unless_intersection(last, sound),
-        Head::Dyn => sound_unless_intersection(last, sound),
-        Head::Tuple(_) => sound,
-        Head::Function(_) => sound_unless_intersection(last, sound),
-        Head::Both => sound_unless_intersection(first, sound),
-        Head::ArrayOf(s) => both(sound, sound_size(pairs, text, s)),
-        Head::Synonym => below.display,
-        Head::Meta(_) => below.display,
-    }
-}
-
-// The shape of a head's type.
-fn shape_above(head: Head, below: Below) -> Shape
-    ensures { λ r. ⌜ r ≡ shapeAbove head below ⌝ }
-{
-    match head {
-        Head::Plain(_) => Shape::Other,
-        Head::Name(_) => Shape::Named,
-        Head::FromPath(_) => Shape::Named,
-        Head::Apply(_) => Shape::Other,
-        Head::Ref => Shape::Other,
-        Head::RefMut => Shape::Other,
-        Head::Impl => Shape::Other,
-        Head::Dyn => Shape::Other,
-        Head::Tuple(_) => Shape::Other,
-        Head::Function(_) => Shape::Other,
-        Head::Both => Shape::Intersection,
-        Head::ArrayOf(_) => Shape::Other,
-        Head::Synonym => below.first,
-        Head::Meta(_) => below.first,
-    }
-}
-
-// The judgement on a head's type, from the types below it.
-fn judge_head(words: &[u32], pairs: &[u32], text: &[u8], head: Head, scan: BelowScan) -> Judgement
-    requires { ⌜ InsideHead (nameCount (now pairs)) (now words) head × Good (now pairs) (now text) ⌝ }
-    ensures { λ r. ⌜ r ≡ above (now (words .entry)) (nameBytes (now (pairs .entry)) (now (text .entry))) head scan ⌝ }
-{
-    match scan {
-        BelowScan::Types { below, next } => {
-            let sound = sound_above(words, pairs, text, head, below);
-            let shape = shape_above(head, below);
-            Judgement::Judged { sound, shape, next }
-        }
-        BelowScan::NoTypes(r) => Judgement::Stopped(r),
-    }
-}
-
-// The type at `at`, at most `deep` types deep. A synonym's base is read, for its refusals, and not judged.
-fn judge_type(words: &[u32], pairs: &[u32], text: &[u8], at: usize, deep: usize) -> Judgement
-    requires { ⌜ Ready (now pairs) (now text) ⌝ }
-    ensures { λ r. ⌜ r ≡ judgement
-        (readType (nameCount (now (pairs .entry))) (now (words .entry)) (nameBytes (now (pairs .entry)) (now (text .entry))) deep at) ⌝ }
-{
-    if deep == 0 {
-        return Judgement::Stopped(Refusal::TooDeep);
-    }
-    let bound = encoding::name_count(pairs);
-    match encoding::scan_head(words, bound, at) {
-        HeadScan::Own { head, next } => {
-            let count = encoding::kids_of(head);
-            let scan = judge_types(words, pairs, text, next, deep - 1, count);
-            judge_head(words, pairs, text, head, scan)
-        }
-        HeadScan::NoHead(r) => Judgement::Stopped(r),
-    }
-}
-
-// A name, behind the word that says so.
-fn judge_name(words: &[u32], pairs: &[u32], text: &[u8], at: usize) -> Judgement
-    requires { ⌜ Good (now pairs) (now text) ⌝ }
-    ensures { λ r. ⌜ r ≡ nameJudgement (nameBytes (now (pairs .entry)) (now (text .entry))) (readBelow (nameCount (now (pairs .entry))) (now (words .entry)) at) ⌝ }
-{
-    match encoding::scan_below(words, encoding::name_count(pairs), at) {
-        WordScan::Word { value, next } => Judgement::Judged {
-            sound: sound_name(pairs, text, value),
-            shape: Shape::Named,
-            next,
-        },
-        WordScan::NoWord(r) => Judgement::Stopped(r),
-    }
-}
-
-// A type that stands in another: most are names or plain types, and are judged without a further call.
-fn judge_part(words: &[u32], pairs: &[u32], text: &[u8], at: usize, deep: usize) -> Judgement
-    requires { ⌜ Ready (now pairs) (now text) ⌝ }
-    ensures { λ r. ⌜ r ≡ judgement
-        (readType (nameCount (now (pairs .entry))) (now (words .entry)) (nameBytes (now (pairs .entry)) (now (text .entry))) deep at) ⌝ }
-{
-    if deep == 0 {
-        return Judgement::Stopped(Refusal::TooDeep);
-    }
-    if words.len() <= at {
-        return Judgement::Stopped(Refusal::EndsEarly);
-    }
-    let w = words[at];
-    if w < 12 {
-        return Judgement::Judged {
-            sound: true,
-            shape: Shape::Other,
-            next: at + 1,
-        };
-    }
-    if w == 12 {
-        return judge_name(words, pairs, text, at + 1);
-    }
-    judge_type(words, pairs, text, at, deep)
-}
-
-// `count` types, one behind the other.
-fn judge_types(
+// A name's head, from the words behind its kind; the heads below likewise.
+fn own_name(
     words: &[u32],
     pairs: &[u32],
     text: &[u8],
+    known: &mut [u16; 64],
     at: usize,
-    deep: usize,
-    count: usize,
-) -> BelowScan
-    requires { ⌜ Ready (now pairs) (now text) ⌝ }
-    ensures { λ r. ⌜ r ≡ belowScan nothingBelow
-        (readTypes (readType (nameCount (now (pairs .entry))) (now (words .entry)) (nameBytes (now (pairs .entry)) (now (text .entry))) deep) count at) ⌝ }
+    ask: u64,
+) -> OwnScan
+    requires { ⌜ Ready (now pairs) (now text) × Known (now pairs) (now text) (now known) ⌝ }
+    ensures { λ r. ⌜ Scanned (now (words .entry)) (now (pairs .entry)) (now (text .entry)) ask
+        (worded Name (readBelow (nameCount (now (pairs .entry))) (now (words .entry)) at)) r
+        × Known (now (pairs .entry)) (now (text .entry)) (now (known .exit)) ⌝ }
 {
-    let mut below = Below {
-        any: false,
-        sound: true,
-        display: true,
-        first: Shape::Other,
-        last: Shape::Other,
-    };
-    let mut pos = at;
-    let mut left = count;
-    while 0 < left {
-        match judge_part(words, pairs, text, pos, deep) {
-            Judgement::Judged { sound, shape, next } => {
-                below = with_type(below, sound, shape);
-                pos = next;
-            }
-            Judgement::Stopped(r) => return BelowScan::NoTypes(r),
-        }
-        left -= 1;
+    if words.len() <= at {
+        return OwnScan::NoNode(Refusal::EndsEarly);
     }
-    BelowScan::Types { below, next: pos }
+    let name = words[at];
+    if is_known(known, name) {
+        return OwnScan::Leaf(at + 1);
+    }
+    match check_new(pairs, text, known, name, ask) {
+        NameCheck::Fine => OwnScan::Leaf(at + 1),
+        NameCheck::Poor => OwnScan::NotSound,
+        NameCheck::NoName => OwnScan::NoNode(Refusal::UnknownWord),
+    }
+}
+
+fn least(a: usize, b: usize) -> usize
+    ensures { λ r. ⌜ (r ≤ a) × (r ≤ b) ⌝ }
+{
+    if a < b { a } else { b }
+}
+
+// How far the names from `start` to `end` are known: most are used more than once, and for those this loop is all there is.
+fn known_to(
+    words: &[u32],
+    pairs: &[u32],
+    text: &[u8],
+    known: &[u16; 64],
+    start: usize,
+    end: usize,
+) -> usize
+    requires { ⌜ Known (now pairs) (now text) (now known) × (start ≤ end) × (start ≤ length (now words)) ⌝ }
+    ensures { λ r. ⌜ OnwardAlways (nameCount (now (pairs .entry))) (now (words .entry)) (nameBytes (now (pairs .entry)) (now (text .entry))) start end r ⌝ }
+{
+    let limit = least(end, words.len());
+    let mut i = start;
+    while i < limit {
+        if !is_known(known, words[i]) {
+            return i;
+        }
+        i += 1;
+    }
+    i
+}
+
+// A path's head, from its names: those before `start` are known.
+fn new_names(
+    words: &[u32],
+    pairs: &[u32],
+    text: &[u8],
+    known: &mut [u16; 64],
+    path: PathAt,
+    start: usize,
+    ask: u64,
+) -> OwnScan
+    requires { ⌜ Ready (now pairs) (now text) × Known (now pairs) (now text) (now known)
+        × Onward (nameCount (now pairs)) (now words) (nameBytes (now pairs) (now text)) ask (path .start) (path .start + path .count) start
+        × (0 < path .count) × (length (now words) ≤ 8192) ⌝ }
+    ensures { λ r. ⌜ Scanned (now (words .entry)) (now (pairs .entry)) (now (text .entry)) ask
+        (namesHead (nameCount (now (pairs .entry))) (now (words .entry)) path) r
+        × Known (now (pairs .entry)) (now (text .entry)) (now (known .exit)) ⌝ }
+{
+    let end = path.start + path.count as usize;
+    let mut i = start;
+    while i < end {
+        if words.len() <= i {
+            return OwnScan::NoNode(Refusal::EndsEarly);
+        }
+        match check_new(pairs, text, known, words[i], ask) {
+            NameCheck::Fine => {
+                i += 1;
+            }
+            NameCheck::Poor => {
+                return OwnScan::NotSound;
+            }
+            NameCheck::NoName => {
+                return OwnScan::NoNode(Refusal::UnknownWord);
+            }
+        }
+    }
+    OwnScan::Leaf(end)
+}
+
+// The head of a path that has names.
+fn own_names(
+    words: &[u32],
+    pairs: &[u32],
+    text: &[u8],
+    known: &mut [u16; 64],
+    path: PathAt,
+    ask: u64,
+) -> OwnScan
+    requires { ⌜ Ready (now pairs) (now text) × Known (now pairs) (now text) (now known)
+        × (path .start ≤ length (now words)) × (0 < path .count) × (length (now words) ≤ 8192) ⌝ }
+    ensures { λ r. ⌜ Scanned (now (words .entry)) (now (pairs .entry)) (now (text .entry)) ask
+        (namesHead (nameCount (now (pairs .entry))) (now (words .entry)) path) r
+        × Known (now (pairs .entry)) (now (text .entry)) (now (known .exit)) ⌝ }
+{
+    let start = path.start;
+    let end = start + path.count as usize;
+    let i = known_to(words, pairs, text, known, start, end);
+    if i == end {
+        return OwnScan::Leaf(end);
+    }
+    new_names(words, pairs, text, known, path, i, ask)
+}
+
+// The head of a path with no names: `Global` is not sound.
+fn own_root(path: PathAt, ask: u64) -> OwnScan
+    ensures { λ r. ⌜ r ≡ rootScan (path .root) (path .start) ask ⌝ }
+{
+    if path.root != 0 {
+        return OwnScan::Leaf(path.start);
+    }
+    if ask == 0 {
+        return OwnScan::Leaf(path.start);
+    }
+    OwnScan::NotSound
+}
+
+// A path's head.
+fn own_path(
+    words: &[u32],
+    pairs: &[u32],
+    text: &[u8],
+    known: &mut [u16; 64],
+    at: usize,
+    ask: u64,
+) -> OwnScan
+    requires { ⌜ Ready (now pairs) (now text) × Known (now pairs) (now text) (now known) × (length (now words) ≤ 8192) ⌝ }
+    ensures { λ r. ⌜ Scanned (now (words .entry)) (now (pairs .entry)) (now (text .entry)) ask
+        (pathHead (nameCount (now (pairs .entry))) (now (words .entry)) at) r
+        × Known (now (pairs .entry)) (now (text .entry)) (now (known .exit)) ⌝ }
+{
+    match encoding::scan_below(words, 3, at) {
+        WordScan::Word {
+            value: root,
+            next: p,
+        } => match encoding::scan_word(words, p) {
+            WordScan::Word {
+                value: count,
+                next: start,
+            } => {
+                let path = PathAt { root, start, count };
+                if count == 0 {
+                    return own_root(path, ask);
+                }
+                own_names(words, pairs, text, known, path, ask)
+            }
+            WordScan::NoWord(r) => OwnScan::NoNode(r),
+        },
+        WordScan::NoWord(r) => OwnScan::NoNode(r),
+    }
+}
+
+// A head with types behind it that is neither a wrapper nor an intersection.
+fn own_node(next: usize, ask: u64, first: u64, rest: u64) -> OwnScan
+    ensures { λ r. ⌜ r ≡ nodeScan next ask first rest ⌝ }
+{
+    if ask == 0 {
+        return OwnScan::Node {
+            next,
+            ask: 0,
+            rest: rest / 4 * 4,
+        };
+    }
+    if ask == 2 {
+        return OwnScan::NotSound;
+    }
+    OwnScan::Node {
+        next,
+        ask: first,
+        rest,
+    }
+}
+
+// The head of a type with arguments: it has at least one.
+fn own_apply(words: &[u32], pairs: &[u32], text: &[u8], at: usize, ask: u64) -> OwnScan
+    ensures { λ r. ⌜ Scanned (now (words .entry)) (now (pairs .entry)) (now (text .entry)) ask
+        (worded Apply (readWord (now (words .entry)) at)) r ⌝ }
+{
+    match encoding::scan_word(words, at) {
+        WordScan::Word { value, next } => {
+            if value == 0 {
+                return own_bare(next, ask);
+            }
+            own_node(next, ask, 2, 4 * measure::cut(value) + 1)
+        }
+        WordScan::NoWord(r) => OwnScan::NoNode(r),
+    }
+}
+
+// The head of a type with no arguments.
+fn own_bare(next: usize, ask: u64) -> OwnScan
+    ensures { λ r. ⌜ r ≡ bareScan next ask ⌝ }
+{
+    if ask == 0 {
+        return OwnScan::Node {
+            next,
+            ask: 0,
+            rest: 0,
+        };
+    }
+    OwnScan::NotSound
+}
+
+// A leaf that is neither a name nor a path.
+fn own_leaf(next: usize, ask: u64) -> OwnScan
+    ensures { λ r. ⌜ r ≡ leafScan next ask ⌝ }
+{
+    if ask == 2 {
+        return OwnScan::NotSound;
+    }
+    OwnScan::Leaf(next)
+}
+
+// A tuple's head.
+fn own_tuple(words: &[u32], pairs: &[u32], text: &[u8], at: usize, ask: u64) -> OwnScan
+    ensures { λ r. ⌜ Scanned (now (words .entry)) (now (pairs .entry)) (now (text .entry)) ask
+        (worded Tuple (readWord (now (words .entry)) at)) r ⌝ }
+{
+    match encoding::scan_word(words, at) {
+        WordScan::Word { value, next } => {
+            if value == 0 {
+                return own_leaf(next, ask);
+            }
+            own_node(next, ask, 1, 4 * measure::cut(value) - 3)
+        }
+        WordScan::NoWord(r) => OwnScan::NoNode(r),
+    }
+}
+
+// A function's head: its result is no intersection.
+fn own_function(words: &[u32], pairs: &[u32], text: &[u8], at: usize, ask: u64) -> OwnScan
+    ensures { λ r. ⌜ Scanned (now (words .entry)) (now (pairs .entry)) (now (text .entry)) ask
+        (worded Function (readWord (now (words .entry)) at)) r ⌝ }
+{
+    match encoding::scan_word(words, at) {
+        WordScan::Word { value, next } => {
+            if value == 0 {
+                return own_node(next, ask, 3, 3);
+            }
+            own_node(next, ask, 1, 4 * measure::cut(value) + 3)
+        }
+        WordScan::NoWord(r) => OwnScan::NoNode(r),
+    }
+}
+
+// The head of an intersection, whose first type is none.
+fn own_both(at: usize, ask: u64) -> OwnScan
+    ensures { λ r. ⌜ r ≡ bothScan at ask ⌝ }
+{
+    if ask == 3 {
+        return OwnScan::NotSound;
+    }
+    own_node(at, ask, 3, 5)
+}
+
+// An array's size, as `ask` asks it to be. A name that is sound is a sound size.
+fn size_fits(pairs: &[u32], text: &[u8], known: &[u16; 64], size: u32, ask: u64) -> bool
+    requires { ⌜ (size < nameCount (now pairs) + 1) × Ready (now pairs) (now text) × Known (now pairs) (now text) (now known) ⌝ }
+    ensures { λ r. ⌜ r ≡ unlessJudged ask (soundSize (sizeOf (nameBytes (now (pairs .entry)) (now (text .entry))) size)) ⌝ }
+{
+    if ask == 0 {
+        return true;
+    }
+    if size == 0 {
+        return true;
+    }
+    if is_known(known, size - 1) {
+        return true;
+    }
+    sound_size(pairs, text, size)
+}
+
+// An array's head.
+fn own_array(
+    words: &[u32],
+    pairs: &[u32],
+    text: &[u8],
+    known: &[u16; 64],
+    bound: usize,
+    at: usize,
+    ask: u64,
+) -> OwnScan
+    requires { ⌜ (bound ≡ nameCount (now pairs)) × Ready (now pairs) (now text) × Known (now pairs) (now text) (now known) ⌝ }
+    ensures { λ r. ⌜ Scanned (now (words .entry)) (now (pairs .entry)) (now (text .entry)) ask
+        (worded ArrayOf (readBelow (bound + 1) (now (words .entry)) at)) r ⌝ }
+{
+    match encoding::scan_below(words, bound + 1, at) {
+        WordScan::Word { value, next } => {
+            if size_fits(pairs, text, known, value, ask) {
+                return own_node(next, ask, 1, 0);
+            }
+            OwnScan::NotSound
+        }
+        WordScan::NoWord(r) => OwnScan::NoNode(r),
+    }
+}
+
+// The head of metadata, which hands on what it is asked.
+fn own_meta(words: &[u32], pairs: &[u32], text: &[u8], at: usize, ask: u64) -> OwnScan
+    ensures { λ r. ⌜ Scanned (now (words .entry)) (now (pairs .entry)) (now (text .entry)) ask
+        (worded Meta (readBelow 4 (now (words .entry)) at)) r ⌝ }
+{
+    match encoding::scan_below(words, 4, at) {
+        WordScan::Word { value: _, next } => OwnScan::Node { next, ask, rest: 0 },
+        WordScan::NoWord(r) => OwnScan::NoNode(r),
+    }
+}
+
+// The head of kind `w`, 12 or above, whose further words begin at `at`.
+fn own_after(
+    words: &[u32],
+    pairs: &[u32],
+    text: &[u8],
+    known: &mut [u16; 64],
+    bound: usize,
+    w: u32,
+    at: usize,
+    ask: u64,
+) -> OwnScan
+    requires { ⌜ (12 ≤ w) × (bound ≡ nameCount (now pairs)) × (length (now words) ≤ 8192) × Ready (now pairs) (now text)
+        × Known (now pairs) (now text) (now known) ⌝ }
+    ensures { λ r. ⌜ Scanned (now (words .entry)) (now (pairs .entry)) (now (text .entry)) ask
+        (headAfter bound (now (words .entry)) w at) r
+        × Known (now (pairs .entry)) (now (text .entry)) (now (known .exit)) ⌝ }
+{
+    match w {
+        12 => own_name(words, pairs, text, known, at, ask),
+        13 => own_path(words, pairs, text, known, at, ask),
+        14 => own_apply(words, pairs, text, at, ask),
+        15 => own_node(at, ask, 3, 0),
+        16 => own_node(at, ask, 3, 0),
+        17 => own_node(at, ask, 3, 0),
+        18 => own_node(at, ask, 3, 0),
+        19 => own_tuple(words, pairs, text, at, ask),
+        20 => own_function(words, pairs, text, at, ask),
+        21 => own_both(at, ask),
+        22 => own_array(words, pairs, text, known, bound, at, ask),
+        23 => OwnScan::Node {
+            next: at,
+            ask,
+            rest: 4,
+        },
+        24 => own_meta(words, pairs, text, at, ask),
+        _ => OwnScan::NoNode(Refusal::UnknownWord),
+    }
+}
+
+// The head at `at`.
+fn scan_own(
+    words: &[u32],
+    pairs: &[u32],
+    text: &[u8],
+    known: &mut [u16; 64],
+    bound: usize,
+    at: usize,
+    ask: u64,
+) -> OwnScan
+    requires { ⌜ (bound ≡ nameCount (now pairs)) × (length (now words) ≤ 8192) × Ready (now pairs) (now text)
+        × Known (now pairs) (now text) (now known) ⌝ }
+    ensures { λ r. ⌜ Scanned (now (words .entry)) (now (pairs .entry)) (now (text .entry)) ask
+        (readHead bound (now (words .entry)) at) r
+        × Known (now (pairs .entry)) (now (text .entry)) (now (known .exit)) ⌝ }
+{
+    if words.len() <= at {
+        return OwnScan::NoNode(Refusal::EndsEarly);
+    }
+    let w = words[at];
+    if w < 12 {
+        return own_leaf(at + 1, ask);
+    }
+    own_after(words, pairs, text, known, bound, w, at + 1, ask)
+}
+
+// The pass behind the innermost level: the one around it is taken up.
+fn leave(levels: &[u16; 64], pass: Pass) -> Pass
+    requires { ⌜ (0 < pass .depth) × (pass .depth ≤ 64) ⌝ }
+    ensures { λ r. ⌜ (r ≡ leaving (now (levels .entry)) pass) × (r .rest < 2 ^ 16) ⌝ }
+{
+    let above = pass.depth - 1;
+    Pass {
+        place: pass.place,
+        depth: above,
+        ask: pass.ask,
+        rest: wide(levels[above]),
+    }
+}
+
+// The pass behind all levels that have ended.
+fn settle(levels: &[u16; 64], pass: Pass) -> Pass
+    requires { ⌜ (pass .depth ≤ 64) × (pass .rest < 2 ^ 16) ⌝ }
+    ensures { λ r. ⌜ Outward (now (levels .entry)) pass r × (r .rest < 4 → r .depth ≡ 0) ⌝ }
+{
+    let mut p = pass;
+    while p.rest < 4 {
+        if p.depth == 0 {
+            return p;
+        }
+        p = leave(levels, p);
+    }
+    p
+}
+
+// What the next type of a level is asked, if `rest` is the level behind it.
+fn ask_next(rest: u64) -> u64
+    ensures { λ r. ⌜ r ≡ askNext rest ⌝ }
+{
+    if rest < 4 {
+        return rest;
+    }
+    rest % 2
+}
+
+// The pass at `next`, at the next type of its level.
+fn step_to(pass: Pass, next: usize) -> Pass
+    requires { ⌜ 4 ≤ pass .rest ⌝ }
+    ensures { λ r. ⌜ r ≡ nextType pass next ⌝ }
+{
+    let rest = pass.rest - 4;
+    Pass {
+        place: next,
+        depth: pass.depth,
+        ask: ask_next(rest),
+        rest,
+    }
+}
+
+// The pass behind a head that ends at `next`, one level down.
+fn enter(levels: &mut [u16; 64], pass: Pass, next: usize, ask: u64, rest: u64) -> Pass
+    requires { ⌜ (pass .rest < 2 ^ 16) × (pass .depth < 64) ⌝ }
+    ensures { λ r. ⌜ (r ≡ under pass next ask rest) × (now (levels .exit) ≡ pushed (now (levels .entry)) pass) ⌝ }
+{
+    let depth = pass.depth;
+    levels[depth] = pass.rest as u16;
+    Pass {
+        place: next,
+        depth: depth + 1,
+        ask,
+        rest,
+    }
+}
+
+// One step of the pass: a head, and the levels that end with it.
+fn advance(
+    words: &[u32],
+    pairs: &[u32],
+    text: &[u8],
+    bound: usize,
+    known: &mut [u16; 64],
+    levels: &mut [u16; 64],
+    pass: Pass,
+) -> Step
+    requires { ⌜ (bound ≡ nameCount (now pairs)) × Ready (now pairs) (now text) × (length (now words) ≤ 8192)
+        × Known (now pairs) (now text) (now known) × Kept (now words) (now levels) pass ⌝ }
+    ensures { λ r. ⌜ Stepped (now (words .entry)) (now (pairs .entry)) (now (text .entry)) (now (levels .entry)) pass (now (levels .exit)) r
+        × Known (now (pairs .entry)) (now (text .entry)) (now (known .exit)) ⌝ }
+{
+    if pass.depth == 64 {
+        return Step::Halt(Refusal::TooDeep);
+    }
+    match scan_own(words, pairs, text, known, bound, pass.place, pass.ask) {
+        OwnScan::Leaf(next) => {
+            let p = settle(levels, pass);
+            if p.rest < 4 {
+                return Step::Ended(next);
+            }
+            Step::On(step_to(p, next))
+        }
+        OwnScan::Node { next, ask, rest } => Step::On(enter(levels, pass, next, ask, rest)),
+        OwnScan::NotSound => Step::Unfit,
+        OwnScan::NoNode(r) => Step::Halt(r),
+    }
+}
+
+// A type that is not sound and fills the words, unless a refusal is still to come.
+fn accept_whole(words: &[u32], pairs: &[u32], text: &[u8]) -> SoundAnswer
+    requires { ⌜ Ready (now pairs) (now text) × (length (now words) ≤ 8192) ⌝ }
+    ensures { λ r. ⌜ r ≡ soundAnswer (mapAnswer (λ t. false)
+        (whole (length (now (words .entry))) (typeAt (now (words .entry)) (now (pairs .entry)) (now (text .entry)) 0))) ⌝ }
+{
+    match acceptance::accept_type(words, pairs, text, 0, 0) {
+        Acceptance::Accepted(next) => {
+            if next != words.len() {
+                return SoundAnswer::Refused(Refusal::LeftOver);
+            }
+            SoundAnswer::Unsound
+        }
+        Acceptance::Denied(r) => SoundAnswer::Refused(r),
+    }
+}
+
+// A sound type that ends at `next`.
+fn sound_to(words: &[u32], next: usize) -> SoundAnswer
+    ensures { λ r. ⌜ r ≡ soundAnswer (whole (length (now (words .entry))) (got true next)) ⌝ }
+{
+    if next != words.len() {
+        return SoundAnswer::Refused(Refusal::LeftOver);
+    }
+    SoundAnswer::Sound
+}
+
+// The fixed names are kept from the start: all but the empty one are sound.
+fn keep_fixed(pairs: &[u32], text: &[u8], known: &mut [u16; 64])
+    requires { ⌜ Known (now pairs) (now text) (now known) ⌝ }
+    ensures { λ r. ⌜ Known (now (pairs .entry)) (now (text .entry)) (now (known .exit)) ⌝ }
+{
+    let mut i = 1;
+    while i < 16 {
+        known[i] = i as u16;
+        i += 1;
+    }
 }
 
 // A type that fills the words.
 fn judge_whole(words: &[u32], pairs: &[u32], text: &[u8]) -> SoundAnswer
-    requires { ⌜ Ready (now pairs) (now text) ⌝ }
+    requires { ⌜ Ready (now pairs) (now text) × (length (now words) ≤ 8192) ⌝ }
     ensures { λ r. ⌜ r ≡ soundAnswer (mapAnswer sound
         (whole (length (now (words .entry))) (typeAt (now (words .entry)) (now (pairs .entry)) (now (text .entry)) 0))) ⌝ }
 {
-    match judge_type(words, pairs, text, 0, 64) {
-        Judgement::Judged {
-            sound,
-            shape: _,
-            next,
-        } => {
-            if next != words.len() {
-                return SoundAnswer::Refused(Refusal::LeftOver);
+    let bound = encoding::name_count(pairs);
+    let mut levels = [0u16; 64];
+    let mut known = [0u16; 64];
+    known[0] = 1;
+    keep_fixed(pairs, text, &mut known);
+    let mut pass = Pass {
+        place: 0,
+        depth: 0,
+        ask: 1,
+        rest: 0,
+    };
+    loop {
+        match advance(words, pairs, text, bound, &mut known, &mut levels, pass) {
+            Step::On(p) => {
+                pass = p;
             }
-            if sound {
-                return SoundAnswer::Sound;
+            Step::Ended(next) => {
+                return sound_to(words, next);
             }
-            SoundAnswer::Unsound
+            Step::Unfit => {
+                return accept_whole(words, pairs, text);
+            }
+            Step::Halt(r) => {
+                return SoundAnswer::Refused(r);
+            }
         }
-        Judgement::Stopped(r) => SoundAnswer::Refused(r),
     }
 }
 

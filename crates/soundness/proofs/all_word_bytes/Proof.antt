@@ -1,23 +1,23 @@
+use borrow.Author.Needs.{needs}
 use Prim.Native.Nat.{_-_}
-use mathlib.Core.Path.{_≡_, sym, _∙_}
+use mathlib.Core.Path.{_≡_, refl, sym, _∙_}
 use borrow.Author.Tests.{not-true, not-false}
 use lib.ListN.{length, drop}
 use Rattle.rast.specs.Bytes.{each}
 use Rattle.rast.specs.Sound.{isWordByte}
 use Rattle.encoding.proofs.Names.{and-no, and-yes}
 use Rattle.soundness.proofs.Names.{each-more, each-end}
-use borrow.Author.Needs.{needs}
 use Rattle.soundness.proofs.all_word_bytes.Statement.{statement}
 use Rattle.soundness.proofs.all_word_bytes.Tie as tie
 
 abbrev Inv-loop : tie.InvT-loop
-Inv-loop bytes start i₀ i = each isWordByte (drop i bytes) ≡ each isWordByte (drop start bytes)
+Inv-loop bytes i₀ i = each isWordByte (drop i bytes) ≡ each isWordByte bytes
 
 abbrev μ-loop : tie.MeasureT-loop
-μ-loop bytes start i₀ i = length bytes - i
+μ-loop bytes i₀ i = length bytes - i
 
 loop-holds : tie.Need-loop-holds Inv-loop μ-loop
-loop-holds c = search needs
+loop-holds c = refl
 
 shared-slice-read-is-word-byte : tie.Need-shared-slice-read-is-word-byte Inv-loop μ-loop
 shared-slice-read-is-word-byte c = search needs

@@ -2,7 +2,7 @@ use mathlib.Core.Path.{sym, _∙_}
 use Rattle.encoding.specs.Refusals.{unless, mapAnswer}
 use Rattle.encoding.specs.Types.{typeOf}
 use Rattle.soundness.specs.Calls.{typeIsSound}
-use Rattle.soundness.proofs.Judging.{passed-ready}
+use Rattle.soundness.proofs.Steps.{passed-ready}
 use borrow.Author.Needs.{needs}
 use Rattle.soundness.proofs.type_is_sound.Statement.{statement}
 use Rattle.soundness.proofs.type_is_sound.Tie as tie

@@ -1,0 +1,36 @@
+use native.Mathlib.Omega.{arith}
+use mathlib.Core.Path.{refl, ap}
+use Rattle.encoding.specs.declared.Head.the-variants.{Meta}
+use Rattle.encoding.specs.Reading.{readBelow}
+use Rattle.encoding.proofs.Reading.{word-got, word-stop}
+use Rattle.measure.specs.Lengths.{worded, exact}
+use Rattle.soundness.specs.Judging.{wordsSound}
+use Rattle.soundness.proofs.Scans.{scanned-wrapper, scanned-stop}
+use borrow.Author.Needs.{needs}
+use Rattle.soundness.proofs.own_meta.Statement.{statement}
+use Rattle.soundness.proofs.own_meta.Tie as tie
+
+scan-below-requires : tie.Need-scan-below-requires
+scan-below-requires c κs = search needs
+
+enum-known-next : tie.Need-enum-known-next
+enum-known-next c = search needs
+
+enum-known-r : tie.Need-enum-known-r
+enum-known-r c = search needs
+
+returns : tie.Need-returns
+unfolding wordsSound
+returns c =
+    let a = c .before .before .before .before .before .before .before .args in
+    let e = word-got (readBelow 4 (a .words .now) (a .at)) (c .before .before .before .scan-below .ensures) (c .before .next .given .1) in
+    scanned-wrapper (a .words .now) (a .pairs .now) (a .text .now) (a .ask) (Meta _) (ap (worded Meta) e) refl refl refl refl refl (exact refl) refl (omega arith)
+
+returns-2 : tie.Need-returns-2
+returns-2 c =
+    let a = c .before .before .before .before .before .before .before .args in
+    scanned-stop (a .words .now) (a .pairs .now) (a .text .now) (a .ask) (ap (worded Meta) (word-stop (readBelow 4 (a .words .now) (a .at)) (c .before .before .before .scan-below .ensures) (c .before .r .given .1))) refl
+
+pub own-meta-spec : {M : Type 1} → statement M
+own-meta-spec =
+    tie.close (tie.spec scan-below-requires enum-known-next enum-known-r returns returns-2)
