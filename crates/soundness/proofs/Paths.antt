@@ -22,7 +22,7 @@ use Rattle.encoding.proofs.Tables.{impossible}
 use Rattle.encoding.proofs.Types.{bind-got, made-got}
 use Rattle.encoding.proofs.Inside.{Holds, Names, names-hold, below-there}
 use Rattle.encoding.proofs.Reading.{below-in, names-more as reads-more, names-stop as reads-stop, names-none as reads-none}
-use Rattle.measure.specs.Lengths.{worded, namesHead}
+use Rattle.measure.specs.Lengths.{worded, namesPath, headOfPath}
 use Rattle.output.proofs.Laws.{part-length}
 use Rattle.soundness.specs.declared.OwnScan.{OwnScan}
 use Rattle.soundness.specs.declared.OwnScan.the-variants.{Leaf, NotSound, NoNode}
@@ -169,38 +169,39 @@ module _ (ws pairs : List ℕ) (text : Bytes) (ask : ℕ) (p : PathAt) (some : 0
   counted = omega arith
 
   module _ {i : ℕ} (o : Onward (nameCount pairs) ws (nameBytes pairs text) ask (p .start) (p .start + p .count) i) where
-    pub path-leaf : i ≡ p .start + p .count → {r : OwnScan} → r ≡ Leaf (p .start + p .count) → Scanned ws pairs text ask (namesHead (nameCount pairs) ws p) r
-    unfolding namesHead
+    pub path-leaf : i ≡ p .start + p .count → {r : OwnScan} → r ≡ Leaf (p .start + p .count) → Scanned ws pairs text ask (headOfPath (namesPath (nameCount pairs) ws p)) r
+    unfolding namesPath
     path-leaf e d =
         let n = rw counted at (onward-end (nameCount pairs) ws (nameBytes pairs text) ask (p .start) (p .start + p .count) o e) in
         scanned-leaf ws pairs text ask (FromPath p) (rw n) d refl
         (path-fits (omega (arith, o .inside)) ∙ onward-fit (nameCount pairs) ws (nameBytes pairs text) ask (p .start) (p .start + p .count) o e)
 
     pub path-stop : i < p .start + p .count → {k : Refusal} → readBelow (nameCount pairs) ws i ≡ stop k → {r : OwnScan} → r ≡ NoNode k
-        → Scanned ws pairs text ask (namesHead (nameCount pairs) ws p) r
-    unfolding namesHead
+        → Scanned ws pairs text ask (headOfPath (namesPath (nameCount pairs) ws p)) r
+    unfolding namesPath
     path-stop h e d =
         let n = rw counted at (onward-stop (nameCount pairs) ws (nameBytes pairs text) ask (p .start) (p .start + p .count) o h e) in
         scanned-stop ws pairs text ask (rw n) d
 
     pub path-poor : i < p .start + p .count → i < length ws → unlessJudged ask (soundName (nameBytes pairs text (getD ws i 0))) ≡ false → {r : OwnScan} → r ≡ NotSound
-        → Scanned ws pairs text ask (namesHead (nameCount pairs) ws p) r
-    unfolding namesHead
+        → Scanned ws pairs text ask (headOfPath (namesPath (nameCount pairs) ws p)) r
+    unfolding namesPath
     path-poor h k s d =
         rw d (not-sound (λ g n e.
-        let t = bind-got (readNames (nameCount pairs) ws (p .count) (p .start)) (λ u r. got (FromPath p) r) e in
-        let same : g ≡ FromPath p = let i = t .rest in cc in
-        let lies = subst (Holds (Names (nameCount pairs) ws (p .count) (p .start))) (t .first) (names-hold (nameCount pairs) ws (p .count) (p .start) (omega (arith, o .after, o .inside))) in
+        let t = bind-got (namesPath (nameCount pairs) ws p) (λ q r. got (FromPath q) r) e in
+        let u = bind-got (readNames (nameCount pairs) ws (p .count) (p .start)) (λ v r. got p r) (t .first) in
+        let same : g ≡ FromPath p = let i = t .rest in let j = u .rest in cc in
+        let lies = subst (Holds (Names (nameCount pairs) ws (p .count) (p .start))) (u .first) (names-hold (nameCount pairs) ws (p .count) (p .start) (omega (arith, o .after, o .inside))) in
         rw same (path-fits (lies .inside) ∙ onward-poor (nameCount pairs) ws (nameBytes pairs text) ask (p .start) (p .start + p .count) o h k s)))
 
 -- a path with no names
 pub path-root : (ws pairs : List ℕ) (text : Bytes) (ask : ℕ) (p : PathAt) → p .count ≡ 0 → {r : OwnScan} → r ≡ rootScan (p .root) (p .start) ask
-    → Scanned ws pairs text ask (namesHead (nameCount pairs) ws p) r
-unfolding namesHead readNames headSound wordsSound unlessJudged _and_
+    → Scanned ws pairs text ask (headOfPath (namesPath (nameCount pairs) ws p)) r
+unfolding namesPath readNames headSound wordsSound unlessJudged _and_
 path-root ws pairs text ask p e d = rw d (go (eqb (p .root) 0) (eqb ask 0) refl refl (rw e))
   where
-    go : (t u : Bool) → eqb (p .root) 0 ≡ t → eqb ask 0 ≡ u → namesHead (nameCount pairs) ws p ≡ got (FromPath p) (p .start)
-        → Scanned ws pairs text ask (namesHead (nameCount pairs) ws p) (pick t (pick u (Leaf (p .start)) NotSound) (Leaf (p .start)))
+    go : (t u : Bool) → eqb (p .root) 0 ≡ t → eqb ask 0 ≡ u → headOfPath (namesPath (nameCount pairs) ws p) ≡ got (FromPath p) (p .start)
+        → Scanned ws pairs text ask (headOfPath (namesPath (nameCount pairs) ws p)) (pick t (pick u (Leaf (p .start)) NotSound) (Leaf (p .start)))
     go true true i j read = scanned-leaf ws pairs text ask (FromPath p) read refl refl (rw j)
     go true false i j read = scanned-unsound ws pairs text ask (FromPath p) read refl (rw (j, path-bare ws (nameBytes pairs text) p e, i))
     go false true i j read = scanned-leaf ws pairs text ask (FromPath p) read refl refl (rw j)

@@ -13,13 +13,13 @@ ghost use Rattle.encoding.specs.Tables.{nameBytes, nameCount, Good};
 ghost use Rattle.encoding.specs.Heads.{pathHead, headAfter, readHead};
 ghost use Rattle.encoding.specs.Types.{sizeOf, typeAt};
 ghost use Rattle.encoding.specs.declared.Head.the-variants.{Name, Apply, Tuple, Function, ArrayOf, Meta};
-ghost use Rattle.measure.specs.Lengths.{worded, namesHead};
+ghost use Rattle.measure.specs.Lengths.{worded, namesPath, headOfPath};
 ghost use Rattle.soundness.specs.Judging.{beginsExcluded, WordBytes, Ready, Known, Checked, Onward, OnwardAlways, unlessJudged, rootScan, nodeScan, bareScan, leafScan, bothScan, Scanned, askNext, nextType, under, pushed, leaving, Outward, Kept, Stepped};
 ghost use Rattle.soundness.specs.Calls.{typeIsSound, soundAnswer};
-use acceptance::Acceptance;
 use encoding::Check;
 use encoding::PathAt;
 use encoding::Refusal;
+use encoding::Scan;
 use encoding::WordScan;
 
 // Document 01's "sound": yes, no, or the refusal.
@@ -399,7 +399,7 @@ fn new_names(
         × Onward (nameCount (now pairs)) (now words) (nameBytes (now pairs) (now text)) ask (path .start) (path .start + path .count) start
         × (0 < path .count) × (length (now words) ≤ 8192) ⌝ }
     ensures { λ r. ⌜ Scanned (now (words .entry)) (now (pairs .entry)) (now (text .entry)) ask
-        (namesHead (nameCount (now (pairs .entry))) (now (words .entry)) path) r
+        (headOfPath (namesPath (nameCount (now (pairs .entry))) (now (words .entry)) path)) r
         × Known (now (pairs .entry)) (now (text .entry)) (now (known .exit)) ⌝ }
 {
     let end = path.start + path.count as usize;
@@ -435,7 +435,7 @@ fn own_names(
     requires { ⌜ Ready (now pairs) (now text) × Known (now pairs) (now text) (now known)
         × (path .start ≤ length (now words)) × (0 < path .count) × (length (now words) ≤ 8192) ⌝ }
     ensures { λ r. ⌜ Scanned (now (words .entry)) (now (pairs .entry)) (now (text .entry)) ask
-        (namesHead (nameCount (now (pairs .entry))) (now (words .entry)) path) r
+        (headOfPath (namesPath (nameCount (now (pairs .entry))) (now (words .entry)) path)) r
         × Known (now (pairs .entry)) (now (text .entry)) (now (known .exit)) ⌝ }
 {
     let start = path.start;
@@ -823,13 +823,13 @@ fn accept_whole(words: &[u32], pairs: &[u32], text: &[u8]) -> SoundAnswer
         (whole (length (now (words .entry))) (typeAt (now (words .entry)) (now (pairs .entry)) (now (text .entry)) 0))) ⌝ }
 {
     match acceptance::accept_type(words, pairs, text, 0, 0) {
-        Acceptance::Accepted(next) => {
+        Scan::At(next) => {
             if next != words.len() {
                 return SoundAnswer::Refused(Refusal::LeftOver);
             }
             SoundAnswer::Unsound
         }
-        Acceptance::Denied(r) => SoundAnswer::Refused(r),
+        Scan::Refused(r) => SoundAnswer::Refused(r),
     }
 }
 

@@ -1,10 +1,11 @@
 use native.Mathlib.Omega.{arith}
-use mathlib.Core.Path.{refl}
+use mathlib.Core.Path.{refl, ap}
 use Rattle.encoding.specs.Reading.{readWord, readBelow}
 use Rattle.encoding.specs.Tables.{nameCount}
 use Rattle.encoding.specs.Heads.{readPath, pathHead}
 use Rattle.encoding.proofs.Reading.{word-got, word-stop}
 use Rattle.encoding.proofs.Inside.{word-there}
+use Rattle.measure.specs.Lengths.{headOfPath}
 use Rattle.measure.proofs.Scans.{path-names}
 use Rattle.soundness.proofs.Scans.{scanned-as, scanned-stop}
 use Rattle.soundness.proofs.Paths.{path-root}
@@ -28,11 +29,12 @@ own-root-requires : tie.Need-own-root-requires
 own-root-requires c κs = search needs
 
 returns : tie.Need-returns
+unfolding pathHead
 returns c =
     let a = c .before .before .before .before .before .before .before .before .before .before .before .before .before .args in
     let e = word-got (readBelow 3 (a .words .now) (a .at)) (c .before .before .before .before .before .before .before .before .before .scan-below .ensures) (c .before .before .before .before .before .before .before .root .given .1) in
     let d = word-got (readWord (a .words .now) _) (c .before .before .before .before .before .scan-word .ensures) (c .before .before .before .count .given .1) in
-    (scanned-as (a .words .now) (a .pairs .now) (a .text .now) (a .ask) (path-names (nameCount (a .pairs .now)) (a .words .now) (a .at) e d) (path-root (a .words .now) (a .pairs .now) (a .text .now) (a .ask) _ (c .before .if1 .taken) (c .own-root .ensures)), c .before .before .before .before .before .before .before .before .before .before .before .before .before .pre .1)
+    (scanned-as (a .words .now) (a .pairs .now) (a .text .now) (a .ask) (ap headOfPath (path-names (nameCount (a .pairs .now)) (a .words .now) (a .at) e d)) (path-root (a .words .now) (a .pairs .now) (a .text .now) (a .ask) _ (c .before .if1 .taken) (c .own-root .ensures)), c .before .before .before .before .before .before .before .before .before .before .before .before .before .pre .1)
 
 own-names-requires : tie.Need-own-names-requires
 own-names-requires c κs =
@@ -48,11 +50,12 @@ enum-known-r-2 : tie.Need-enum-known-r-2
 enum-known-r-2 c = search needs
 
 returns-2 : tie.Need-returns-2
+unfolding pathHead
 returns-2 c =
     let a = c .before .before .before .before .before .before .before .before .before .before .before .before .before .before .args in
     let e = word-got (readBelow 3 (a .words .now) (a .at)) (c .before .before .before .before .before .before .before .before .before .before .scan-below .ensures) (c .before .before .before .before .before .before .before .before .root .given .1) in
     let d = word-got (readWord (a .words .now) _) (c .before .before .before .before .before .before .scan-word .ensures) (c .before .before .before .before .count .given .1) in
-    (scanned-as (a .words .now) (a .pairs .now) (a .text .now) (a .ask) (path-names (nameCount (a .pairs .now)) (a .words .now) (a .at) e d) (c .own-names .ensures .0), c .own-names .ensures .1)
+    (scanned-as (a .words .now) (a .pairs .now) (a .text .now) (a .ask) (ap headOfPath (path-names (nameCount (a .pairs .now)) (a .words .now) (a .at) e d)) (c .own-names .ensures .0), c .own-names .ensures .1)
 
 returns-3 : tie.Need-returns-3
 unfolding pathHead readPath
