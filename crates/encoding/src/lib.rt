@@ -12,7 +12,7 @@ ghost use Rattle.encoding.specs.Refusals.{number};
 ghost use Rattle.encoding.specs.Tables.{checkLevel, checkTables, checkCall, goodPairs, fixedNames, HoldsNames, nameBytes, nameLength, nameCount, Good};
 ghost use Rattle.encoding.specs.Reading.{readWord, readBelow, readNames};
 ghost use Rattle.encoding.specs.Types.{primitives};
-ghost use Rattle.encoding.specs.Heads.{readPath, pathHead, headAfter, readHead, kids, HeadHere, typesBelow, ownEnd};
+ghost use Rattle.encoding.specs.Heads.{readPath, pathHead, headAfter, readHead, HeadHere, typesBelow, ownEnd};
 ghost use Rattle.encoding.specs.Scans.{wordScan, ended, pathScan, headScan, headOf, ownWord};
 
 // Document 01's refusals. `Refusals.number` gives the number of each.
@@ -487,28 +487,6 @@ pub fn scan_head(words: &[u32], bound: usize, at: usize) -> HeadScan
         };
     }
     scan_after(words, bound, w, at + 1)
-}
-
-// How many types follow a head.
-pub fn kids_of(head: Head) -> usize
-    ensures { λ r. ⌜ r ≡ kids head ⌝ }
-{
-    match head {
-        Head::Plain(_) => 0,
-        Head::Name(_) => 0,
-        Head::FromPath(_) => 0,
-        Head::Apply(n) => n as usize + 1,
-        Head::Ref => 1,
-        Head::RefMut => 1,
-        Head::Impl => 1,
-        Head::Dyn => 1,
-        Head::Tuple(n) => n as usize,
-        Head::Function(n) => n as usize + 1,
-        Head::Both => 2,
-        Head::ArrayOf(_) => 1,
-        Head::Synonym => 2,
-        Head::Meta(_) => 1,
-    }
 }
 
 // ---- heads that were read before: their words alone say what follows, and nothing is tested again

@@ -40,7 +40,7 @@ pub fn larger(a: usize, b: usize) -> usize
 }
 
 // How deep the deepest of `n` accepted types is.
-pub fn deepest(words: &[u32], pairs: &[u32], at: usize, n: usize) -> Deep
+fn deepest(words: &[u32], pairs: &[u32], at: usize, n: usize) -> Deep
     requires { ⌜ (at ≤ length (now words)) × Readable (readTypes (treeAt (now words) (now pairs)) n at) ⌝ }
     ensures { λ r. ⌜ Deepens (readTypes (treeAt (now (words .entry)) (now (pairs .entry))) n at) (length (now (words .entry))) r ⌝ }
 {
