@@ -40,15 +40,19 @@ fn fill_path(words: &[u32], pairs: &[u32], text: &[u8], out: &mut [u8]) -> TextA
     ensures { λ r. ⌜ (r, now (out .exit)) ≡ filled (now (out .entry)) (wholePathText (now (words .entry)) (now (pairs .entry)) (now (text .entry))) ⌝ }
 {
     match measure::measure_path(words, pairs, text, 0) {
-        PathMeasure::MeasuredPath { path, next, bytes } => {
+        PathMeasure::MeasuredPath {
+            path,
+            next,
+            bytes: size,
+        } => {
             if next != words.len() {
                 return TextAnswer::Refused(Refusal::LeftOver);
             }
-            if out.len() < bytes {
+            if out.len() < size {
                 return TextAnswer::Refused(Refusal::BufferTooShort);
             }
             leaves::put_path(words, pairs, text, path, out, 0);
-            TextAnswer::Length(bytes)
+            TextAnswer::Length(size)
         }
         PathMeasure::NoPath(r) => TextAnswer::Refused(r),
     }
