@@ -10,7 +10,7 @@ ghost use Rattle.encoding.specs.Types.{readType};
 ghost use Rattle.encoding.specs.declared.Head.the-variants.{Name, Apply, Tuple, Function, ArrayOf, Meta};
 ghost use Rattle.measure.specs.Lengths.{worded, namesPath, headOfPath};
 ghost use Rattle.measure.specs.Levels.{leaving, beside, under, pushed, Outward, Kept, Stepped};
-ghost use Rattle.acceptance.specs.Walks.{Scanned, passOf, passLevels, passStep};
+ghost use Rattle.acceptance.specs.Walks.{Scanned, passOf, passLevels, passStep, Shallow};
 use encoding::PathAt;
 use encoding::Refusal;
 use encoding::Scan;
@@ -221,7 +221,7 @@ fn past_leaf(walk: Walk, next: usize) -> Walk
     }
 }
 
-// One step of the pass: a head, and the levels that end with it.
+// One step of the pass: a head, and the levels that end with it. The types behind a head may be too deep: this is tested where a level opens, and so not at each head.
 fn advance(
     words: &[u32],
     pairs: &[u32],
@@ -231,12 +231,9 @@ fn advance(
     walk: Walk,
 ) -> Step
     requires { ⌜ (bound ≡ nameCount (now pairs)) × Good (now pairs) (now text) × (length (now words) ≤ 8192)
-        × Kept (now words) (passLevels (now levels)) (passOf walk) ⌝ }
-    ensures { λ r. ⌜ Stepped (now (words .entry)) (now (pairs .entry)) (now (text .entry)) (passLevels (now (levels .entry))) (passOf walk) (passLevels (now (levels .exit))) (passStep r) ⌝ }
+        × Kept (now words) (passLevels (now levels)) (passOf walk) × (walk .depth < 64) ⌝ }
+    ensures { λ r. ⌜ Stepped (now (words .entry)) (now (pairs .entry)) (now (text .entry)) (passLevels (now (levels .entry))) (passOf walk) (passLevels (now (levels .exit))) (passStep r) × Shallow r ⌝ }
 {
-    if walk.depth == 64 {
-        return Step::Halt(Refusal::TooDeep);
-    }
     match scan_own(words, bound, walk.place) {
         OwnScan::Leaf(next) => {
             let p = settle(levels, past_leaf(walk, next));
@@ -245,7 +242,12 @@ fn advance(
             }
             Step::On(p)
         }
-        OwnScan::Node { next, kids } => Step::On(enter(levels, walk, next, kids)),
+        OwnScan::Node { next, kids } => {
+            if walk.depth == 63 {
+                return Step::Halt(Refusal::TooDeep);
+            }
+            Step::On(enter(levels, walk, next, kids))
+        }
         OwnScan::NoNode(r) => Step::Halt(r),
     }
 }

@@ -1,87 +1,87 @@
 use Rattle.measure.specs.Levels.{ended}
-use Rattle.measure.proofs.Steps.{step-deep, step-stop, step-past, step-ended, step-under, came-to-end}
+use Rattle.measure.proofs.Steps.{step-stop, step-past, step-ended, step-under, came-to-end}
 use Rattle.acceptance.specs.Walks.{passOf, passLevels}
 use Rattle.acceptance.proofs.Scans.{scanned-within, leaf-here, node-here, none-here}
+use Rattle.acceptance.proofs.Walks.{step-deeper}
 use mathlib.Core.Path.{refl, ap}
 use native.Mathlib.Omega.{arith}
 use borrow.Author.Needs.{needs}
 use Rattle.acceptance.proofs.advance.Statement.{statement}
 use Rattle.acceptance.proofs.advance.Tie as tie
 
-returns : tie.Need-returns
-returns c =
-    let s = c .before .before .before .before .before in
-    let a = s .args in
-    step-deep (a .words .now) (a .pairs .now) (a .text .now) (s .pre .1) (passLevels (a .levels .now)) (passOf (a .walk)) (s .pre .3) (c .if1 .taken)
-
 scan-own-requires : tie.Need-scan-own-requires
-scan-own-requires c κs = (omega (arith, c .before .before .before .before .before .pre .0), c .before .before .before .before .before .pre .2)
+scan-own-requires c κs = (omega (arith, c .before .before .before .pre .0), c .before .before .before .pre .2)
 
 enum-known-next : tie.Need-enum-known-next
 enum-known-next c = search needs
 
 past-leaf-requires : tie.Need-past-leaf-requires
-past-leaf-requires c κs = c .before .before .before .before .before .before .before .before .before .before .pre .3 .some
+past-leaf-requires c κs = c .before .before .before .before .before .before .before .before .pre .3 .some
 
 settle-requires : tie.Need-settle-requires
 settle-requires c κs =
-    let k = c .before .before .before .before .before .before .before .before .before .before .before .pre .3 in
+    let k = c .before .before .before .before .before .before .before .before .before .pre .3 in
     let e = c .past-leaf .ensures in
     (omega (arith, k .depth, ap (λ q. q .depth) e), omega (arith, k .due, ap (λ q. q .due) e))
 
-returns-2 : tie.Need-returns-2
-returns-2 c =
-    let s = c .before .before .before .before .before .before .before .before .before .before .before .before .before .before in
+returns : tie.Need-returns
+returns c =
+    let s = c .before .before .before .before .before .before .before .before .before .before .before .before in
     let a = s .args in
-    let k = s .pre .3 in
     let o = leaf-here (a .words .now) (a .pairs .now) (scanned-within (a .words .now) (a .pairs .now) (a .walk .place) (s .pre .0) (c .before .before .before .before .before .before .before .before .scan-own .ensures)) (c .before .before .before .before .before .before .next .given .1) in
     let w = c .before .before .settle .ensures in
-    ended (came-to-end (step-ended (a .words .now) (a .pairs .now) (a .text .now) (s .pre .1) (passLevels (a .levels .now)) (passOf (a .walk)) k (omega (arith, k .depth, c .before .before .before .before .before .before .before .before .before .if1 .left)) (o .own) (rw (c .before .before .before .past-leaf .ensures) at (w .0)) (c .if2 .taken) (w .1 (c .if2 .taken))) refl)
+    (ended (came-to-end (step-ended (a .words .now) (a .pairs .now) (a .text .now) (s .pre .1) (passLevels (a .levels .now)) (passOf (a .walk)) (s .pre .3) (s .pre .4) (o .own) (rw (c .before .before .before .past-leaf .ensures) at (w .0)) (c .if1 .taken) (w .1 (c .if1 .taken))) refl), tt)
 
 enum-known-next-2 : tie.Need-enum-known-next-2
 enum-known-next-2 c = search needs
 
+returns-2 : tie.Need-returns-2
+returns-2 c =
+    let s = c .before .before .before .before .before .before .before .before .before in
+    let a = s .args in
+    let o = node-here (a .words .now) (a .pairs .now) (scanned-within (a .words .now) (a .pairs .now) (a .walk .place) (s .pre .0) (c .before .before .before .before .before .scan-own .ensures)) (c .before .before .before .next2 .given .1) in
+    (step-deeper (a .words .now) (a .pairs .now) (a .text .now) (s .pre .1) (passLevels (a .levels .now)) (passOf (a .walk)) (s .pre .3) (s .pre .2) (o .own) (c .if2 .taken), tt)
+
 enter-requires : tie.Need-enter-requires
 enter-requires c κs =
-    let k = c .before .before .before .before .before .before .before .before .before .before .pre .3 in
-    (k .some, k .due, omega (arith, k .depth, c .before .before .before .before .before .if1 .left))
+    let s = c .before .before .before .before .before .before .before .before .before .before in
+    (s .pre .3 .some, s .pre .3 .due, s .pre .4)
 
 enum-known-r : tie.Need-enum-known-r
 enum-known-r c = search needs
 
 returns-3 : tie.Need-returns-3
 returns-3 c =
-    let s = c .before .before .before .before .before .before .before .before .before .before .before .before .before .before in
+    let s = c .before .before .before .before .before .before .before .before .before .before .before .before in
     let a = s .args in
-    let k = s .pre .3 in
     let o = leaf-here (a .words .now) (a .pairs .now) (scanned-within (a .words .now) (a .pairs .now) (a .walk .place) (s .pre .0) (c .before .before .before .before .before .before .before .before .scan-own .ensures)) (c .before .before .before .before .before .before .next .given .1) in
-    step-past (a .words .now) (a .pairs .now) (a .text .now) (s .pre .1) (passLevels (a .levels .now)) (passOf (a .walk)) k (omega (arith, k .depth, c .before .before .before .before .before .before .before .before .before .if1 .left)) (o .own) (rw (c .before .before .before .past-leaf .ensures) at (c .before .before .settle .ensures .0)) (omega (arith, c .if2 .left))
+    let w = rw (c .before .before .before .past-leaf .ensures) at (c .before .before .settle .ensures .0) in
+    (step-past (a .words .now) (a .pairs .now) (a .text .now) (s .pre .1) (passLevels (a .levels .now)) (passOf (a .walk)) (s .pre .3) (s .pre .4) (o .own) w (omega (arith, c .if1 .left)), omega (arith, w .depth, s .pre .4))
 
 returns-4 : tie.Need-returns-4
 returns-4 c =
     let s = c .before .before .before .before .before .before .before .before .before .before .before in
     let a = s .args in
-    let k = s .pre .3 in
-    let o = node-here (a .words .now) (a .pairs .now) (scanned-within (a .words .now) (a .pairs .now) (a .walk .place) (s .pre .0) (c .before .before .before .before .before .scan-own .ensures)) (c .before .before .before .next2 .given .1) in
-    step-under (a .words .now) (a .pairs .now) (a .text .now) (s .pre .1) (passLevels (a .levels .now)) (passOf (a .walk)) k (s .pre .2) (omega (arith, k .depth, c .before .before .before .before .before .before .if1 .left)) (o .own) (c .enter .ensures .1) (c .enter .ensures .0)
+    let o = node-here (a .words .now) (a .pairs .now) (scanned-within (a .words .now) (a .pairs .now) (a .walk .place) (s .pre .0) (c .before .before .before .before .before .before .before .scan-own .ensures)) (c .before .before .before .before .before .next2 .given .1) in
+    (step-under (a .words .now) (a .pairs .now) (a .text .now) (s .pre .1) (passLevels (a .levels .now)) (passOf (a .walk)) (s .pre .3) (s .pre .2) (s .pre .4) (o .own) (c .enter .ensures .1) (c .enter .ensures .0), omega (arith, ap (λ q. q .depth) (c .enter .ensures .0), s .pre .4, c .before .before .if2 .left))
 
 returns-5 : tie.Need-returns-5
 returns-5 c =
-    let s = c .before .before .before .before .before .before .before .before .before in
+    let s = c .before .before .before .before .before .before .before in
     let a = s .args in
-    step-stop (a .words .now) (a .pairs .now) (a .text .now) (s .pre .1) (passLevels (a .levels .now)) (passOf (a .walk)) (s .pre .3) (omega (arith, s .pre .3 .depth, c .before .before .before .before .if1 .left)) (none-here (scanned-within (a .words .now) (a .pairs .now) (a .walk .place) (s .pre .0) (c .before .before .before .scan-own .ensures)) (c .before .r .given .1))
+    (step-stop (a .words .now) (a .pairs .now) (a .text .now) (s .pre .1) (passLevels (a .levels .now)) (passOf (a .walk)) (s .pre .3) (s .pre .4) (none-here (scanned-within (a .words .now) (a .pairs .now) (a .walk .place) (s .pre .0) (c .before .before .before .scan-own .ensures)) (c .before .r .given .1)), tt)
 
 pub advance-spec : {M : Type 1} → statement M
 advance-spec =
     tie.close
     (tie.spec
-    returns
     scan-own-requires
     enum-known-next
     past-leaf-requires
     settle-requires
-    returns-2
+    returns
     enum-known-next-2
+    returns-2
     enter-requires
     enum-known-r
     returns-3
