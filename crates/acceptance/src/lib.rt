@@ -252,11 +252,13 @@ fn advance(
     }
 }
 
-// Where the type at `at` ends, or the refusal that is met first. `inside` types stand around it: it may be so much less deep.
+// Where the type at `at` ends, or the refusal that is met first. `inside` types stand around it: it may be so much less deep. The steps are lent a copy of the slice,
+// since one that is only read here is handed over in registers.
 pub fn accept_type(words: &[u32], pairs: &[u32], text: &[u8], at: usize, inside: usize) -> Scan
     requires { ⌜ Good (now pairs) (now text) × (length (now words) ≤ 8192) × (inside < 64) ⌝ }
     ensures { λ r. ⌜ r ≡ ended (readType (nameCount (now (pairs .entry))) (now (words .entry)) (nameBytes (now (pairs .entry)) (now (text .entry))) (64 - inside) at) ⌝ }
 {
+    let all = words;
     if words.len() < at {
         return Scan::Refused(Refusal::EndsEarly);
     }
@@ -268,7 +270,7 @@ pub fn accept_type(words: &[u32], pairs: &[u32], text: &[u8], at: usize, inside:
         due: 1,
     };
     loop {
-        match advance(words, pairs, text, bound, &mut levels, walk) {
+        match advance(all, pairs, text, bound, &mut levels, walk) {
             Step::On(p) => {
                 walk = p;
             }

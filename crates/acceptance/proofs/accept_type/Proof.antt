@@ -12,10 +12,10 @@ use Rattle.acceptance.proofs.accept_type.Statement.{statement}
 use Rattle.acceptance.proofs.accept_type.Tie as tie
 
 abbrev Inv-loop : tie.InvT-loop
-Inv-loop words pairs text at inside bound levels₀ walk₀ levels walk = Kept words (passLevels levels) (passOf walk) × (restOf words pairs text (passLevels levels) (passOf walk) ≡ restOf words pairs text (passLevels levels₀) (passOf walk₀)) × (walk .depth < 64)
+Inv-loop words pairs text at inside all bound levels₀ walk₀ levels walk = Kept words (passLevels levels) (passOf walk) × (restOf words pairs text (passLevels levels) (passOf walk) ≡ restOf words pairs text (passLevels levels₀) (passOf walk₀)) × (walk .depth < 64)
 
 abbrev μ-loop : tie.MeasureT-loop
-μ-loop words pairs text at inside bound levels₀ walk₀ levels walk = length words - walk .place
+μ-loop words pairs text at inside all bound levels₀ walk₀ levels walk = length words - walk .place
 
 returns : tie.Need-returns Inv-loop μ-loop
 returns c =
