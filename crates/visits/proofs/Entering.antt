@@ -36,7 +36,7 @@ use Rattle.pieces.proofs.Passes.{BegunAt, not-begun}
 use Rattle.pieces.proofs.Fronts.{Behind, behind-got, whole-left, Kind, a-struct, an-enum, a-synonym, a-use, kind-of}
 use Rattle.visits.specs.Visited.{visitedFrom, visitedPieces, entered, visitedDeclaration, positions}
 use Rattle.pieces.specs.declared.Whole.the-variants.{ADeclaration}
-use Rattle.visits.specs.Calls.{enteredAfter, enteredWalk, Ahead, Entered, AllVisited, Due, Visited}
+use Rattle.visits.specs.Calls.{enteredAfter, enteredWalk, Ahead, Going, Entered, AllVisited, Due, Visited}
 use Rattle.visits.proofs.Lists.{listOf, positions-append}
 
 module _ {N : Type 0} where
@@ -134,21 +134,8 @@ module _ (ws pairs : List ℕ) (text : Bytes) where
 
   -- ---- the pass over the walk
 
-  -- on the way of the walk w₀: what is left to w, once laid down, is the whole list
-  pub record Going (w₀ : Walk) (o : List ℕ) (w : Walk) (o′ : List ℕ) (p : ℕ) : Type 0 where
-    pub all : List (Piece Bytes)
-    pub rest : List (Piece Bytes)
-    pub end : ℕ
-    pub reads : leftAt ws pairs text w₀ ≡ got all end
-    pub left : leftAt ws pairs text w ≡ got rest end
-    pub lays : (o″ : List ℕ) (p″ : ℕ) → Wrote o′ p (positions (visitedPieces (w .place) rest)) o″ p″ → Wrote o 0 (positions (visitedPieces (w₀ .place) all)) o″ p″
-    pub few : length ws ≤ 8192
-    pub inside : w .place ≤ length ws
-    pub counted : p ≤ w .place
-    pub kept : length o′ ≡ length o
-
-  pub going-start : (w : Walk) (o : List ℕ) → Ahead ws pairs text w → Going w o w o 0
-  going-start w o a = record {
+  pub going-start : (w : Walk) (o : List ℕ) (pos : ℕ) → Ahead ws pairs text w → pos ≤ w .place → Going ws pairs text w o pos w o pos
+  going-start w o pos a l = record {
     all = a .there .value;
     rest = a .there .value;
     end = a .there .end;
@@ -157,16 +144,16 @@ module _ (ws pairs : List ℕ) (text : Bytes) where
     lays = λ o″ p″ x. x;
     few = a .few;
     inside = a .inside;
-    counted = omega arith;
+    counted = l;
     kept = refl;
   }
 
-  module _ (w₀ : Walk) (o : List ℕ) where
+  module _ (w₀ : Walk) (o : List ℕ) (pos : ℕ) where
     pub record Gone (w w′ : Walk) (o′ : List ℕ) (p : ℕ) : Type 0 where
-      pub next : Going w₀ o w′ o′ p
+      pub next : Going ws pairs text w₀ o pos w′ o′ p
       pub further : w .place < w′ .place
 
-    pub going-own : {w w′ : Walk} {o′ : List ℕ} {p : ℕ} → Going w₀ o w o′ p → Stepped (nameCount pairs) ws w (OwnWords w′) → Gone w w′ o′ p
+    pub going-own : {w w′ : Walk} {o′ : List ℕ} {p : ℕ} → Going ws pairs text w₀ o pos w o′ p → Stepped (nameCount pairs) ws w (OwnWords w′) → Gone w w′ o′ p
     going-own {w} {w′} {o′} {p} g s =
         let k = own-step (nameCount pairs) ws (nameBytes pairs text) (typeAt ws pairs text) w s in
         let b = behind-got _ (leftAt ws pairs text w′) (sym (k .reads) ∙ g .left) in
@@ -195,7 +182,7 @@ module _ (ws pairs : List ℕ) (text : Bytes) where
       left : leftAt ws pairs text (moved w′ next) ≡ got others end
       parts : rest ≡ type tpe ∷ others
 
-    typed : {w w′ : Walk} {o′ : List ℕ} {p : ℕ} → (g : Going w₀ o w o′ p) → Stepped (nameCount pairs) ws w (TypeDue w′) → Typed w w′ (g .rest) (g .end)
+    typed : {w w′ : Walk} {o′ : List ℕ} {p : ℕ} → (g : Going ws pairs text w₀ o pos w o′ p) → Stepped (nameCount pairs) ws w (TypeDue w′) → Typed w w′ (g .rest) (g .end)
     typed {w} {w′} g s =
         let k = due-step (nameCount pairs) ws (nameBytes pairs text) (typeAt ws pairs text) w s in
         let t = bind-got (typeAt ws pairs text (w .place)) _ (sym (k .reads) ∙ g .left) in
@@ -206,7 +193,7 @@ module _ (ws pairs : List ℕ) (text : Bytes) where
     unfolding readTypes
     one-read p e = rw e
 
-    pub going-due : {w w′ : Walk} {o′ : List ℕ} {p : ℕ} → Going w₀ o w o′ p → Stepped (nameCount pairs) ws w (TypeDue w′) → Due ws pairs text (w .place) 1 p
+    pub going-due : {w w′ : Walk} {o′ : List ℕ} {p : ℕ} → Going ws pairs text w₀ o pos w o′ p → Stepped (nameCount pairs) ws w (TypeDue w′) → Due ws pairs text (w .place) 1 p
     going-due {w} g s =
         let t = typed g s in
         record { few = g .few; inside = g .inside; counted = g .counted; there = record { value = cons (t .tpe) nil; end = t .next; reads = one-read (w .place) (t .here) } }
@@ -218,7 +205,7 @@ module _ (ws pairs : List ℕ) (text : Bytes) where
         ap (λ ps. positions (visitedPieces p ps)) g ∙ positions-append (visitedFrom p t) (visitedPieces (p + words t) us)
         ∙ rw (e, h, append-nil (visitedFrom p t))
 
-    pub going-type : {w w′ : Walk} {o′ o″ : List ℕ} {p : ℕ} {spot : Spot} → Going w₀ o w o′ p → Stepped (nameCount pairs) ws w (TypeDue w′) → Visited ws pairs text (w .place) 1 o′ p o″ spot
+    pub going-type : {w w′ : Walk} {o′ o″ : List ℕ} {p : ℕ} {spot : Spot} → Going ws pairs text w₀ o pos w o′ p → Stepped (nameCount pairs) ws w (TypeDue w′) → Visited ws pairs text (w .place) 1 o′ p o″ spot
         → Gone w (moved w′ (spot .next)) o″ (spot .pos)
     going-type {w} {w′} {o′} {o″} {p} {spot} g s v =
         let t = typed g s in
@@ -241,26 +228,48 @@ module _ (ws pairs : List ℕ) (text : Bytes) where
           further = omega (arith, q, lies .starts);
         }
 
-    pub going-halt : {w : Walk} {o′ : List ℕ} {p : ℕ} {r : Refusal} → Going w₀ o w o′ p → Stepped (nameCount pairs) ws w (Halted r) → ⊥
+    pub going-halt : {w : Walk} {o′ : List ℕ} {p : ℕ} {r : Refusal} → Going ws pairs text w₀ o pos w o′ p → Stepped (nameCount pairs) ws w (Halted r) → ⊥
     going-halt {w} g s = let k = halt-step (nameCount pairs) ws (nameBytes pairs text) (typeAt ws pairs text) w s in impossible (cc (k, g .left))
 
     -- a field that comes next has been accepted: its own words,
-    field-own : {w : Walk} {o′ : List ℕ} {p : ℕ} → Going w₀ o w o′ p → FieldNext w → Gone w (inField w (fieldType w)) o′ p
+    field-own : {w : Walk} {o′ : List ℕ} {p : ℕ} → Going ws pairs text w₀ o pos w o′ p → FieldNext w → Gone w (inField w (fieldType w)) o′ p
     field-own {w} g f = going-own g (field-opens (nameCount pairs) ws (nameBytes pairs text) (typeAt ws pairs text) w (g .left) f)
 
     -- its type,
-    pub field-due : {w : Walk} {o′ : List ℕ} {p : ℕ} → Going w₀ o w o′ p → FieldNext w → Due ws pairs text (fieldType w) 1 p
+    pub field-due : {w : Walk} {o′ : List ℕ} {p : ℕ} → Going ws pairs text w₀ o pos w o′ p → FieldNext w → Due ws pairs text (fieldType w) 1 p
     field-due g f = going-due (field-own g f .next) (type-due (omega arith))
 
     -- and what follows it
-    pub field-past : {w : Walk} {o′ o″ : List ℕ} {p : ℕ} {spot : Spot} → Going w₀ o w o′ p → FieldNext w → Visited ws pairs text (fieldType w) 1 o′ p o″ spot
+    pub field-past : {w : Walk} {o′ o″ : List ℕ} {p : ℕ} {spot : Spot} → Going ws pairs text w₀ o pos w o′ p → FieldNext w → Visited ws pairs text (fieldType w) 1 o′ p o″ spot
         → Gone w (pastField w (spot .next)) o″ (spot .pos)
     field-past g f v =
         let n = field-own g f in
         let k = going-type (n .next) (type-due (omega arith)) v in
         record { next = k .next; further = omega (arith, n .further, k .further) }
 
-    pub going-end : {w : Walk} {o′ : List ℕ} {p : ℕ} → Going w₀ o w o′ p → Stepped (nameCount pairs) ws w Ended → Entered ws pairs text w₀ o o′ p
+    -- the same is left, and a further walk begins here
+    pub going-ahead : {w : Walk} {o′ : List ℕ} {p : ℕ} → Going ws pairs text w₀ o pos w o′ p → Ahead ws pairs text w
+    going-ahead g = record { few = g .few; inside = g .inside; there = record { value = g .rest; end = g .end; reads = g .left } }
+
+    -- and goes on where this one has come to
+    pub going-on : {w w′ : Walk} {o′ o″ : List ℕ} {p q : ℕ} → Going ws pairs text w₀ o pos w o′ p → Going ws pairs text w o′ p w′ o″ q → Going ws pairs text w₀ o pos w′ o″ q
+    going-on {w} g h =
+        let e : h .all ≡ g .rest = cc (g .left, h .reads) in
+        let d : h .end ≡ g .end = cc (g .left, h .reads) in
+        record {
+          all = g .all;
+          rest = h .rest;
+          end = g .end;
+          reads = g .reads;
+          left = h .left ∙ ap (got (h .rest)) d;
+          lays = λ o‴ p‴ x. g .lays o‴ p‴ (wrote-as (ap (λ ps. positions (visitedPieces (w .place) ps)) e) (h .lays o‴ p‴ x));
+          few = g .few;
+          inside = h .inside;
+          counted = h .counted;
+          kept = h .kept ∙ g .kept;
+        }
+
+    pub going-end : {w : Walk} {o′ : List ℕ} {p : ℕ} → Going ws pairs text w₀ o 0 w o′ p → Stepped (nameCount pairs) ws w Ended → Entered ws pairs text w₀ o o′ p
     unfolding visitedPieces
     going-end {w} {o′} {p} g s =
         let k = end-step (nameCount pairs) ws (nameBytes pairs text) (typeAt ws pairs text) w s in

@@ -249,3 +249,18 @@ module _ {ws pairs : List ℕ} {text : Bytes} {at due : ℕ} {o : List ℕ} {pos
           wrote = v .lays o′ p (wrote-as (sym (ap (listOf place) n)) (wrote-nothing o′ p));
           counted = v .counted;
         }
+
+    -- what is due may be left to another pass
+    pub visit-due : Due ws pairs text place left p
+    visit-due = record { few = v .few; inside = v .inside; counted = v .counted; there = record { value = v .rest; end = v .end; reads = v .due-reads } }
+
+    pub visit-rest : {o″ : List ℕ} {spot : Spot} → Visited ws pairs text place left o′ p o″ spot → Visited ws pairs text at due o pos o″ spot
+    visit-rest {o″} {spot} d =
+        let q : v .end ≡ spot .next = cc (v .due-reads, d .reads) in
+        let n : d .types ≡ v .rest = cc (v .due-reads, d .reads) in
+        record {
+          types = v .all;
+          reads = v .reads ∙ ap (got (v .all)) q;
+          wrote = v .lays o″ (spot .pos) (wrote-as (ap (listOf place) n) (d .wrote));
+          counted = d .counted;
+        }

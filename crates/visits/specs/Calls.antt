@@ -63,6 +63,19 @@ pub record Ahead (ws pairs : List ℕ) (text : Bytes) (w : Walk) : Type 0 where
   pub inside : w .place ≤ length ws
   pub there : Readable (leftAt ws pairs text w)
 
+-- on the way from the walk w₀: what is left to w, once laid down behind what was, is the whole list
+pub record Going (ws pairs : List ℕ) (text : Bytes) (w₀ : Walk) (o : List ℕ) (pos : ℕ) (w : Walk) (o′ : List ℕ) (p : ℕ) : Type 0 where
+  pub all : List (Piece Bytes)
+  pub rest : List (Piece Bytes)
+  pub end : ℕ
+  pub reads : leftAt ws pairs text w₀ ≡ got all end
+  pub left : leftAt ws pairs text w ≡ got rest end
+  pub lays : (o″ : List ℕ) (p″ : ℕ) → Wrote o′ p (positions (visitedPieces (w .place) rest)) o″ p″ → Wrote o pos (positions (visitedPieces (w₀ .place) all)) o″ p″
+  pub few : length ws ≤ 8192
+  pub inside : w .place ≤ length ws
+  pub counted : p ≤ w .place
+  pub kept : length o′ ≡ length o
+
 -- its list was laid down
 pub record Entered (ws pairs : List ℕ) (text : Bytes) (w : Walk) (o o′ : List ℕ) (p : ℕ) : Type 0 where
   pub pieces : List (Piece Bytes)

@@ -8,8 +8,9 @@ ghost use Rattle.encoding.specs.Tables.{Good, nameCount};
 ghost use Rattle.encoding.specs.Declarations.{declarationAt};
 ghost use Rattle.writing.specs.Written.{Readable};
 ghost use Rattle.visits.specs.Visited.{typeVisits, declarationVisits};
-ghost use Rattle.visits.specs.Calls.{filled, Due, Visited, enteredAfter, enteredWalk, Ahead, Entered, AllVisited, Fills, wholeVisits};
+ghost use Rattle.visits.specs.Calls.{filled, Due, Visited, enteredAfter, enteredWalk, Ahead, Going, Entered, AllVisited, Fills, wholeVisits};
 ghost use Rattle.pieces.specs.Ends.{heldAt};
+ghost use Rattle.pieces.specs.Walks.{FieldNext};
 ghost use Rattle.pieces.specs.declared.Whole.the-variants.{AType, ADeclaration};
 use encoding::Check;
 use encoding::Refusal;
@@ -77,6 +78,41 @@ fn visit_types(
     }
 }
 
+// The type at `at`, which was accepted. Most types hold no synonym: these need no call of a function that calls itself, to which all slices go through memory.
+fn visit_type(
+    words: &[u32],
+    pairs: &[u32],
+    text: &[u8],
+    at: usize,
+    out: &mut [u32],
+    pos: usize,
+) -> Spot
+    requires { ⌜ Due (now words) (now pairs) (now text) at 1 pos ⌝ }
+    ensures { λ r. ⌜ Visited (now (words .entry)) (now (pairs .entry)) (now (text .entry)) at 1 (now (out .entry)) pos (now (out .exit)) r ⌝ }
+{
+    let mut place = at;
+    let mut left = 1;
+    let mut p = pos;
+    while 0 < left {
+        if words[place] == SYNONYM {
+            let all = words;
+            let rest = visit_types(all, pairs, text, place, left, out, p);
+            return Spot {
+                next: rest.next,
+                pos: rest.pos,
+            };
+        }
+        p = put_place(place, out, p);
+        let onward = encoding::pass_head(words, place, left);
+        left = onward.due;
+        place = onward.next;
+    }
+    Spot {
+        next: place,
+        pos: p,
+    }
+}
+
 // ---- declarations
 
 // What follows the parameters, as far as the visitor goes.
@@ -108,8 +144,36 @@ fn entered_walk(walk: Walk) -> Walk
     }
 }
 
-// The types that a walk comes to, which were accepted. The answer is how many positions there are. Most steps of a long enum are fields: these are taken whole, since a
-// single step hands the walk over in memory.
+// A walk on its way, and how many positions were laid down.
+struct Reached {
+    walk: Walk,
+    pos: usize,
+}
+
+// The fields that come next, which were accepted. Only steps that are no fields hand the walk over in memory.
+fn visit_fields(
+    words: &[u32],
+    pairs: &[u32],
+    text: &[u8],
+    walk: Walk,
+    out: &mut [u32],
+    pos: usize,
+) -> Reached
+    requires { ⌜ Ahead (now words) (now pairs) (now text) walk × FieldNext walk × (pos ≤ walk .place) ⌝ }
+    ensures { λ r. ⌜ Going (now (words .entry)) (now (pairs .entry)) (now (text .entry)) walk (now (out .entry)) pos (r .walk) (now (out .exit)) (r .pos)
+        × (walk .place < r .walk .place) ⌝ }
+{
+    let mut w = walk;
+    let mut p = pos;
+    while 0 < w.fields {
+        let spot = visit_type(words, pairs, text, pieces::field_type(w), out, p);
+        w = pieces::past_field(w, spot.next);
+        p = spot.pos;
+    }
+    Reached { walk: w, pos: p }
+}
+
+// The types that a walk comes to, which were accepted. The answer is how many positions there are.
 fn visit_walk(
     words: &[u32],
     pairs: &[u32],
@@ -125,9 +189,9 @@ fn visit_walk(
     let mut p = 0;
     loop {
         if pieces::is_field_next(w) {
-            let spot = visit_types(words, pairs, text, pieces::field_type(w), 1, out, p);
-            w = pieces::past_field(w, spot.next);
-            p = spot.pos;
+            let behind = visit_fields(words, pairs, text, w, out, p);
+            w = behind.walk;
+            p = behind.pos;
             continue;
         }
         match pieces::next_piece(words, bound, w) {
@@ -210,7 +274,7 @@ fn fill_type(words: &[u32], pairs: &[u32], text: &[u8], out: &mut [u32]) -> Visi
             if out.len() < words.len() {
                 return fill_short(Whole::AType, words, pairs, text, out);
             }
-            let all = visit_types(words, pairs, text, 0, 1, out, 0);
+            let all = visit_type(words, pairs, text, 0, out, 0);
             VisitAnswer::Count(all.pos)
         }
         Scan::Refused(r) => VisitAnswer::Refused(r),

@@ -29,8 +29,8 @@ same-length c = search needs
 returns-2 : tie.Need-returns-2
 returns-2 c = c .before .before .fill-short .ensures
 
-visit-types-requires : tie.Need-visit-types-requires
-visit-types-requires c κs =
+visit-type-requires : tie.Need-visit-type-requires
+visit-type-requires c κs =
     let a = c .before .before .before .before .before .before .before .before .before .before .before .args in
     type-due (a .words .now) (a .pairs .now) (a .text .now) (c .before .before .before .before .before .before .before .before .before .before .before .pre .1) (fills-readable (a .words .now) (a .pairs .now) (a .text .now) (fills (a .words .now) (a .pairs .now) (a .text .now) AType (scan-got (typeAt (a .words .now) (a .pairs .now) (a .text .now) 0) (c .before .before .before .before .before .before .accept-type .ensures) (c .before .before .before .before .next .given .1) .reads) (c .before .before .if1 .left)))
 
@@ -44,7 +44,7 @@ returns-3 : tie.Need-returns-3
 returns-3 c =
     let a = c .before .before .before .before .before .before .before .before .before .before .before .before .before .before .args in
     let f = fills (a .words .now) (a .pairs .now) (a .text .now) AType (scan-got (typeAt (a .words .now) (a .pairs .now) (a .text .now) 0) (c .before .before .before .before .before .before .before .before .before .accept-type .ensures) (c .before .before .before .before .before .before .before .next .given .1) .reads) (c .before .before .before .before .before .if1 .left) in
-    let v = type-visited (a .words .now) (a .pairs .now) (a .text .now) (fills-readable (a .words .now) (a .pairs .now) (a .text .now) f) (c .before .before .visit-types .ensures) in
+    let v = type-visited (a .words .now) (a .pairs .now) (a .text .now) (fills-readable (a .words .now) (a .pairs .now) (a .text .now) f) (c .before .before .visit-type .ensures) in
     visits-done (a .words .now) (a .pairs .now) (a .text .now) AType (a .out .now) f v (omega (arith, v .counted, c .before .before .before .before .if2 .left))
 
 returns-4 : tie.Need-returns-4
@@ -62,7 +62,7 @@ fill-type-spec =
     fill-short-requires
     same-length
     returns-2
-    visit-types-requires
+    visit-type-requires
     enum-known-r
     same-length-2
     returns-3

@@ -1,6 +1,7 @@
 use Prim.Native.Nat.{_-_}
 use Rattle.pieces.proofs.Passes.{stepped}
-use Rattle.visits.proofs.Entering.{Going, field-due, field-past, going-due, going-end, going-halt, going-own, going-start, going-type}
+use Rattle.visits.specs.Calls.{Going}
+use Rattle.visits.proofs.Entering.{going-ahead, going-due, going-end, going-halt, going-on, going-own, going-start, going-type}
 use lib.ListN.{length}
 use native.Mathlib.Omega.{arith}
 use Rattle.visits.proofs.visit_walk.Statement.{statement}
@@ -8,7 +9,7 @@ use borrow.Author.Needs.{needs}
 use Rattle.visits.proofs.visit_walk.Tie as tie
 
 abbrev Inv-loop : tie.InvT-loop
-Inv-loop words pairs text bound out₀ w₀ p₀ out w p = Going words pairs text w₀ out₀ w out p
+Inv-loop words pairs text bound out₀ w₀ p₀ out w p = Going words pairs text w₀ out₀ 0 w out p
 
 abbrev μ-loop : tie.MeasureT-loop
 μ-loop words pairs text bound out₀ w₀ p₀ out w p = length words - w .place
@@ -16,32 +17,24 @@ abbrev μ-loop : tie.MeasureT-loop
 loop-holds : tie.Need-loop-holds Inv-loop μ-loop
 loop-holds c =
     let a = c .before .before .before .before .args in
-    going-start (a .words .now) (a .pairs .now) (a .text .now) (a .walk) (a .out .now) (c .before .before .before .before .pre .1)
+    going-start (a .words .now) (a .pairs .now) (a .text .now) (a .walk) (a .out .now) 0 (c .before .before .before .before .pre .1) (omega arith)
 
 is-field-next-requires : tie.Need-is-field-next-requires Inv-loop μ-loop
 is-field-next-requires c κs = search needs
 
-field-type-requires : tie.Need-field-type-requires Inv-loop μ-loop
-field-type-requires c κs = omega (arith, c .before .before .loop .inv .inside, c .before .before .loop .inv .few)
-
-visit-types-requires : tie.Need-visit-types-requires Inv-loop μ-loop
-visit-types-requires c κs =
-    let a = c .before .before .before .before .before .before .before .before .before .args in
-    rw (c .before .field-type .ensures) (field-due (a .words .now) (a .pairs .now) (a .text .now) (a .walk) (a .out .now) (c .before .before .before .before .loop .inv) (c .before .before .before .is-field-next .ensures (c .before .before .if1 .taken)))
-
-past-field-requires : tie.Need-past-field-requires Inv-loop μ-loop
-past-field-requires c κs = c .before .before .before .before .before .before .is-field-next .ensures (c .before .before .before .before .before .if1 .taken) .3
+visit-fields-requires : tie.Need-visit-fields-requires Inv-loop μ-loop
+visit-fields-requires c κs =
+    let a = c .before .before .before .before .before .before .before .before .args in
+    let g = c .before .before .before .loop .inv in
+    (going-ahead (a .words .now) (a .pairs .now) (a .text .now) (a .walk) (a .out .now) 0 g, c .before .before .is-field-next .ensures (c .before .if1 .taken), g .counted)
 
 loop-less : tie.Need-loop-less Inv-loop μ-loop
-loop-less c =
-    let a = c .before .before .before .before .before .before .before .before .before .before .before .before .before .args in
-    let g = field-past (a .words .now) (a .pairs .now) (a .text .now) (a .walk) (a .out .now) (c .before .before .before .before .before .before .before .before .loop .inv) (c .before .before .before .before .before .before .before .is-field-next .ensures (c .before .before .before .before .before .before .if1 .taken)) (rw (c .before .before .before .before .before .field-type .ensures) at (c .before .before .before .visit-types .ensures)) in
-    rw (c .past-field .ensures) (omega (arith, g .further, g .next .inside))
+loop-less c = omega (arith, c .before .before .before .visit-fields .ensures .1, c .before .before .before .visit-fields .ensures .0 .inside)
 
 loop-again : tie.Need-loop-again Inv-loop μ-loop
 loop-again c =
-    let a = c .before .before .before .before .before .before .before .before .before .before .before .before .before .args in
-    rw (c .past-field .ensures) (field-past (a .words .now) (a .pairs .now) (a .text .now) (a .walk) (a .out .now) (c .before .before .before .before .before .before .before .before .loop .inv) (c .before .before .before .before .before .before .before .is-field-next .ensures (c .before .before .before .before .before .before .if1 .taken)) (rw (c .before .before .before .before .before .field-type .ensures) at (c .before .before .before .visit-types .ensures)) .next)
+    let a = c .before .before .before .before .before .before .before .before .before .before .before .before .args in
+    going-on (a .words .now) (a .pairs .now) (a .text .now) (a .walk) (a .out .now) 0 (c .before .before .before .before .before .before .before .loop .inv) (c .before .before .before .visit-fields .ensures .0)
 
 next-piece-requires : tie.Need-next-piece-requires Inv-loop μ-loop
 next-piece-requires c κs = search needs
@@ -52,21 +45,21 @@ enum-known-next c = search needs
 loop-less-2 : tie.Need-loop-less-2 Inv-loop μ-loop
 loop-less-2 c =
     let a = c .before .before .before .before .before .before .before .before .before .before .before .args in
-    let g = going-own (a .words .now) (a .pairs .now) (a .text .now) (a .walk) (a .out .now) (c .before .before .before .before .before .before .loop .inv) (stepped (a .words .now) (a .pairs .now) (a .text .now) (c .before .before .before .before .before .before .before .before .before .before .before .pre .0) (c .before .next .given .1) (c .before .before .before .next-piece .ensures)) in
+    let g = going-own (a .words .now) (a .pairs .now) (a .text .now) (a .walk) (a .out .now) 0 (c .before .before .before .before .before .before .loop .inv) (stepped (a .words .now) (a .pairs .now) (a .text .now) (c .before .before .before .before .before .before .before .before .before .before .before .pre .0) (c .before .next .given .1) (c .before .before .before .next-piece .ensures)) in
     omega (arith, g .further, g .next .inside)
 
 loop-again-2 : tie.Need-loop-again-2 Inv-loop μ-loop
 loop-again-2 c =
     let a = c .before .before .before .before .before .before .before .before .before .before .before .args in
-    going-own (a .words .now) (a .pairs .now) (a .text .now) (a .walk) (a .out .now) (c .before .before .before .before .before .before .loop .inv) (stepped (a .words .now) (a .pairs .now) (a .text .now) (c .before .before .before .before .before .before .before .before .before .before .before .pre .0) (c .before .next .given .1) (c .before .before .before .next-piece .ensures)) .next
+    going-own (a .words .now) (a .pairs .now) (a .text .now) (a .walk) (a .out .now) 0 (c .before .before .before .before .before .before .loop .inv) (stepped (a .words .now) (a .pairs .now) (a .text .now) (c .before .before .before .before .before .before .before .before .before .before .before .pre .0) (c .before .next .given .1) (c .before .before .before .next-piece .ensures)) .next
 
 enum-known-next-2 : tie.Need-enum-known-next-2 Inv-loop μ-loop
 enum-known-next-2 c = search needs
 
-visit-types-requires-2 : tie.Need-visit-types-requires-2 Inv-loop μ-loop
-visit-types-requires-2 c κs =
+visit-types-requires : tie.Need-visit-types-requires Inv-loop μ-loop
+visit-types-requires c κs =
     let a = c .before .before .before .before .before .before .before .before .before .before .before .before .args in
-    going-due (a .words .now) (a .pairs .now) (a .text .now) (a .walk) (a .out .now) (c .before .before .before .before .before .before .before .loop .inv) (stepped (a .words .now) (a .pairs .now) (a .text .now) (c .before .before .before .before .before .before .before .before .before .before .before .before .pre .0) (c .before .before .next2 .given .1) (c .before .before .before .before .next-piece .ensures))
+    going-due (a .words .now) (a .pairs .now) (a .text .now) (a .walk) (a .out .now) 0 (c .before .before .before .before .before .before .before .loop .inv) (stepped (a .words .now) (a .pairs .now) (a .text .now) (c .before .before .before .before .before .before .before .before .before .before .before .before .pre .0) (c .before .before .next2 .given .1) (c .before .before .before .before .next-piece .ensures))
 
 move-to-requires : tie.Need-move-to-requires Inv-loop μ-loop
 move-to-requires c κs = search needs
@@ -74,13 +67,13 @@ move-to-requires c κs = search needs
 loop-less-3 : tie.Need-loop-less-3 Inv-loop μ-loop
 loop-less-3 c =
     let a = c .before .before .before .before .before .before .before .before .before .before .before .before .before .before .before .before .args in
-    let g = going-type (a .words .now) (a .pairs .now) (a .text .now) (a .walk) (a .out .now) (c .before .before .before .before .before .before .before .before .before .before .before .loop .inv) (stepped (a .words .now) (a .pairs .now) (a .text .now) (c .before .before .before .before .before .before .before .before .before .before .before .before .before .before .before .before .pre .0) (c .before .before .before .before .before .before .next2 .given .1) (c .before .before .before .before .before .before .before .before .next-piece .ensures)) (c .before .before .before .visit-types2 .ensures) in
+    let g = going-type (a .words .now) (a .pairs .now) (a .text .now) (a .walk) (a .out .now) 0 (c .before .before .before .before .before .before .before .before .before .before .before .loop .inv) (stepped (a .words .now) (a .pairs .now) (a .text .now) (c .before .before .before .before .before .before .before .before .before .before .before .before .before .before .before .before .pre .0) (c .before .before .before .before .before .before .next2 .given .1) (c .before .before .before .before .before .before .before .before .next-piece .ensures)) (c .before .before .before .visit-types .ensures) in
     rw (c .move-to .ensures) (omega (arith, g .further, g .next .inside))
 
 loop-again-3 : tie.Need-loop-again-3 Inv-loop μ-loop
 loop-again-3 c =
     let a = c .before .before .before .before .before .before .before .before .before .before .before .before .before .before .before .before .args in
-    rw (c .move-to .ensures) (going-type (a .words .now) (a .pairs .now) (a .text .now) (a .walk) (a .out .now) (c .before .before .before .before .before .before .before .before .before .before .before .loop .inv) (stepped (a .words .now) (a .pairs .now) (a .text .now) (c .before .before .before .before .before .before .before .before .before .before .before .before .before .before .before .before .pre .0) (c .before .before .before .before .before .before .next2 .given .1) (c .before .before .before .before .before .before .before .before .next-piece .ensures)) (c .before .before .before .visit-types2 .ensures) .next)
+    rw (c .move-to .ensures) (going-type (a .words .now) (a .pairs .now) (a .text .now) (a .walk) (a .out .now) 0 (c .before .before .before .before .before .before .before .before .before .before .before .loop .inv) (stepped (a .words .now) (a .pairs .now) (a .text .now) (c .before .before .before .before .before .before .before .before .before .before .before .before .before .before .before .before .pre .0) (c .before .before .before .before .before .before .next2 .given .1) (c .before .before .before .before .before .before .before .before .next-piece .ensures)) (c .before .before .before .visit-types .ensures) .next)
 
 enum-told : tie.Need-enum-told Inv-loop μ-loop
 enum-told c = search needs
@@ -91,7 +84,7 @@ same-length c = c .before .before .before .before .before .loop .inv .kept
 returns : tie.Need-returns Inv-loop μ-loop
 returns c =
     let a = c .before .before .before .before .before .before .before .before .before .before .args in
-    going-end (a .words .now) (a .pairs .now) (a .text .now) (a .walk) (a .out .now) (c .before .before .before .before .before .loop .inv) (stepped (a .words .now) (a .pairs .now) (a .text .now) (c .before .before .before .before .before .before .before .before .before .before .pre .0) (c .enum-told .given .1) (c .before .before .next-piece .ensures))
+    going-end (a .words .now) (a .pairs .now) (a .text .now) (a .walk) (a .out .now) 0 (c .before .before .before .before .before .loop .inv) (stepped (a .words .now) (a .pairs .now) (a .text .now) (c .before .before .before .before .before .before .before .before .before .before .pre .0) (c .enum-told .given .1) (c .before .before .next-piece .ensures))
 
 enum-told-2 : tie.Need-enum-told-2 Inv-loop μ-loop
 enum-told-2 c = search needs
@@ -102,7 +95,7 @@ same-length-2 c = c .before .before .before .before .before .loop .inv .kept
 returns-2 : tie.Need-returns-2 Inv-loop μ-loop
 returns-2 c =
     let a = c .before .before .before .before .before .before .before .before .before .before .args in
-    absurd (going-halt (a .words .now) (a .pairs .now) (a .text .now) (a .walk) (a .out .now) (c .before .before .before .before .before .loop .inv) (stepped (a .words .now) (a .pairs .now) (a .text .now) (c .before .before .before .before .before .before .before .before .before .before .pre .0) (c .enum-told2 .given .1) (c .before .before .next-piece .ensures)))
+    absurd (going-halt (a .words .now) (a .pairs .now) (a .text .now) (a .walk) (a .out .now) 0 (c .before .before .before .before .before .loop .inv) (stepped (a .words .now) (a .pairs .now) (a .text .now) (c .before .before .before .before .before .before .before .before .before .before .pre .0) (c .enum-told2 .given .1) (c .before .before .next-piece .ensures)))
 
 pub visit-walk-spec : {M : Type 1} → statement M
 visit-walk-spec =
@@ -112,9 +105,7 @@ visit-walk-spec =
     μ-loop
     loop-holds
     is-field-next-requires
-    field-type-requires
-    visit-types-requires
-    past-field-requires
+    visit-fields-requires
     loop-less
     loop-again
     next-piece-requires
@@ -122,7 +113,7 @@ visit-walk-spec =
     loop-less-2
     loop-again-2
     enum-known-next-2
-    visit-types-requires-2
+    visit-types-requires
     move-to-requires
     loop-less-3
     loop-again-3
