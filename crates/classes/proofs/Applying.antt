@@ -135,6 +135,10 @@ module _ (class : Class) where
   unfolding isOf applied onPath
   of-path p ts h = rw (eq-eqb (count ts) (arity class) h) (sym (and-true (inClass class p)))
 
+  pub of-no-path : (p : Path Bytes) (ts : Tys Bytes) → inClass class p ≡ false → isOf class (TypeApp (TypeFromPath p) ts) ≡ false
+  unfolding isOf applied onPath
+  of-no-path p ts h = and-no (eqb (count ts) (arity class)) h
+
 -- ---- the first argument
 
 arity-some : (class : Class) → 0 < arity class
@@ -166,8 +170,7 @@ module _ (class : Class) (at : ℕ) where
 
   module _ (p : Path Bytes) where
     pub first-class : (ts : Tys Bytes) → inClass class p ≡ false → found (first class (place at (TypeApp (TypeFromPath p) ts))) ≡ NoPart
-    unfolding isOf applied onPath
-    first-class ts h = first-not class (place at (TypeApp (TypeFromPath p) ts)) (and-no (eqb (count ts) (arity class)) h)
+    first-class ts h = first-not class (place at (TypeApp (TypeFromPath p) ts)) (of-no-path class p ts h)
 
     pub first-is : (ts : Tys Bytes) → inClass class p ≡ true → count ts ≡ arity class
         → found (first class (place at (TypeApp (TypeFromPath p) ts))) ≡ At (at + 2 + words (TypeFromPath p))

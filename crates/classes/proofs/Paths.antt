@@ -18,10 +18,10 @@ use Rattle.encoding.proofs.Names.{and-no, and-yes, and-false, beq-eq}
 use Rattle.trees.specs.Encode.{rootWord, names}
 use Rattle.trees.proofs.Spans.{root-known, path-names, path-root}
 use Rattle.classes.specs.declared.Class.{Class}
-use Rattle.classes.specs.declared.Class.the-variants.{Counted, Placebo, ObjectClass, PtrClass, ArrayClass, Collection, MapClass}
+use Rattle.classes.specs.declared.Class.the-variants.{Counted, Boxed, Uninit, Placebo, ObjectClass, PtrClass, ArrayClass, Collection, MapClass}
 use Rattle.classes.specs.Asked.{InRuntime}
-use Rattle.classes.specs.Classes.{isSet, inClass, memberIn}
-use Rattle.classes.specs.Paths.{samePath, std, inStd, dafny_runtime, inRuntime, runtimeMember, RcPath, ArcPath, MaybePlaceboPath, ObjectPath, PtrPath}
+use Rattle.classes.specs.Classes.{isSet, inClass, memberIn, pathLength}
+use Rattle.classes.specs.Paths.{samePath, std, inStd, dafny_runtime, inRuntime, runtimeMember, RcPath, ArcPath, BoxPath, MaybeUninitPath, MaybePlaceboPath, ObjectPath, PtrPath}
 
 -- ---- equal paths
 
@@ -162,6 +162,20 @@ class-object p = member-same (ascii "Object") p
 pub class-pointer : (p : Path Bytes) → inClass PtrClass p ≡ runtimeMember (memberIn PtrClass) p
 unfolding inClass memberIn PtrPath
 class-pointer p = member-same (ascii "Ptr") p
+
+-- a path of more or fewer names than a class asks for
+module _ (bound : ℕ) (ws : List ℕ) (name : ℕ → Bytes) (p : PathAt) (i : InsidePath bound ws p) where
+  pub class-count : (class : Class) → (p .count ≡ pathLength class → ⊥) → inClass class (pathOf ws name p) ≡ false
+  unfolding inClass pathLength RcPath ArcPath BoxPath MaybeUninitPath
+  class-count Counted h = rw (std-count bound ws name p i (ascii "rc") (ascii "Rc") h) (std-count bound ws name p i (ascii "sync") (ascii "Arc") h)
+  class-count Boxed h = std-count bound ws name p i (ascii "boxed") (ascii "Box") h
+  class-count Uninit h = std-count bound ws name p i (ascii "mem") (ascii "MaybeUninit") h
+  class-count Placebo h = class-placebo (pathOf ws name p) ∙ member-count bound ws name p i (memberIn Placebo) h
+  class-count ObjectClass h = class-object (pathOf ws name p) ∙ member-count bound ws name p i (memberIn ObjectClass) h
+  class-count PtrClass h = class-pointer (pathOf ws name p) ∙ member-count bound ws name p i (memberIn PtrClass) h
+  class-count ArrayClass h = member-count bound ws name p i _ h
+  class-count Collection h = member-count bound ws name p i _ h
+  class-count MapClass h = member-count bound ws name p i _ h
 
 -- ---- names that are not fixed
 

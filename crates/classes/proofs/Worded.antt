@@ -5,7 +5,7 @@ use mathlib.Core.Bool.{Bool, false}
 use mathlib.Core.List.{List}
 use lib.ListN.{length, getD}
 use Rattle.rast.specs.Bytes.{Bytes}
-use Rattle.encoding.specs.Tables.{nameBytes}
+use Rattle.encoding.specs.Tables.{nameBytes, nameCount}
 use Rattle.encoding.specs.Types.{pathOf, typeAt}
 use Rattle.encoding.proofs.TypeKinds.{type-kind}
 use Rattle.writing.specs.Written.{Readable}
@@ -14,8 +14,9 @@ use Rattle.trees.proofs.Nodes.{types-count}
 use Rattle.wrappers.specs.Asked.{Judges}
 use Rattle.wrappers.proofs.TypesIn.{apply-of}
 use Rattle.classes.specs.declared.Class.{Class}
-use Rattle.classes.specs.Classes.{inClass, arity, isOf}
-use Rattle.classes.proofs.Applying.{of-other, of-count, of-base, of-path}
+use Rattle.classes.specs.Classes.{inClass, arity, pathLength, isOf}
+use Rattle.classes.proofs.Applying.{of-other, of-count, of-base, of-no-path, of-path}
+use Rattle.classes.proofs.Paths.{class-count}
 
 module _ (ws pairs : List ℕ) (text : Bytes) (at : ℕ) (class : Class) where
   pub word-other : (getD ws at 0 ≡ 14 → ⊥) → Judges (isOf class) (typeAt ws pairs text at) false
@@ -34,6 +35,16 @@ module _ (ws pairs : List ℕ) (text : Bytes) (at : ℕ) (class : Class) where
       says = λ t n e.
           let a = apply-of ws pairs text at e k .1 in
           rw (a .made) (sym (of-base class (a .left) (a .right) λ c. h (sym (type-kind ws pairs text (at + 2) (a .reads)) ∙ c)));
+    }
+
+    -- the base is a path of more or fewer names
+    pub names-other : {m : ℕ} → m ≡ pathLength class → getD ws (at + 2) 0 ≡ 13 → (getD ws (at + 2 + 2) 0 ≡ m → ⊥) → Judges (isOf class) (typeAt ws pairs text at) false
+    names-other i h d = record {
+      says = λ t n e.
+          let a = apply-of ws pairs text at e k .1 in
+          let p = path-type ws pairs text (at + 2) (a .reads) h in
+          let c = class-count (nameCount pairs) ws (nameBytes pairs text) _ (p .own) class (λ z. d (z ∙ sym i)) in
+          rw (a .made, p .type) (sym (of-no-path class (pathOf ws (nameBytes pairs text) _) (a .right) c));
     }
 
     -- the base is a path

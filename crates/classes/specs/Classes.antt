@@ -51,6 +51,18 @@ arity ArrayClass = 1
 arity Collection = 1
 arity MapClass = 2
 
+-- how many names the paths of a class have
+unfoldable pub pathLength : Class → ℕ
+pathLength Counted = 3
+pathLength Boxed = 3
+pathLength Uninit = 3
+pathLength Placebo = 2
+pathLength ObjectClass = 2
+pathLength PtrClass = 2
+pathLength ArrayClass = 2
+pathLength Collection = 2
+pathLength MapClass = 2
+
 -- an application of a path of the class to so many arguments
 unfoldable pub isOf : Class → Ty Bytes → Bool
 isOf class t = applied (λ p ts. inClass class p and eqb (count ts) (arity class)) t

@@ -12,7 +12,7 @@ ghost use Rattle.writing.specs.Written.{Readable};
 ghost use Rattle.classes.specs.declared.Class.the-variants.{Counted};
 ghost use Rattle.wrappers.specs.Asked.{Judges};
 ghost use Rattle.classes.specs.Asked.{InRuntime, Finds, isFound};
-ghost use Rattle.classes.specs.Classes.{isSet, inClass, memberIn, arity, isOf, first};
+ghost use Rattle.classes.specs.Classes.{isSet, inClass, memberIn, arity, pathLength, isOf, first};
 ghost use Rattle.classes.specs.Paths.{samePath, inStd, runtimeMember};
 use encoding::Head;
 use encoding::HeadScan;
@@ -185,20 +185,32 @@ fn is_in_class(words: &[u32], pairs: &[u32], text: &[u8], class: Class, path: Pa
     }
 }
 
-// How many arguments a class asks for.
-fn arity_of(class: Class) -> u32
-    ensures { λ r. ⌜ r ≡ arity class ⌝ }
+// How many arguments an application has, and how many names its path has.
+struct Form {
+    arguments: u32,
+    names: u32,
+}
+
+fn of_form(arguments: u32, names: u32) -> Form
+    ensures { λ r. ⌜ (r .arguments ≡ arguments) × (r .names ≡ names) ⌝ }
+{
+    Form { arguments, names }
+}
+
+// The form of the applications of a class.
+fn form_of(class: Class) -> Form
+    ensures { λ r. ⌜ (r .arguments ≡ arity class) × (r .names ≡ pathLength class) ⌝ }
 {
     match class {
-        Class::Counted => 1,
-        Class::Boxed => 1,
-        Class::Uninit => 1,
-        Class::Placebo => 1,
-        Class::ObjectClass => 1,
-        Class::PtrClass => 1,
-        Class::ArrayClass => 1,
-        Class::Collection => 1,
-        Class::MapClass => 2,
+        Class::Counted => of_form(1, 3),
+        Class::Boxed => of_form(1, 3),
+        Class::Uninit => of_form(1, 3),
+        Class::Placebo => of_form(1, 2),
+        Class::ObjectClass => of_form(1, 2),
+        Class::PtrClass => of_form(1, 2),
+        Class::ArrayClass => of_form(1, 2),
+        Class::Collection => of_form(1, 2),
+        Class::MapClass => of_form(2, 2),
     }
 }
 
@@ -221,7 +233,7 @@ pub fn first_argument(words: &[u32], pairs: &[u32], text: &[u8], class: Class, a
     let Head::Apply(n) = head else {
         return Found::NoPart;
     };
-    if n != arity_of(class) {
+    if n != form_of(class).arguments {
         return Found::NoPart;
     }
     let HeadScan::Own { head: name, next } = encoding::scan_head(words, bound, base) else {
@@ -253,11 +265,15 @@ pub fn is_of(words: &[u32], pairs: &[u32], text: &[u8], class: Class, at: usize)
     if words[at] != APPLY {
         return false;
     }
-    if words[at + 1] != arity_of(class) {
+    let form = form_of(class);
+    if words[at + 1] != form.arguments {
         return false;
     }
     let base = at + 2;
     if words[base] != PATH {
+        return false;
+    }
+    if words[base + 2] != form.names {
         return false;
     }
     let path = PathAt {

@@ -1,4 +1,4 @@
-use Rattle.classes.proofs.Worded.{base-here, base-word-other, count-here, count-other, path-here, path-word, word-here, word-other}
+use Rattle.classes.proofs.Worded.{base-here, base-word-other, count-here, count-other, names-other, path-here, path-word, word-here, word-other}
 use native.Mathlib.Omega.{arith}
 use Rattle.classes.proofs.is_of.Statement.{statement}
 use borrow.Author.Needs.{needs}
@@ -19,93 +19,113 @@ returns c =
     let a = c .before .before .before .before .before .args in
     word-other (a .words .now) (a .pairs .now) (a .text .now) (a .at) (a .class) (c .if1 .taken)
 
+form-of-requires : tie.Need-form-of-requires
+form-of-requires c κs = search needs
+
 add-if2 : tie.Need-add-if2
 add-if2 c =
-    let a = c .before .before .before .before .before .args in
-    let h = count-here (a .words .now) (a .pairs .now) (a .text .now) (a .at) (c .before .before .before .before .before .pre .1) (c .if1 .left) in search needs
+    let a = c .before .before .before .before .before .before .args in
+    let h = count-here (a .words .now) (a .pairs .now) (a .text .now) (a .at) (c .before .before .before .before .before .before .pre .1) (c .before .if1 .left) in search needs
 
 mul-if2 : tie.Need-mul-if2
 mul-if2 c =
-    let a = c .before .before .before .before .before .args in
-    let h = count-here (a .words .now) (a .pairs .now) (a .text .now) (a .at) (c .before .before .before .before .before .pre .1) (c .if1 .left) in search needs
+    let a = c .before .before .before .before .before .before .args in
+    let h = count-here (a .words .now) (a .pairs .now) (a .text .now) (a .at) (c .before .before .before .before .before .before .pre .1) (c .before .if1 .left) in search needs
 
 shared-slice-read-if2 : tie.Need-shared-slice-read-if2
 shared-slice-read-if2 c =
-    let a = c .before .before .before .before .before .before .args in
-    count-here (a .words .now) (a .pairs .now) (a .text .now) (a .at) (c .before .before .before .before .before .before .pre .1) (c .before .if1 .left)
-
-arity-of-requires : tie.Need-arity-of-requires
-arity-of-requires c κs = search needs
+    let a = c .before .before .before .before .before .before .before .args in
+    count-here (a .words .now) (a .pairs .now) (a .text .now) (a .at) (c .before .before .before .before .before .before .before .pre .1) (c .before .before .if1 .left)
 
 returns-2 : tie.Need-returns-2
 returns-2 c =
-    let a = c .before .before .before .before .before .before .before .before .args in
-    count-other (a .words .now) (a .pairs .now) (a .text .now) (a .at) (a .class) (c .before .before .before .if1 .left) (c .before .arity-of .ensures) (c .if2 .taken)
+    let a = c .before .before .before .before .before .before .before .before .before .args in
+    count-other (a .words .now) (a .pairs .now) (a .text .now) (a .at) (a .class) (c .before .before .before .before .if1 .left) (c .before .before .before .form-of .ensures .0) (c .if2 .taken)
 
 add-base : tie.Need-add-base
 add-base c =
-    let a = c .before .before .before .before .before .before .before .before .args in
-    let h = base-here (a .words .now) (a .pairs .now) (a .text .now) (a .at) (c .before .before .before .before .before .before .before .before .pre .1) (c .before .before .before .if1 .left) in search needs
+    let a = c .before .before .before .before .before .before .before .before .before .args in
+    let h = base-here (a .words .now) (a .pairs .now) (a .text .now) (a .at) (c .before .before .before .before .before .before .before .before .before .pre .1) (c .before .before .before .before .if1 .left) in search needs
 
 mul-if3 : tie.Need-mul-if3
 mul-if3 c =
-    let a = c .before .before .before .before .before .before .before .before .args in
-    let h = base-here (a .words .now) (a .pairs .now) (a .text .now) (a .at) (c .before .before .before .before .before .before .before .before .pre .1) (c .before .before .before .if1 .left) in search needs
+    let a = c .before .before .before .before .before .before .before .before .before .args in
+    let h = base-here (a .words .now) (a .pairs .now) (a .text .now) (a .at) (c .before .before .before .before .before .before .before .before .before .pre .1) (c .before .before .before .before .if1 .left) in search needs
 
 shared-slice-read-if3 : tie.Need-shared-slice-read-if3
 shared-slice-read-if3 c =
-    let a = c .before .before .before .before .before .before .before .before .before .args in
-    base-here (a .words .now) (a .pairs .now) (a .text .now) (a .at) (c .before .before .before .before .before .before .before .before .before .pre .1) (c .before .before .before .before .if1 .left)
+    let a = c .before .before .before .before .before .before .before .before .before .before .args in
+    base-here (a .words .now) (a .pairs .now) (a .text .now) (a .at) (c .before .before .before .before .before .before .before .before .before .before .pre .1) (c .before .before .before .before .before .if1 .left)
 
 returns-3 : tie.Need-returns-3
 returns-3 c =
-    let a = c .before .before .before .before .before .before .before .before .before .before .args in
-    base-word-other (a .words .now) (a .pairs .now) (a .text .now) (a .at) (a .class) (c .before .before .before .before .before .if1 .left) (c .if3 .taken)
-
-add-t12 : tie.Need-add-t12
-add-t12 c =
-    let a = c .before .before .before .before .before .before .before .before .before .before .args in
-    let h = path-here (a .words .now) (a .pairs .now) (a .text .now) (a .at) (c .before .before .before .before .before .before .before .before .before .before .pre .1) (c .before .before .before .before .before .if1 .left) (c .if3 .left) .inside in search needs
-
-mul-t8 : tie.Need-mul-t8
-mul-t8 c =
-    let a = c .before .before .before .before .before .before .before .before .before .before .args in
-    let h = path-here (a .words .now) (a .pairs .now) (a .text .now) (a .at) (c .before .before .before .before .before .before .before .before .before .before .pre .1) (c .before .before .before .before .before .if1 .left) (c .if3 .left) .inside in search needs
-
-shared-slice-read-t14 : tie.Need-shared-slice-read-t14
-shared-slice-read-t14 c =
     let a = c .before .before .before .before .before .before .before .before .before .before .before .args in
-    omega (arith, path-here (a .words .now) (a .pairs .now) (a .text .now) (a .at) (c .before .before .before .before .before .before .before .before .before .before .before .pre .1) (c .before .before .before .before .before .before .if1 .left) (c .before .if3 .left) .inside)
+    base-word-other (a .words .now) (a .pairs .now) (a .text .now) (a .at) (a .class) (c .before .before .before .before .before .before .if1 .left) (c .if3 .taken)
 
-add-t17 : tie.Need-add-t17
-add-t17 c =
+add-if4 : tie.Need-add-if4
+add-if4 c =
     let a = c .before .before .before .before .before .before .before .before .before .before .before .args in
-    let h = path-here (a .words .now) (a .pairs .now) (a .text .now) (a .at) (c .before .before .before .before .before .before .before .before .before .before .before .pre .1) (c .before .before .before .before .before .before .if1 .left) (c .before .if3 .left) .inside in search needs
+    let h = path-here (a .words .now) (a .pairs .now) (a .text .now) (a .at) (c .before .before .before .before .before .before .before .before .before .before .before .pre .1) (c .before .before .before .before .before .before .if1 .left) (c .if3 .left) .inside in search needs
 
-add-t18 : tie.Need-add-t18
-add-t18 c =
+mul-if4 : tie.Need-mul-if4
+mul-if4 c =
     let a = c .before .before .before .before .before .before .before .before .before .before .before .args in
-    let h = path-here (a .words .now) (a .pairs .now) (a .text .now) (a .at) (c .before .before .before .before .before .before .before .before .before .before .before .pre .1) (c .before .before .before .before .before .before .if1 .left) (c .before .if3 .left) .inside in search needs
+    let h = path-here (a .words .now) (a .pairs .now) (a .text .now) (a .at) (c .before .before .before .before .before .before .before .before .before .before .before .pre .1) (c .before .before .before .before .before .before .if1 .left) (c .if3 .left) .inside in search needs
 
-mul-t19 : tie.Need-mul-t19
-mul-t19 c =
-    let a = c .before .before .before .before .before .before .before .before .before .before .before .args in
-    let h = path-here (a .words .now) (a .pairs .now) (a .text .now) (a .at) (c .before .before .before .before .before .before .before .before .before .before .before .pre .1) (c .before .before .before .before .before .before .if1 .left) (c .before .if3 .left) .inside in search needs
-
-shared-slice-read-t10 : tie.Need-shared-slice-read-t10
-shared-slice-read-t10 c =
+shared-slice-read-if4 : tie.Need-shared-slice-read-if4
+shared-slice-read-if4 c =
     let a = c .before .before .before .before .before .before .before .before .before .before .before .before .args in
-    path-here (a .words .now) (a .pairs .now) (a .text .now) (a .at) (c .before .before .before .before .before .before .before .before .before .before .before .before .pre .1) (c .before .before .before .before .before .before .before .if1 .left) (c .before .before .if3 .left) .inside
-
-is-in-class-requires : tie.Need-is-in-class-requires
-is-in-class-requires c κs =
-    let a = c .before .before .before .before .before .before .before .before .before .before .before .before .args in
-    (path-here (a .words .now) (a .pairs .now) (a .text .now) (a .at) (c .before .before .before .before .before .before .before .before .before .before .before .before .pre .1) (c .before .before .before .before .before .before .before .if1 .left) (c .before .before .if3 .left) .own, c .before .before .before .before .before .before .before .before .before .before .before .before .pre .0)
+    omega (arith, path-here (a .words .now) (a .pairs .now) (a .text .now) (a .at) (c .before .before .before .before .before .before .before .before .before .before .before .before .pre .1) (c .before .before .before .before .before .before .before .if1 .left) (c .before .if3 .left) .inside)
 
 returns-4 : tie.Need-returns-4
 returns-4 c =
-    let a = c .before .before .before .before .before .before .before .before .before .before .before .before .before .args in
-    path-word (a .words .now) (a .pairs .now) (a .text .now) (a .at) (a .class) (c .before .before .before .before .before .before .before .before .if1 .left) (c .before .before .before .before .before .before .arity-of .ensures) (c .before .before .before .before .before .if2 .left) (c .before .before .before .if3 .left) (c .is-in-class .ensures)
+    let a = c .before .before .before .before .before .before .before .before .before .before .before .before .before .before .args in
+    names-other (a .words .now) (a .pairs .now) (a .text .now) (a .at) (a .class) (c .before .before .before .before .before .before .before .before .before .if1 .left) (c .before .before .before .before .before .before .before .before .form-of .ensures .1) (c .before .before .before .if3 .left) (c .if4 .taken)
+
+add-t13 : tie.Need-add-t13
+add-t13 c =
+    let a = c .before .before .before .before .before .before .before .before .before .before .before .before .before .before .args in
+    let h = path-here (a .words .now) (a .pairs .now) (a .text .now) (a .at) (c .before .before .before .before .before .before .before .before .before .before .before .before .before .before .pre .1) (c .before .before .before .before .before .before .before .before .before .if1 .left) (c .before .before .before .if3 .left) .inside in search needs
+
+mul-t9 : tie.Need-mul-t9
+mul-t9 c =
+    let a = c .before .before .before .before .before .before .before .before .before .before .before .before .before .before .args in
+    let h = path-here (a .words .now) (a .pairs .now) (a .text .now) (a .at) (c .before .before .before .before .before .before .before .before .before .before .before .before .before .before .pre .1) (c .before .before .before .before .before .before .before .before .before .if1 .left) (c .before .before .before .if3 .left) .inside in search needs
+
+shared-slice-read-t11 : tie.Need-shared-slice-read-t11
+shared-slice-read-t11 c =
+    let a = c .before .before .before .before .before .before .before .before .before .before .before .before .before .before .before .args in
+    omega (arith, path-here (a .words .now) (a .pairs .now) (a .text .now) (a .at) (c .before .before .before .before .before .before .before .before .before .before .before .before .before .before .before .pre .1) (c .before .before .before .before .before .before .before .before .before .before .if1 .left) (c .before .before .before .before .if3 .left) .inside)
+
+add-t18 : tie.Need-add-t18
+add-t18 c =
+    let a = c .before .before .before .before .before .before .before .before .before .before .before .before .before .before .before .args in
+    let h = path-here (a .words .now) (a .pairs .now) (a .text .now) (a .at) (c .before .before .before .before .before .before .before .before .before .before .before .before .before .before .before .pre .1) (c .before .before .before .before .before .before .before .before .before .before .if1 .left) (c .before .before .before .before .if3 .left) .inside in search needs
+
+add-t19 : tie.Need-add-t19
+add-t19 c =
+    let a = c .before .before .before .before .before .before .before .before .before .before .before .before .before .before .before .args in
+    let h = path-here (a .words .now) (a .pairs .now) (a .text .now) (a .at) (c .before .before .before .before .before .before .before .before .before .before .before .before .before .before .before .pre .1) (c .before .before .before .before .before .before .before .before .before .before .if1 .left) (c .before .before .before .before .if3 .left) .inside in search needs
+
+mul-t20 : tie.Need-mul-t20
+mul-t20 c =
+    let a = c .before .before .before .before .before .before .before .before .before .before .before .before .before .before .before .args in
+    let h = path-here (a .words .now) (a .pairs .now) (a .text .now) (a .at) (c .before .before .before .before .before .before .before .before .before .before .before .before .before .before .before .pre .1) (c .before .before .before .before .before .before .before .before .before .before .if1 .left) (c .before .before .before .before .if3 .left) .inside in search needs
+
+shared-slice-read-t22 : tie.Need-shared-slice-read-t22
+shared-slice-read-t22 c =
+    let a = c .before .before .before .before .before .before .before .before .before .before .before .before .before .before .before .before .args in
+    omega (arith, path-here (a .words .now) (a .pairs .now) (a .text .now) (a .at) (c .before .before .before .before .before .before .before .before .before .before .before .before .before .before .before .before .pre .1) (c .before .before .before .before .before .before .before .before .before .before .before .if1 .left) (c .before .before .before .before .before .if3 .left) .inside)
+
+is-in-class-requires : tie.Need-is-in-class-requires
+is-in-class-requires c κs =
+    let a = c .before .before .before .before .before .before .before .before .before .before .before .before .before .before .before .before .args in
+    (path-here (a .words .now) (a .pairs .now) (a .text .now) (a .at) (c .before .before .before .before .before .before .before .before .before .before .before .before .before .before .before .before .pre .1) (c .before .before .before .before .before .before .before .before .before .before .before .if1 .left) (c .before .before .before .before .before .if3 .left) .own, c .before .before .before .before .before .before .before .before .before .before .before .before .before .before .before .before .pre .0)
+
+returns-5 : tie.Need-returns-5
+returns-5 c =
+    let a = c .before .before .before .before .before .before .before .before .before .before .before .before .before .before .before .before .before .args in
+    path-word (a .words .now) (a .pairs .now) (a .text .now) (a .at) (a .class) (c .before .before .before .before .before .before .before .before .before .before .before .before .if1 .left) (c .before .before .before .before .before .before .before .before .before .before .before .form-of .ensures .0) (c .before .before .before .before .before .before .before .before .if2 .left) (c .before .before .before .before .before .before .if3 .left) (c .is-in-class .ensures)
 
 pub is-of-spec : {M : Type 1} → statement M
 is-of-spec =
@@ -114,21 +134,25 @@ is-of-spec =
     mul-if1
     shared-slice-read-if1
     returns
+    form-of-requires
     add-if2
     mul-if2
     shared-slice-read-if2
-    arity-of-requires
     returns-2
     add-base
     mul-if3
     shared-slice-read-if3
     returns-3
-    add-t12
-    mul-t8
-    shared-slice-read-t14
-    add-t17
+    add-if4
+    mul-if4
+    shared-slice-read-if4
+    returns-4
+    add-t13
+    mul-t9
+    shared-slice-read-t11
     add-t18
-    mul-t19
-    shared-slice-read-t10
+    add-t19
+    mul-t20
+    shared-slice-read-t22
     is-in-class-requires
-    returns-4)
+    returns-5)
