@@ -8,7 +8,6 @@ use lib.ListN.{length, length-map}
 use Rattle.rast.specs.Bytes.{Bytes}
 use Rattle.rast.specs.Tree.{Ty, Tys, nil, cons}
 use Rattle.rast.specs.Declaration.{Use, Declaration, UseDecl}
-use Rattle.output.specs.Wrote.{Wrote}
 use Rattle.output.proofs.Laws.{wrote-nothing, wrote-then, wrote-as, wrote-kept}
 use Rattle.encoding.specs.declared.Refusal.{Refusal}
 use Rattle.encoding.specs.Reading.{got}

@@ -76,6 +76,10 @@ pub record Going (ws pairs : List ℕ) (text : Bytes) (w₀ : Walk) (o : List �
   pub counted : p ≤ w .place
   pub kept : length o′ ≡ length o
 
+-- nothing is left to the walk
+abbrev pub Done : Walk → Type 0
+Done w = (w .types ≡ 0) × (w .parameters ≡ 0) × (w .after ≡ NoMore) × (w .fields ≡ 0) × (w .cases ≡ 0)
+
 -- its list was laid down
 pub record Entered (ws pairs : List ℕ) (text : Bytes) (w : Walk) (o o′ : List ℕ) (p : ℕ) : Type 0 where
   pub pieces : List (Piece Bytes)

@@ -1,5 +1,6 @@
 // Visit lists: the positions of the types that `Type.Fold` and the visitor of declarations go through, in their order.
 ghost use mathlib.Core.Path.{_≡_};
+ghost use mathlib.Core.Bool.{true};
 ghost use mathlib.Core.List.{[], _∷_};
 ghost use Prim.Native.Nat.{_≤_, _<_, _^_};
 ghost use lib.ListN.{length};
@@ -8,7 +9,7 @@ ghost use Rattle.encoding.specs.Tables.{Good, nameCount};
 ghost use Rattle.encoding.specs.Declarations.{declarationAt};
 ghost use Rattle.writing.specs.Written.{Readable};
 ghost use Rattle.visits.specs.Visited.{typeVisits, declarationVisits};
-ghost use Rattle.visits.specs.Calls.{filled, Due, Visited, enteredAfter, enteredWalk, Ahead, Going, Entered, AllVisited, Fills, wholeVisits};
+ghost use Rattle.visits.specs.Calls.{filled, Due, Visited, enteredAfter, enteredWalk, Ahead, Going, Done, Entered, AllVisited, Fills, wholeVisits};
 ghost use Rattle.pieces.specs.Ends.{heldAt};
 ghost use Rattle.pieces.specs.Walks.{FieldNext};
 ghost use Rattle.pieces.specs.declared.Whole.the-variants.{AType, ADeclaration};
@@ -173,6 +174,31 @@ fn visit_fields(
     Reached { walk: w, pos: p }
 }
 
+// Whether nothing is left to a walk. A struct without parameters needs no further step.
+fn is_done(walk: Walk) -> bool
+    ensures { λ r. ⌜ (r ≡ true → Done walk) ⌝ }
+{
+    let after = walk.after;
+    if walk.cases != 0 {
+        return false;
+    }
+    if walk.fields != 0 {
+        return false;
+    }
+    if walk.types != 0 {
+        return false;
+    }
+    if walk.parameters != 0 {
+        return false;
+    }
+    match after {
+        After::FieldList => false,
+        After::CaseList => false,
+        After::OneType => false,
+        After::NoMore => true,
+    }
+}
+
 // The types that a walk comes to, which were accepted. The answer is how many positions there are.
 fn visit_walk(
     words: &[u32],
@@ -193,6 +219,9 @@ fn visit_walk(
             w = behind.walk;
             p = behind.pos;
             continue;
+        }
+        if is_done(w) {
+            return p;
         }
         match pieces::next_piece(words, bound, w) {
             Next::OwnWords(next) => {

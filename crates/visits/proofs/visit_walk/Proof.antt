@@ -1,4 +1,5 @@
 use Prim.Native.Nat.{_-_}
+use Rattle.pieces.specs.Walks.{end}
 use Rattle.pieces.proofs.Passes.{stepped}
 use Rattle.visits.specs.Calls.{Going}
 use Rattle.visits.proofs.Entering.{going-ahead, going-due, going-end, going-halt, going-on, going-own, going-start, going-type}
@@ -36,6 +37,18 @@ loop-again c =
     let a = c .before .before .before .before .before .before .before .before .before .before .before .before .args in
     going-on (a .words .now) (a .pairs .now) (a .text .now) (a .walk) (a .out .now) 0 (c .before .before .before .before .before .before .before .loop .inv) (c .before .before .before .visit-fields .ensures .0)
 
+is-done-requires : tie.Need-is-done-requires Inv-loop μ-loop
+is-done-requires c κs = search needs
+
+same-length : tie.Need-same-length Inv-loop μ-loop
+same-length c = c .before .before .before .before .loop .inv .kept
+
+returns : tie.Need-returns Inv-loop μ-loop
+returns c =
+    let a = c .before .before .before .before .before .before .before .before .before .args in
+    let d = c .before .is-done .ensures (c .if2 .taken) in
+    going-end (a .words .now) (a .pairs .now) (a .text .now) (a .walk) (a .out .now) 0 (c .before .before .before .before .loop .inv) (end (d .0) (d .1) (d .2) (d .3) (d .4))
+
 next-piece-requires : tie.Need-next-piece-requires Inv-loop μ-loop
 next-piece-requires c κs = search needs
 
@@ -44,58 +57,58 @@ enum-known-next c = search needs
 
 loop-less-2 : tie.Need-loop-less-2 Inv-loop μ-loop
 loop-less-2 c =
-    let a = c .before .before .before .before .before .before .before .before .before .before .before .args in
-    let g = going-own (a .words .now) (a .pairs .now) (a .text .now) (a .walk) (a .out .now) 0 (c .before .before .before .before .before .before .loop .inv) (stepped (a .words .now) (a .pairs .now) (a .text .now) (c .before .before .before .before .before .before .before .before .before .before .before .pre .0) (c .before .next .given .1) (c .before .before .before .next-piece .ensures)) in
+    let a = c .before .before .before .before .before .before .before .before .before .before .before .before .before .args in
+    let g = going-own (a .words .now) (a .pairs .now) (a .text .now) (a .walk) (a .out .now) 0 (c .before .before .before .before .before .before .before .before .loop .inv) (stepped (a .words .now) (a .pairs .now) (a .text .now) (c .before .before .before .before .before .before .before .before .before .before .before .before .before .pre .0) (c .before .next .given .1) (c .before .before .before .next-piece .ensures)) in
     omega (arith, g .further, g .next .inside)
 
 loop-again-2 : tie.Need-loop-again-2 Inv-loop μ-loop
 loop-again-2 c =
-    let a = c .before .before .before .before .before .before .before .before .before .before .before .args in
-    going-own (a .words .now) (a .pairs .now) (a .text .now) (a .walk) (a .out .now) 0 (c .before .before .before .before .before .before .loop .inv) (stepped (a .words .now) (a .pairs .now) (a .text .now) (c .before .before .before .before .before .before .before .before .before .before .before .pre .0) (c .before .next .given .1) (c .before .before .before .next-piece .ensures)) .next
+    let a = c .before .before .before .before .before .before .before .before .before .before .before .before .before .args in
+    going-own (a .words .now) (a .pairs .now) (a .text .now) (a .walk) (a .out .now) 0 (c .before .before .before .before .before .before .before .before .loop .inv) (stepped (a .words .now) (a .pairs .now) (a .text .now) (c .before .before .before .before .before .before .before .before .before .before .before .before .before .pre .0) (c .before .next .given .1) (c .before .before .before .next-piece .ensures)) .next
 
 enum-known-next-2 : tie.Need-enum-known-next-2 Inv-loop μ-loop
 enum-known-next-2 c = search needs
 
 visit-types-requires : tie.Need-visit-types-requires Inv-loop μ-loop
 visit-types-requires c κs =
-    let a = c .before .before .before .before .before .before .before .before .before .before .before .before .args in
-    going-due (a .words .now) (a .pairs .now) (a .text .now) (a .walk) (a .out .now) 0 (c .before .before .before .before .before .before .before .loop .inv) (stepped (a .words .now) (a .pairs .now) (a .text .now) (c .before .before .before .before .before .before .before .before .before .before .before .before .pre .0) (c .before .before .next2 .given .1) (c .before .before .before .before .next-piece .ensures))
+    let a = c .before .before .before .before .before .before .before .before .before .before .before .before .before .before .args in
+    going-due (a .words .now) (a .pairs .now) (a .text .now) (a .walk) (a .out .now) 0 (c .before .before .before .before .before .before .before .before .before .loop .inv) (stepped (a .words .now) (a .pairs .now) (a .text .now) (c .before .before .before .before .before .before .before .before .before .before .before .before .before .before .pre .0) (c .before .before .next2 .given .1) (c .before .before .before .before .next-piece .ensures))
 
 move-to-requires : tie.Need-move-to-requires Inv-loop μ-loop
 move-to-requires c κs = search needs
 
 loop-less-3 : tie.Need-loop-less-3 Inv-loop μ-loop
 loop-less-3 c =
-    let a = c .before .before .before .before .before .before .before .before .before .before .before .before .before .before .before .before .args in
-    let g = going-type (a .words .now) (a .pairs .now) (a .text .now) (a .walk) (a .out .now) 0 (c .before .before .before .before .before .before .before .before .before .before .before .loop .inv) (stepped (a .words .now) (a .pairs .now) (a .text .now) (c .before .before .before .before .before .before .before .before .before .before .before .before .before .before .before .before .pre .0) (c .before .before .before .before .before .before .next2 .given .1) (c .before .before .before .before .before .before .before .before .next-piece .ensures)) (c .before .before .before .visit-types .ensures) in
+    let a = c .before .before .before .before .before .before .before .before .before .before .before .before .before .before .before .before .before .before .args in
+    let g = going-type (a .words .now) (a .pairs .now) (a .text .now) (a .walk) (a .out .now) 0 (c .before .before .before .before .before .before .before .before .before .before .before .before .before .loop .inv) (stepped (a .words .now) (a .pairs .now) (a .text .now) (c .before .before .before .before .before .before .before .before .before .before .before .before .before .before .before .before .before .before .pre .0) (c .before .before .before .before .before .before .next2 .given .1) (c .before .before .before .before .before .before .before .before .next-piece .ensures)) (c .before .before .before .visit-types .ensures) in
     rw (c .move-to .ensures) (omega (arith, g .further, g .next .inside))
 
 loop-again-3 : tie.Need-loop-again-3 Inv-loop μ-loop
 loop-again-3 c =
-    let a = c .before .before .before .before .before .before .before .before .before .before .before .before .before .before .before .before .args in
-    rw (c .move-to .ensures) (going-type (a .words .now) (a .pairs .now) (a .text .now) (a .walk) (a .out .now) 0 (c .before .before .before .before .before .before .before .before .before .before .before .loop .inv) (stepped (a .words .now) (a .pairs .now) (a .text .now) (c .before .before .before .before .before .before .before .before .before .before .before .before .before .before .before .before .pre .0) (c .before .before .before .before .before .before .next2 .given .1) (c .before .before .before .before .before .before .before .before .next-piece .ensures)) (c .before .before .before .visit-types .ensures) .next)
+    let a = c .before .before .before .before .before .before .before .before .before .before .before .before .before .before .before .before .before .before .args in
+    rw (c .move-to .ensures) (going-type (a .words .now) (a .pairs .now) (a .text .now) (a .walk) (a .out .now) 0 (c .before .before .before .before .before .before .before .before .before .before .before .before .before .loop .inv) (stepped (a .words .now) (a .pairs .now) (a .text .now) (c .before .before .before .before .before .before .before .before .before .before .before .before .before .before .before .before .before .before .pre .0) (c .before .before .before .before .before .before .next2 .given .1) (c .before .before .before .before .before .before .before .before .next-piece .ensures)) (c .before .before .before .visit-types .ensures) .next)
 
 enum-told : tie.Need-enum-told Inv-loop μ-loop
 enum-told c = search needs
 
-same-length : tie.Need-same-length Inv-loop μ-loop
-same-length c = c .before .before .before .before .before .loop .inv .kept
+same-length-2 : tie.Need-same-length-2 Inv-loop μ-loop
+same-length-2 c = c .before .before .before .before .before .before .before .loop .inv .kept
 
-returns : tie.Need-returns Inv-loop μ-loop
-returns c =
-    let a = c .before .before .before .before .before .before .before .before .before .before .args in
-    going-end (a .words .now) (a .pairs .now) (a .text .now) (a .walk) (a .out .now) 0 (c .before .before .before .before .before .loop .inv) (stepped (a .words .now) (a .pairs .now) (a .text .now) (c .before .before .before .before .before .before .before .before .before .before .pre .0) (c .enum-told .given .1) (c .before .before .next-piece .ensures))
+returns-2 : tie.Need-returns-2 Inv-loop μ-loop
+returns-2 c =
+    let a = c .before .before .before .before .before .before .before .before .before .before .before .before .args in
+    going-end (a .words .now) (a .pairs .now) (a .text .now) (a .walk) (a .out .now) 0 (c .before .before .before .before .before .before .before .loop .inv) (stepped (a .words .now) (a .pairs .now) (a .text .now) (c .before .before .before .before .before .before .before .before .before .before .before .before .pre .0) (c .enum-told .given .1) (c .before .before .next-piece .ensures))
 
 enum-told-2 : tie.Need-enum-told-2 Inv-loop μ-loop
 enum-told-2 c = search needs
 
-same-length-2 : tie.Need-same-length-2 Inv-loop μ-loop
-same-length-2 c = c .before .before .before .before .before .loop .inv .kept
+same-length-3 : tie.Need-same-length-3 Inv-loop μ-loop
+same-length-3 c = c .before .before .before .before .before .before .before .loop .inv .kept
 
-returns-2 : tie.Need-returns-2 Inv-loop μ-loop
-returns-2 c =
-    let a = c .before .before .before .before .before .before .before .before .before .before .args in
-    absurd (going-halt (a .words .now) (a .pairs .now) (a .text .now) (a .walk) (a .out .now) 0 (c .before .before .before .before .before .loop .inv) (stepped (a .words .now) (a .pairs .now) (a .text .now) (c .before .before .before .before .before .before .before .before .before .before .pre .0) (c .enum-told2 .given .1) (c .before .before .next-piece .ensures)))
+returns-3 : tie.Need-returns-3 Inv-loop μ-loop
+returns-3 c =
+    let a = c .before .before .before .before .before .before .before .before .before .before .before .before .args in
+    absurd (going-halt (a .words .now) (a .pairs .now) (a .text .now) (a .walk) (a .out .now) 0 (c .before .before .before .before .before .before .before .loop .inv) (stepped (a .words .now) (a .pairs .now) (a .text .now) (c .before .before .before .before .before .before .before .before .before .before .before .before .pre .0) (c .enum-told2 .given .1) (c .before .before .next-piece .ensures)))
 
 pub visit-walk-spec : {M : Type 1} → statement M
 visit-walk-spec =
@@ -108,6 +121,9 @@ visit-walk-spec =
     visit-fields-requires
     loop-less
     loop-again
+    is-done-requires
+    same-length
+    returns
     next-piece-requires
     enum-known-next
     loop-less-2
@@ -118,8 +134,8 @@ visit-walk-spec =
     loop-less-3
     loop-again-3
     enum-told
-    same-length
-    returns
-    enum-told-2
     same-length-2
-    returns-2)
+    returns-2
+    enum-told-2
+    same-length-3
+    returns-3)
