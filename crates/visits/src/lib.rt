@@ -96,8 +96,7 @@ fn visit_type(
     let mut p = pos;
     while 0 < left {
         if words[place] == SYNONYM {
-            let all = words;
-            let rest = visit_types(all, pairs, text, place, left, out, p);
+            let rest = visit_types(words, pairs, text, place, left, out, p);
             return Spot {
                 next: rest.next,
                 pos: rest.pos,
@@ -233,12 +232,8 @@ fn visit_walk(
                 w = pieces::move_to(next, spot.next);
                 p = spot.pos;
             }
-            Next::Ended => {
-                return p;
-            }
-            Next::Halted(_) => {
-                return p;
-            }
+            Next::Ended => return p,
+            Next::Halted(_) => return p,
         }
     }
 }
