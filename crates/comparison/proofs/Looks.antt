@@ -17,7 +17,7 @@ use Rattle.comparison.specs.declared.Due.{Due}
 use Rattle.comparison.specs.declared.Due.the-variants.{Kind, Exact, Sized, Root, Count, Names}
 use Rattle.comparison.specs.declared.Look.{Look}
 use Rattle.comparison.specs.declared.Look.the-variants.{Same, Apart, Unclear}
-use Rattle.comparison.specs.Runs.{after, agrees, sameRuns}
+use Rattle.comparison.specs.Runs.{after, afterKind, agrees, sameRuns}
 use Rattle.comparison.specs.Looks.{apart, alike, looks, toldApart, mayAgree}
 use Rattle.comparison.proofs.Steps.{same-self, fixed-apart, take-word}
 
@@ -91,42 +91,56 @@ agrees-self name Root x = eq-eqb x x refl
 agrees-self name Count x = eq-eqb x x refl
 agrees-self name (Names n) x = same-self (name x)
 
-module _ (name : ℕ → Bytes) (x y : ℕ) where
-  pub may-self : x ≡ y → true ≡ mayAgree name x y
+-- a size is due behind a kind 22 only
+pick-unsized : (t : Bool) {d f : Due} → (d ≡ Sized → ⊥) → (f ≡ Sized → ⊥) → pick t d f ≡ Sized → ⊥
+pick-unsized true h k e = h e
+pick-unsized false h k e = k e
+
+unsized : (due : Due) (x : ℕ) → (x ≡ 22 → ⊥) → after due x ≡ Sized → ⊥
+unfolding after afterKind
+unsized Kind x d =
+    pick-unsized (eqb x 12) (λ e. impossible (cc)) (pick-unsized (eqb x 13) (λ e. impossible (cc)) (pick-unsized (eqb x 14) (λ e. impossible (cc))
+    (pick-unsized (eqb x 19) (λ e. impossible (cc)) (pick-unsized (eqb x 20) (λ e. impossible (cc)) (λ e. pick-unsized (eqb x 24) (λ f. impossible (cc)) (λ f. impossible (cc)) (rw (ne-eqb x 22 d) at e))))))
+unsized Exact x d = λ e. impossible (cc)
+unsized Sized x d = λ e. impossible (cc)
+unsized Root x d = λ e. impossible (cc)
+unsized Count x d = pick-unsized (ltb 0 x) (λ e. impossible (cc)) (λ e. impossible (cc))
+unsized (Names n) x d = pick-unsized (ltb 1 n) (λ e. impossible (cc)) (λ e. impossible (cc))
+
+module _ (name : ℕ → Bytes) (b x y : ℕ) where
+  pub may-size : b ≡ 22 → true ≡ mayAgree name b x y
   unfolding mayAgree
-  may-self e = rw (eq-eqb x y e) refl
+  may-size e = rw (eq-eqb b 22 e) refl
 
-  module _ (d : x ≡ y → ⊥) {r : Bool} (e : r ≡ same (name x) (name y)) where
-    pub may-named : r ≡ true → true ≡ mayAgree name x y
-    unfolding mayAgree
-    may-named k = rw (ne-eqb x y d, sym e, k) refl
-
-    pub may-sized : {b : Bool} → r ≡ false → b ≡ agrees name Sized x y → b ≡ mayAgree name x y
-    unfolding mayAgree
-    may-sized k f = rw (ne-eqb x y d, sym e, k) f
+  pub may-name : {r : Bool} → (b ≡ 22 → ⊥) → r ≡ same (name x) (name y) → r ≡ mayAgree name b x y
+  unfolding mayAgree
+  may-name d e = rw (ne-eqb b 22 d) e
 
   record Parts : Type 0 where
+    sizeless : b ≡ 22 → ⊥
     other : x ≡ y → ⊥
     names : same (name x) (name y) ≡ false
-    sizes : agrees name Sized x y ≡ false
 
-  parts : mayAgree name x y ≡ false → Parts
-  unfolding mayAgree
-  parts e = go (ℕ-discrete x y) (same (name x) (name y)) refl
+  parts : mayAgree name b x y ≡ false → Parts
+  parts e = go (ℕ-discrete b 22)
     where
-      go : Dec (x ≡ y) → (b : Bool) → same (name x) (name y) ≡ b → Parts
-      go (yes d) b k = impossible (let f = may-self d in cc)
-      go (no d) true k = impossible (let f = may-named d refl k in cc)
-      go (no d) false k = record { other = d; names = k; sizes = may-sized d refl k refl ∙ e }
+      go : Dec (b ≡ 22) → Parts
+      go (yes d) = impossible (let f = may-size d in cc)
+      go (no d) =
+          let n : same (name x) (name y) ≡ false = may-name d refl ∙ e in
+          record { sizeless = d; other = λ i. impossible (let f = same-self (name y) in let g : same (name y) (name y) ≡ false = rw i at n in cc); names = n }
 
-  pub may-not : mayAgree name x y ≡ false → (due : Due) → agrees name due x y ≡ false
+  pub may-not : mayAgree name b x y ≡ false → (due : Due) → agrees name (after due b) x y ≡ false
   unfolding agrees
-  may-not e Kind = ne-eqb x y (parts e .other)
-  may-not e Exact = ne-eqb x y (parts e .other)
-  may-not e Sized = parts e .sizes
-  may-not e Root = ne-eqb x y (parts e .other)
-  may-not e Count = ne-eqb x y (parts e .other)
-  may-not e (Names n) = parts e .names
+  may-not e due = go (after due b) (unsized due b (parts e .sizeless))
+    where
+      go : (d : Due) → (d ≡ Sized → ⊥) → agrees name d x y ≡ false
+      go Kind h = ne-eqb x y (parts e .other)
+      go Exact h = ne-eqb x y (parts e .other)
+      go Sized h = absurd (h refl)
+      go Root h = ne-eqb x y (parts e .other)
+      go Count h = ne-eqb x y (parts e .other)
+      go (Names n) h = parts e .names
 
 -- ---- two runs
 

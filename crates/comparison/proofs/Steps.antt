@@ -84,6 +84,11 @@ module _ (name : ℕ → Bytes) (due : Due) (a b : List ℕ) (i j left : ℕ) (h
       ≡ sameRuns name (after due (getD a i 0)) (take (left - 1) (drop (i + 1) a)) (take (left - 1) (drop (j + 1) b))
   runs-on e = runs-more ∙ and-yes _ e
 
+  -- those behind them are not the same
+  pub runs-behind : sameRuns name (after due (getD a i 0)) (take (left - 1) (drop (i + 1) a)) (take (left - 1) (drop (j + 1) b)) ≡ false
+      → sameRuns name due (take left (drop i a)) (take left (drop j b)) ≡ false
+  runs-behind e = runs-more ∙ rw e (and-false (agrees name due (getD a i 0) (getD b j 0)))
+
 pub runs-none : (name : ℕ → Bytes) (due : Due) (a b : List ℕ) (i j left : ℕ) → left ≡ 0 → sameRuns name due (take left (drop i a)) (take left (drop j b)) ≡ true
 unfolding sameRuns
 runs-none name due a b i j left e = rw e refl
@@ -111,4 +116,20 @@ module _ (name : ℕ → Bytes) (a b : List ℕ) where
       let q : i + 1 + k ≡ i + suc k = omega arith in
       let r : j + 1 + k ≡ j + suc k = omega arith in
       let g = runs-later k (i + 1) (j + 1) (left - 1) (omega (arith, h)) (omega (arith, h, l)) (omega (arith, h, m)) (λ d. rw (p, q, r) (f d)) (after due (getD a i 0)) in
-      runs-more name due a b i j left (omega (arith, h, l)) (omega (arith, h, m)) (omega (arith, h)) ∙ rw g (and-false (agrees name due (getD a i 0) (getD b j 0)))
+      runs-behind name due a b i j left (omega (arith, h, l)) (omega (arith, h, m)) (omega (arith, h)) g
+
+  -- and so are runs whose k-th words never agree behind the word before them
+  pub runs-differ : (k i j left : ℕ) → 0 < k → k < left → i + left ≤ length a → j + left ≤ length b
+      → ((due : Due) → agrees name (after due (getD a (i + k - 1) 0)) (getD a (i + k) 0) (getD b (j + k) 0) ≡ false)
+      → (due : Due) → sameRuns name due (take left (drop i a)) (take left (drop j b)) ≡ false
+  runs-differ zero i j left s h l m f due = absurd (let z : ⊥ = omega arith in z)
+  runs-differ (suc zero) i j left s h l m f due =
+      let z : i + 1 - 1 ≡ i = omega arith in
+      let g : agrees name (after due (getD a i 0)) (getD a (i + 1) 0) (getD b (j + 1) 0) ≡ false = rw z at (f due) in
+      runs-behind name due a b i j left (omega (arith, h, l)) (omega (arith, h, m)) (omega (arith, h))
+      (runs-stop name (after due (getD a i 0)) a b (i + 1) (j + 1) (left - 1) (omega (arith, h, l)) (omega (arith, h, m)) (omega (arith, h)) g)
+  runs-differ (suc (suc k)) i j left s h l m f due =
+      let p : i + 1 + suc k ≡ i + suc (suc k) = omega arith in
+      let q : j + 1 + suc k ≡ j + suc (suc k) = omega arith in
+      runs-behind name due a b i j left (omega (arith, h, l)) (omega (arith, h, m)) (omega (arith, h))
+      (runs-differ (suc k) (i + 1) (j + 1) (left - 1) (omega arith) (omega (arith, h)) (omega (arith, h, l)) (omega (arith, h, m)) (λ d. rw (p, q) (f d)) (after due (getD a i 0)))

@@ -5,10 +5,8 @@ use mathlib.Core.List.{List, [], _∷_}
 use lib.Dec.{eqb, ltb}
 use Rattle.rast.specs.Bytes.{Bytes, same}
 use Rattle.encoding.specs.Refusals.{pick}
-use Rattle.comparison.specs.declared.Due.the-variants.{Sized}
 use Rattle.comparison.specs.declared.Look.{Look}
 use Rattle.comparison.specs.declared.Look.the-variants.{Same, Apart, Unclear}
-use Rattle.comparison.specs.Runs.{agrees}
 
 -- different words that never agree
 unfoldable pub apart : ℕ → ℕ → Bool
@@ -28,6 +26,6 @@ toldApart Same = false
 toldApart Apart = true
 toldApart Unclear = false
 
--- words that agree where something is due: as they are, as names, or as sizes
-unfoldable pub mayAgree : (ℕ → Bytes) → ℕ → ℕ → Bool
-mayAgree name x y = pick (eqb x y) true (pick (same (name x) (name y)) true (agrees name Sized x y))
+-- words that agree behind another where something is due: as they are or as names; behind 22, where sizes stand, any
+unfoldable pub mayAgree : (ℕ → Bytes) → ℕ → ℕ → ℕ → Bool
+mayAgree name before x y = pick (eqb before 22) true (same (name x) (name y))

@@ -222,18 +222,30 @@ fn equal_front(a: &[u32], start: usize, b: &[u32], from: usize, count: usize) ->
     count
 }
 
-// Whether two words may agree: as they are, as names or as sizes.
-fn may_agree(pairs: &[u32], text: &[u8], x: u32, y: u32) -> bool
+// How many bytes a name has; a number past the table stands for none.
+fn name_size(pairs: &[u32], text: &[u8], name: u32) -> usize
     requires { ⌜ Good (now pairs) (now text) ⌝ }
-    ensures { λ r. ⌜ r ≡ mayAgree (nameBytes (now (pairs .entry)) (now (text .entry))) x y ⌝ }
+    ensures { λ r. ⌜ r ≡ length (nameBytes (now (pairs .entry)) (now (text .entry)) name) ⌝ }
 {
-    if x == y {
+    if encoding::name_count(pairs) <= name as usize {
+        return 0;
+    }
+    encoding::name_length(pairs, name)
+}
+
+// Whether two words behind the word `before` may agree: as they are or as names, whose lengths are compared first. A size stands behind 22 only, and what stands
+// there is left open.
+fn may_agree(pairs: &[u32], text: &[u8], before: u32, x: u32, y: u32) -> bool
+    requires { ⌜ Good (now pairs) (now text) ⌝ }
+    ensures { λ r. ⌜ r ≡ mayAgree (nameBytes (now (pairs .entry)) (now (text .entry))) before x y ⌝ }
+{
+    if before == 22 {
         return true;
     }
-    if same_name(pairs, text, x, y) {
-        return true;
+    if name_size(pairs, text, x) != name_size(pairs, text, y) {
+        return false;
     }
-    same_size(pairs, text, x, y)
+    same_name(pairs, text, x, y)
 }
 
 // Whether two types are told apart without knowing what is due: by a look at the words behind those that are equal, and by the first that differ. The search for
@@ -258,7 +270,10 @@ pub fn are_apart(
     if k == count {
         return false;
     }
-    !may_agree(pairs, text, a[start + k], b[from + k])
+    if k == 0 {
+        return false;
+    }
+    !may_agree(pairs, text, a[start + k - 1], a[start + k], b[from + k])
 }
 
 // Whether `count` words of `a` and of `b` are the same type's, by what is due.

@@ -472,7 +472,7 @@ pub fn start_walk(words: &[u32], bound: usize, at: usize) -> Start
 // ---- acceptance: one function for each part of a declaration, which says where the part ends
 
 // Where the type at `at` ends. A plain type is one word.
-fn scan_type(words: &[u32], pairs: &[u32], text: &[u8], at: usize) -> Scan
+pub fn scan_type(words: &[u32], pairs: &[u32], text: &[u8], at: usize) -> Scan
     requires { ⌜ Good (now pairs) (now text) × (length (now words) ≤ 8192) ⌝ }
     ensures { λ r. ⌜ r ≡ ended (typeAt (now (words .entry)) (now (pairs .entry)) (now (text .entry)) at) ⌝ }
 {

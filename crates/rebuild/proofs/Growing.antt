@@ -9,11 +9,13 @@ use lib.Seq.{sets, sets-eq, length-sets, take-suc, take-at, drop-at, take-take, 
 use Rattle.output.proofs.Laws.{part-length}
 use Rattle.rules.specs.Table.{toWords}
 use Rattle.rules.specs.Scans.{depthOf}
+use Rattle.encoding.specs.Reading.{got}
 use Rattle.trees.specs.Numbered.{treeAt}
 use Rattle.rebuild.specs.declared.Laying.{Laying}
 use Rattle.rebuild.specs.declared.Laying.the-variants.{To, Over}
 use Rattle.rebuild.specs.declared.Settling.the-variants.{Settled, Overfull}
-use Rattle.rebuild.specs.Laid.{Grown, Lays, laid, over, GivesTo, given, tooLong}
+use Rattle.rebuild.specs.declared.Rebuilt.the-variants.{Done, Full}
+use Rattle.rebuild.specs.Laid.{Grown, Lays, laid, over, GivesTo, given, tooLong, rebuilt, full, WordRebuilds}
 
 -- ---- copying
 
@@ -29,6 +31,15 @@ copy-more o s p start i h =
     let e : length b ≡ i = length-take-le i (drop start s) (omega arith) in
     let j : sets (sets o p b) (p + length b) (getD s (start + i) 0 ∷ []) ≡ sets o p (b ++ (getD s (start + i) 0 ∷ [])) = sets-append b (getD s (start + i) 0 ∷ []) o p in
     rw (add-one i, take-suc (drop start s) i 0 k, getD-drop start s i 0) (rw e at j)
+
+pub copy-one : (o s : List ℕ) (p start : ℕ) → start < length s → set o p (getD s start 0) ≡ sets o p (take 1 (drop start s))
+copy-one o s p start h =
+    let z : p + 0 ≡ p = omega arith in
+    let y : start + 0 ≡ start = omega arith in
+    rw (z, y) at (copy-more o s p start 0 (omega arith))
+
+pub copy-two : (o s : List ℕ) (p start : ℕ) → start + 1 < length s → set (set o p (getD s start 0)) (p + 1) (getD s (start + 1) 0) ≡ sets o p (take 2 (drop start s))
+copy-two o s p start h = rw (copy-one o s p start (omega arith)) (copy-more o s p start 1 h)
 
 -- ---- what has grown
 
@@ -107,6 +118,16 @@ part-over {limit} {o′} o src p start count h k l e =
     let n = part-length src start count h in
     let m : limit < p + length (take count (drop start src)) = omega (arith, n) in
     over m (ap length e)
+
+-- one word was laid down, or there was no room for it
+module _ {limit : ℕ} (o : List ℕ) (w p at : ℕ) where
+  pub word-laid : p < limit → limit ≤ length o → WordRebuilds limit o p (got w (at + 1)) (set o p w) (Done (at + 1) (p + 1) 0)
+  word-laid h l =
+      let k : p + 1 ≤ limit = omega arith in
+      rebuilt refl k k (grown-sets o (w ∷ []) p (p + 1) (omega arith) refl refl) refl
+
+  pub word-over : limit ≤ p → WordRebuilds limit o p (got w (at + 1)) o Full
+  word-over h = let k : limit < p + 1 = omega arith in full refl k refl
 
 -- ---- zero words
 

@@ -1,7 +1,7 @@
 -- Rebuilding on words is replacement in trees: a head's own words, the types below it, and then the rules.
 use Prim.Native.Nat.{ℕ, _+_, _-_, _≤_, _<_, max, _*_}
 use mathlib.Core.Path.{_≡_, refl, ap, sym, _∙_, subst}
-use mathlib.Core.List.{List, [], _++_, append-assoc, append-nil}
+use mathlib.Core.List.{List, [], _∷_, _++_, append-assoc, append-nil}
 use native.Mathlib.Omega.{arith}
 use lib.ListN.{length, getD, take, drop, length-append}
 use Rattle.rast.specs.Bytes.{Bytes}
@@ -12,6 +12,7 @@ use Rattle.encoding.specs.Heads.{readHead, kids, typesBelow, ownEnd}
 use Rattle.encoding.specs.Types.{readTypes}
 use Rattle.encoding.proofs.Tables.{impossible}
 use Rattle.encoding.proofs.Inside.{head-lies}
+use Rattle.encoding.proofs.HeadWords.{plain-below, plain-end}
 use Rattle.output.proofs.Laws.{part-length}
 use Rattle.trees.specs.Encode.{count, tokensAll, encode, encodeAll, words, wordsAll}
 use Rattle.trees.specs.Numbered.{treeAt}
@@ -25,6 +26,7 @@ use Rattle.replace.specs.Replace.{Replace, Replaces, ruled}
 use Rattle.replace.specs.Laying.{depth, deepest, peak, peaks}
 use Rattle.replace.specs.Rules.{Rule, rulesOf, mappingOf}
 use Rattle.replace.proofs.Nodes.{replaces-count, replace-node, peak-node, depth-node, peak-least, depth-words}
+use Rattle.comparison.proofs.Steps.{take-word}
 use Rattle.rules.specs.declared.Found.{Found}
 use Rattle.rules.specs.Table.{toWords, foundFrom, RuleAt}
 use Rattle.rules.specs.Scans.{Spans, depthOf}
@@ -33,7 +35,7 @@ use Rattle.rebuild.specs.declared.Settling.{Settling}
 use Rattle.rebuild.specs.declared.Settling.the-variants.{Settled, Overfull}
 use Rattle.rebuild.specs.declared.Rebuilt.{Rebuilt}
 use Rattle.rebuild.specs.declared.Rebuilt.the-variants.{Done, Full}
-use Rattle.rebuild.specs.Laid.{Grown, GivesTo, given as givenTo, tooLong, Settles, stays, gives, Rebuilds, rebuilt, full, ruleList, mapping, Ruled, TypeRebuilds, TypesRebuild}
+use Rattle.rebuild.specs.Laid.{Grown, GivesTo, given as givenTo, tooLong, Settles, stays, gives, Rebuilds, rebuilt, full, ruleList, mapping, Ruled, TypeRebuilds, TypesRebuild, WordRebuilds, PartsRebuild, parts, noParts}
 use Rattle.rebuild.proofs.Growing.{grown-then, grown-words, grown-over, grown-nothing}
 
 -- ---- a finished type stays or gives way
@@ -104,6 +106,12 @@ filled {code = code} {top} {deep} {limit} {o} {p} {x} {o′} {a = a} k e d = go 
 
 -- ---- a type, by its head
 
+few-words : (ts : Tys ℕ) → count ts ≤ wordsAll ts
+unfolding count
+few-words nil = omega arith
+few-words (cons t ts) =
+    omega (arith, few-words ts, words-some t, encode-all (cons t ts), ap length (encode-cons t ts), length-append (encode t) (encodeAll ts), encode-words t, encode-all ts)
+
 module _ (ws pairs : List ℕ) (at : ℕ) (m : Ty ℕ → Ty ℕ) {t : Ty ℕ} {n : ℕ} (e : treeAt ws pairs at ≡ got t n) {q : ℕ} (f : q ≡ ownEnd ws at) where
   abbrev here : Worded ws pairs at e
   here = tree-words ws pairs at e
@@ -149,12 +157,18 @@ module _ (ws pairs : List ℕ) (at : ℕ) (m : Ty ℕ → Ty ℕ) {t : Ty ℕ} {
   built-deep : depth built ≡ 1 + deepest (Replaces m (inner .types))
   built-deep = depth-node (replace-node m (inner .node) .node)
 
+  -- each of the types below takes a word at least
+  pub kids-few : typesBelow ws at ≤ length ws
+  kids-few =
+      let v = tree-run ws pairs at (omega (arith, own-fits .0, own-fits .1)) e in
+      omega (arith, here .many, counts, few-words (inner .types), words-split, v .0 .ends, encode-words t)
+
   -- the own words do not fit
-  pub own-over : {limit p : ℕ} {o o′ : List ℕ} → limit < p + length own → length o′ ≡ length o → TypeRebuilds m limit o p (treeAt ws pairs at) o′ Full
+  own-over : {limit p : ℕ} {o o′ : List ℕ} → limit < p + length own → length o′ ≡ length o → TypeRebuilds m limit o p (treeAt ws pairs at) o′ Full
   own-over {limit} {p} h k = let g : limit < p + peak m t = omega (arith, h, own-length, peak-split) in full e g k
 
   -- the types below do not fit
-  pub below-full : {k limit p p₁ : ℕ} {o o₁ o₂ : List ℕ} {r : Rebuilt} → k ≡ typesBelow ws at → Grown o p own o₁ p₁ → TypesRebuild m limit o₁ p₁ (readTypes (treeAt ws pairs) k q) o₂ r → r ≡ Full
+  below-full : {k limit p p₁ : ℕ} {o o₁ o₂ : List ℕ} {r : Rebuilt} → k ≡ typesBelow ws at → Grown o p own o₁ p₁ → TypesRebuild m limit o₁ p₁ (readTypes (treeAt ws pairs) k q) o₂ r → r ≡ Full
       → TypeRebuilds m limit o p (treeAt ws pairs at) o₂ Full
   below-full {limit = limit} {p} {p₁} c g k d =
       let b = filled k d (types-below c) in
@@ -171,7 +185,7 @@ module _ (ws pairs : List ℕ) (at : ℕ) (m : Ty ℕ → Ty ℕ) {t : Ty ℕ} {
     pub small : d + 1 ≤ limit
     pub some : p < q′
 
-  pub finished : {k limit p p₁ n′ q′ d : ℕ} {o o₁ o₂ : List ℕ} {r : Rebuilt} → k ≡ typesBelow ws at → Grown o p own o₁ p₁ → TypesRebuild m limit o₁ p₁ (readTypes (treeAt ws pairs) k q) o₂ r → r ≡ Done n′ q′ d
+  finished : {k limit p p₁ n′ q′ d : ℕ} {o o₁ o₂ : List ℕ} {r : Rebuilt} → k ≡ typesBelow ws at → Grown o p own o₁ p₁ → TypesRebuild m limit o₁ p₁ (readTypes (treeAt ws pairs) k q) o₂ r → r ≡ Done n′ q′ d
       → Finished limit p o o₂ n′ q′ d
   finished {limit = limit} {p} {p₁} {n′} {q′} {d} {o} {o₁} {o₂} h g k c =
       let b = came k c in
@@ -208,6 +222,24 @@ module _ (ws pairs : List ℕ) (at : ℕ) (m : Ty ℕ → Ty ℕ) {t : Ty ℕ} {
     where
       go : Ends (m built) limit o p o₃ Overfull → TypeRebuilds m limit o p (treeAt ws pairs at) o₃ Full
       go (overfull w l) = let s : limit < p + peak m t = omega (arith, peak-split, w, encode-words (m built), ap words gives-built) in full e s l
+
+-- ---- its parts, before the rules
+
+module _ (ws pairs : List ℕ) (at : ℕ) (m : Ty ℕ → Ty ℕ) {t : Ty ℕ} {n : ℕ} (e : treeAt ws pairs at ≡ got t n) {limit p : ℕ} {o o₂ : List ℕ} where
+  pub parts-over : {q : ℕ} → q ≡ ownEnd ws at → limit < p + length (take (q - at) (drop at ws)) → length o₂ ≡ length o → PartsRebuild m ws pairs at limit o p o₂ Full
+  parts-over f h l = noParts (rw f at h) l
+
+  pub parts-then : {q k p₁ : ℕ} {o₁ : List ℕ} {r : Rebuilt} → q ≡ ownEnd ws at → k ≡ typesBelow ws at → Grown o p (take (q - at) (drop at ws)) o₁ p₁
+      → TypesRebuild m limit o₁ p₁ (readTypes (treeAt ws pairs) k q) o₂ r → PartsRebuild m ws pairs at limit o p o₂ r
+  parts-then f h g k = parts (rw f at g) (rw (f, h) at k)
+
+  pub parts-full : {r : Rebuilt} → PartsRebuild m ws pairs at limit o p o₂ r → r ≡ Full → TypeRebuilds m limit o p (treeAt ws pairs at) o₂ Full
+  parts-full (parts g k) d = below-full ws pairs at m e refl refl g k d
+  parts-full (noParts h l) d = own-over ws pairs at m e refl h l
+
+  pub parts-finished : {r : Rebuilt} {n′ q′ d : ℕ} → PartsRebuild m ws pairs at limit o p o₂ r → r ≡ Done n′ q′ d → Finished ws pairs at m e refl limit p o o₂ n′ q′ d
+  parts-finished (parts g k) d = finished ws pairs at m e refl refl g k d
+  parts-finished (noParts h l) d = impossible (cc)
 
 -- ---- types one after the other
 
@@ -314,6 +346,30 @@ module _ (ws pairs : List ℕ) (m : Ty ℕ → Ty ℕ) (at k limit : ℕ) (o : L
         let j : n′ ≡ next-type .middle = (let x = next-type .first in let y = b .reads in cc) in
         let v = tree-run ws pairs place (r .inside) (next-type .first) in
         omega (arith, j, v .1, words-some (next-type .type))
+
+-- a plain type has no types below it
+module _ (ws pairs : List ℕ) (at : ℕ) (m : Ty ℕ → Ty ℕ) {t : Ty ℕ} {n : ℕ} (e : treeAt ws pairs at ≡ got t n) (h : getD ws at 0 < 12) where
+  abbrev ends : ownEnd ws at ≡ at + 1
+  ends = plain-end ws at h
+
+  abbrev inside : at < ownEnd ws at × ownEnd ws at ≤ length ws
+  inside = own-fits ws pairs at m e refl
+
+  word : take (ownEnd ws at - at) (drop at ws) ≡ getD ws at 0 ∷ []
+  word =
+      let z : ownEnd ws at - at ≡ 1 = omega (arith, ends) in
+      rw z (take-word ws at 1 (omega (arith, inside .0, inside .1)) (omega arith))
+
+  pub plain-parts : {limit p : ℕ} {o o₂ : List ℕ} {r : Rebuilt} → limit ≤ length o → WordRebuilds limit o p (got (getD ws at 0) (at + 1)) o₂ r → PartsRebuild m ws pairs at limit o p o₂ r
+  plain-parts {limit} {p} {o} {o₂} l (rebuilt {a = a} {n = j} {q = q} {d = d} x f w g c) =
+      let i : a ≡ getD ws at 0 = cc in
+      let y : ownEnd ws at ≡ j = (let u = ends in cc) in
+      let b : Grown o p (take (ownEnd ws at - at) (drop at ws)) o₂ q = rw (word, sym i) g in
+      let k = rebuilding-ends ws pairs m (ownEnd ws at) (typesBelow ws at) limit o₂ q (plain-below ws at (omega (arith, h)))
+      (rebuilding-starts ws pairs m (ownEnd ws at) (typesBelow ws at) limit o₂ q (inside .1) w (omega (arith, l, g .kept)) (below-reads ws pairs at m e refl refl)) in
+      let v : TypesRebuild m limit o₂ q (readTypes (treeAt ws pairs) (typesBelow ws at) (ownEnd ws at)) o₂ (Done j q d) = rw (sym y, c) k in
+      parts b v
+  plain-parts l (full x f k) = noParts (rw word f) k
 
 encode-one : (t : Ty ℕ) → encodeAll (cons t nil) ≡ encode t
 unfolding encodeAll tokensAll

@@ -1,12 +1,14 @@
 -- Words laid down in a buffer up to a limit.
-use Prim.Native.Nat.{ℕ, _+_, _*_, _≤_, _<_}
+use Prim.Native.Nat.{ℕ, _+_, _-_, _*_, _≤_, _<_}
 use mathlib.Core.Path.{_≡_}
-use mathlib.Core.List.{List, [], _++_}
-use lib.ListN.{length, getD, take}
+use mathlib.Core.List.{List, [], _∷_, _++_}
+use lib.ListN.{length, getD, take, drop}
 use Rattle.rast.specs.Bytes.{Bytes}
 use Rattle.rast.specs.Tree.{Ty, Tys}
 use Rattle.encoding.specs.Refusals.{Answer, given as answer, refused}
 use Rattle.encoding.specs.Reading.{Reading, got}
+use Rattle.encoding.specs.Heads.{typesBelow, ownEnd}
+use Rattle.encoding.specs.Types.{readTypes}
 use Rattle.trees.specs.Numbered.{treeAt}
 use Rattle.trees.specs.Encode.{encode, encodeAll}
 use Rattle.replace.specs.Replace.{Replace, Replaces}
@@ -72,3 +74,13 @@ TypeRebuilds m limit o p x o′ r = Rebuilds (λ t. encode (Replace m t)) (λ t.
 
 abbrev pub TypesRebuild : (Ty ℕ → Ty ℕ) → ℕ → List ℕ → ℕ → Reading (Tys ℕ) → List ℕ → Rebuilt → Type 0
 TypesRebuild m limit o p x o′ r = Rebuilds (λ ts. encodeAll (Replaces m ts)) (λ ts. peaks m ts) (λ ts. deepest (Replaces m ts)) limit o p x o′ r
+
+-- one word, as it is
+abbrev pub WordRebuilds : ℕ → List ℕ → ℕ → Reading ℕ → List ℕ → Rebuilt → Type 0
+WordRebuilds limit o p x o′ r = Rebuilds (λ w. w ∷ []) (λ w. 1) (λ w. 0) limit o p x o′ r
+
+-- the type at `at` before the rules: its own words were laid down, and the types below it were rebuilt behind them; or the own words alone would pass the limit
+pub data PartsRebuild (m : Ty ℕ → Ty ℕ) (ws pairs : List ℕ) (at limit : ℕ) (o : List ℕ) (p : ℕ) (o′ : List ℕ) : Rebuilt → Type 0 where
+  parts : {o₁ : List ℕ} {p₁ : ℕ} {r : Rebuilt} → Grown o p (take (ownEnd ws at - at) (drop at ws)) o₁ p₁
+      → TypesRebuild m limit o₁ p₁ (readTypes (treeAt ws pairs) (typesBelow ws at) (ownEnd ws at)) o′ r → PartsRebuild m ws pairs at limit o p o′ r
+  noParts : limit < p + length (take (ownEnd ws at - at) (drop at ws)) → length o′ ≡ length o → PartsRebuild m ws pairs at limit o p o′ Full

@@ -1,8 +1,9 @@
 // Rebuilding a type by rules: words are laid down in a buffer, and a finished type that equals a rule's from gives way to its to.
 ghost use mathlib.Core.Path.{_≡_};
-ghost use Prim.Native.Nat.{min, _+_, _-_, _*_, _≤_, _<_};
+ghost use Prim.Native.Nat.{min, _+_, _-_, _*_, _^_, _≤_, _<_};
 ghost use lib.ListN.{length, getD, take, drop};
 ghost use lib.Seq.{sets};
+ghost use Rattle.encoding.specs.Reading.{got};
 ghost use Rattle.encoding.specs.Refusals.{given};
 ghost use Rattle.encoding.specs.Tables.{Good, nameBytes};
 ghost use Rattle.encoding.specs.Types.{readTypes};
@@ -10,7 +11,7 @@ ghost use Rattle.trees.specs.Numbered.{treeAt};
 ghost use Rattle.writing.specs.Written.{Readable};
 ghost use Rattle.rules.specs.Table.{Fits, foundFrom};
 ghost use Rattle.rules.specs.Scans.{Spans};
-ghost use Rattle.rebuild.specs.Laid.{Lays, GivesTo, Settles, Ruled, mapping, TypeRebuilds, TypesRebuild};
+ghost use Rattle.rebuild.specs.Laid.{Lays, GivesTo, Settles, Ruled, mapping, WordRebuilds, PartsRebuild, TypeRebuilds, TypesRebuild};
 ghost use Rattle.rebuild.specs.Calls.{sameWords, zeros, laidDown};
 use encoding::Refusal;
 use rules::Found;
@@ -27,6 +28,23 @@ pub fn copy_words(src: &[u32], start: usize, count: usize, out: &mut [u32], pos:
         out[pos + i] = src[start + i];
         i += 1;
     }
+}
+
+// The same: most heads have one or two own words, and for these a loop costs more than they do.
+fn copy_few(src: &[u32], start: usize, count: usize, out: &mut [u32], pos: usize)
+    requires { ⌜ (start + count ≤ length (now src)) × (pos + count ≤ length (now out)) ⌝ }
+    ensures { λ r. ⌜ now (out .exit) ≡ sets (now (out .entry)) pos (take count (drop start (now (src .entry)))) ⌝ }
+{
+    if count == 1 {
+        out[pos] = src[start];
+        return;
+    }
+    if count == 2 {
+        out[pos] = src[start];
+        out[pos + 1] = src[start + 1];
+        return;
+    }
+    copy_words(src, start, count, out, pos);
 }
 
 // Zero words all over `out`.
@@ -60,7 +78,7 @@ pub fn lay(
     if limit - pos < count {
         return Laying::Over;
     }
-    copy_words(src, start, count, out, pos);
+    copy_few(src, start, count, out, pos);
     Laying::To(pos + count)
 }
 
@@ -160,24 +178,7 @@ fn rebuild_next(
     ensures { λ r. ⌜ TypeRebuilds (mapping (now (rules .entry)) (now (pairs .entry)) (now (text .entry))) limit (now (out .entry)) pos
         (treeAt (now (words .entry)) (now (pairs .entry)) at) (now (out .exit)) r ⌝ }
 {
-    let next = encoding::own_end(words, at);
-    let Laying::To(p) = lay(words, at, next - at, out, pos, limit) else {
-        return Rebuilt::Full;
-    };
-    let kids = encoding::types_below(words, at);
-    match rebuild_below(
-        words,
-        pairs,
-        text,
-        rules,
-        table,
-        k,
-        next,
-        kids,
-        out,
-        p,
-        limit,
-    ) {
+    match rebuild_parts(words, pairs, text, rules, table, k, at, out, pos, limit) {
         Rebuilt::Done {
             next: end,
             pos: q,
@@ -192,6 +193,65 @@ fn rebuild_next(
         },
         Rebuilt::Full => Rebuilt::Full,
     }
+}
+
+// A plain type, which is one word.
+fn lay_plain(word: u32, at: usize, out: &mut [u32], pos: usize, limit: usize) -> Rebuilt
+    requires { ⌜ (at + 1 < 2 ^ 63) × (pos ≤ limit) × (limit ≤ length (now out)) ⌝ }
+    ensures { λ r. ⌜ WordRebuilds limit (now (out .entry)) pos (got word (at + 1)) (now (out .exit)) r ⌝ }
+{
+    if limit <= pos {
+        return Rebuilt::Full;
+    }
+    out[pos] = word;
+    Rebuilt::Done {
+        next: at + 1,
+        pos: pos + 1,
+        depth: 0,
+    }
+}
+
+// The own words of the accepted type at `at` and the types below it, before the rules. Many types are plain, and these are the first to be asked for.
+fn rebuild_parts(
+    words: &[u32],
+    pairs: &[u32],
+    text: &[u8],
+    rules: &[u32],
+    table: &[u16; 160],
+    k: usize,
+    at: usize,
+    out: &mut [u32],
+    pos: usize,
+    limit: usize,
+) -> Rebuilt
+    requires { ⌜ Good (now pairs) (now text) × Ruled (now rules) (now pairs) (now text) (now table) k × Readable (treeAt (now words) (now pairs) at)
+        × (pos ≤ limit) × (limit ≤ length (now out)) ⌝ }
+    ensures { λ r. ⌜ PartsRebuild (mapping (now (rules .entry)) (now (pairs .entry)) (now (text .entry))) (now (words .entry)) (now (pairs .entry)) at limit (now (out .entry)) pos
+        (now (out .exit)) r ⌝ }
+{
+    let word = words[at];
+    if word < 12 {
+        return lay_plain(word, at, out, pos, limit);
+    }
+    let behind = encoding::pass_head(words, at, 1);
+    let next = behind.next;
+    let Laying::To(p) = lay(words, at, next - at, out, pos, limit) else {
+        return Rebuilt::Full;
+    };
+    let kids = behind.due;
+    rebuild_below(
+        words,
+        pairs,
+        text,
+        rules,
+        table,
+        k,
+        next,
+        kids,
+        out,
+        p,
+        limit,
+    )
 }
 
 // The types below a head; most heads have none, and those need no call.

@@ -38,7 +38,7 @@ use Rattle.rebuild.proofs.Growing.{grown-then, grown-nothing, lays-to, lays-ove
 use Rattle.rebuild.proofs.Types.{came, filled}
 use Rattle.rebuild_declaration.specs.declared.Advance.{Advance}
 use Rattle.rebuild_declaration.specs.declared.Advance.the-variants.{Further, Finished, NoSpace}
-use Rattle.rebuild_declaration.specs.Laying.{topPieces, rebuiltWords, rebuiltDepth, leftIn, Advanced, further, finished, noSpace, PiecesRebuild}
+use Rattle.rebuild_declaration.specs.Laying.{topPieces, rebuiltWords, rebuiltDepth, leftIn, Advanced, further, finished, noSpace, fieldAdvance, PiecesRebuild}
 use Rattle.rebuild_declaration.specs.Calls.{declarationIn, laidDeclaration, DeclarationRebuilds}
 use Rattle.rebuild_declaration.proofs.Pieces.{words-append, depth-append, top-append, own-words, one-type, declaration-words, declaration-depth}
 
@@ -233,7 +233,8 @@ module _ (m : Ty ℕ → Ty ℕ) (ws pairs : List ℕ) (w : Walk) (limit : ℕ) 
   pub field-readable : Readable (treeAt ws pairs (fieldType w))
   field-readable = record { value = field-left .tree; end = field-left .end; reads = field-left .first }
 
-  pub field-over : {o′ : List ℕ} {r : Laying} → Lays limit o p (take (fieldType w - w .place) (drop (w .place) ws)) o′ r → r ≡ Over → Advanced m ws pairs w limit o p o′ NoSpace
+  pub field-over : {o′ : List ℕ} {r : Laying} → Lays limit o p (take (fieldType w - w .place) (drop (w .place) ws)) o′ r → r ≡ Over → Advanced m ws pairs w limit o p o′ (fieldAdvance w Full)
+  unfolding fieldAdvance
   field-over k e = own-over m ws pairs w limit o p field-own c k e
 
   module _ {o₁ : List ℕ} {r : Laying} {q : ℕ} (k : Lays limit o p (take (fieldType w - w .place) (drop (w .place) ws)) o₁ r) (e : r ≡ To q) where
@@ -245,14 +246,54 @@ module _ (m : Ty ℕ → Ty ℕ) (ws pairs : List ℕ) (w : Walk) (limit : ℕ) 
     field-begun = going-on m ws pairs w limit o p (going-starts m ws pairs w limit o p c i l z) (own-further m ws pairs w limit o p field-own k e) refl (let v : 0 ≡ max 0 0 = omega arith in v) .0
 
     module _ {o₂ : List ℕ} {d : Rebuilt} (t : TypeRebuilds m limit o₁ q (treeAt ws pairs (fieldType w)) o₂ d) where
-      pub field-full : d ≡ Full → Advanced m ws pairs w limit o p o₂ NoSpace
+      field-full : d ≡ Full → Advanced m ws pairs w limit o p o₂ NoSpace
       field-full h = going-over m ws pairs w limit o p field-begun (type-over m ws pairs inner limit o₁ q field-left inner-readable t h)
 
-      pub field-further : {next pos deep : ℕ} → d ≡ Done next pos deep → Advanced m ws pairs w limit o p o₂ (Further (pastField w next) pos deep)
+      field-further : {next pos deep : ℕ} → d ≡ Done next pos deep → Advanced m ws pairs w limit o p o₂ (Further (pastField w next) pos deep)
       field-further {next} {pos} {deep} h =
           let s = type-further m ws pairs inner limit o₁ q field-left (field-own .inside) t h in
           let g = going-on m ws pairs w limit o p field-begun s refl (let v : deep ≡ max 0 deep = omega arith in v) in
           going-whole m ws pairs w limit o p (g .0) (omega (arith, field-own .further, g .1))
+
+      pub field-advanced : Advanced m ws pairs w limit o p o₂ (fieldAdvance w d)
+      unfolding fieldAdvance
+      field-advanced = go d refl
+        where
+          go : (r : Rebuilt) → d ≡ r → Advanced m ws pairs w limit o p o₂ (fieldAdvance w r)
+          go (Done n q deep) h = field-further h
+          go Full h = field-full h
+
+-- ---- fields, one after the other
+
+module _ (m : Ty ℕ → Ty ℕ) (ws pairs : List ℕ) (w₀ : Walk) (limit : ℕ) (o : List ℕ) (p : ℕ) where
+  -- the fields before w are laid down, and one is left
+  pub record Among (o′ : List ℕ) (w : Walk) (q found : ℕ) : Type 0 where
+    pub going : Going m ws pairs w₀ limit o p o′ w q found
+    pub behind : w₀ .place ≤ w .place
+    pub due : FieldNext w
+
+  module _ {o₁ : List ℕ} {w : Walk} {q found : ℕ} (g : Among o₁ w q found) {o₂ : List ℕ} {r : Rebuilt} (k : Advanced m ws pairs w limit o₁ q o₂ (fieldAdvance w r)) where
+    pub among-full : r ≡ Full → Advanced m ws pairs w₀ limit o p o₂ NoSpace
+    unfolding fieldAdvance
+    among-full e = going-over m ws pairs w₀ limit o p (g .going) (subst (λ s. Advanced m ws pairs w limit o₁ q o₂ (fieldAdvance w s)) e k)
+
+    module _ {n q′ d deep : ℕ} {w′ : Walk} (e : r ≡ Done n q′ d) (x : w′ ≡ pastField w n) (z : deep ≡ max found d) where
+      among-on : Going m ws pairs w₀ limit o p o₂ w′ q′ deep × (w .place < w′ .place)
+      unfolding fieldAdvance
+      among-on = rw x (going-on m ws pairs w₀ limit o p (g .going) (subst (λ s. Advanced m ws pairs w limit o₁ q o₂ (fieldAdvance w s)) e k) refl z)
+
+      pub among-ahead : (w .place < w′ .place) × (w′ .place ≤ length ws)
+      among-ahead = (among-on .1, among-on .0 .inside)
+
+      pub among-ends : Advanced m ws pairs w₀ limit o p o₂ (Further w′ q′ deep)
+      among-ends = going-whole m ws pairs w₀ limit o p (among-on .0) (omega (arith, g .behind, among-on .1))
+
+      pub among-next : (w′ .fields ≡ 0 → ⊥) → Among o₂ w′ q′ deep
+      among-next h = record {
+        going = among-on .0;
+        behind = omega (arith, g .behind, among-on .1);
+        due = (ap Walk.types x, ap Walk.parameters x, ap Walk.after x, omega (arith, h));
+      }
 
 -- ---- the whole declaration
 

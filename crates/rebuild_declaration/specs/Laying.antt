@@ -12,9 +12,10 @@ use Rattle.replace.specs.Replace.{Replace}
 use Rattle.replace.specs.Laying.{depth, peak}
 use Rattle.pieces.specs.declared.Walk.{Walk}
 use Rattle.pieces.specs.Pieces.{Piece, own, type, runs, pieceTokens}
-use Rattle.pieces.specs.Walks.{ahead, leftOf}
+use Rattle.pieces.specs.Walks.{ahead, leftOf, pastField}
 use Rattle.pieces.specs.WithTypes.{pieceWith}
 use Rattle.rebuild.specs.declared.Rebuilt.{Rebuilt}
+use Rattle.rebuild.specs.declared.Rebuilt.the-variants.{Done, Full}
 use Rattle.rebuild.specs.Laid.{Grown, Rebuilds}
 use Rattle.rebuild_declaration.specs.declared.Advance.{Advance}
 use Rattle.rebuild_declaration.specs.declared.Advance.the-variants.{Further, Finished, NoSpace}
@@ -56,3 +57,8 @@ pub data Advanced (m : Ty ℕ → Ty ℕ) (ws pairs : List ℕ) (w : Walk) (limi
       → p + topPieces m ps ≤ limit → Grown o p (rebuiltWords m ps) o′ q → d ≡ rebuiltDepth m ps → Advanced m ws pairs w limit o p o′ (Further w′ q d)
   finished : leftIn ws pairs w ≡ got [] (w .place) → o′ ≡ o → Advanced m ws pairs w limit o p o′ Finished
   noSpace : {ps : List (Piece ℕ)} {n : ℕ} → leftIn ws pairs w ≡ got ps n → limit < p + topPieces m ps → length o′ ≡ length o → Advanced m ws pairs w limit o p o′ NoSpace
+
+-- what a field that was rebuilt, or was not, makes of a walk before it
+unfoldable pub fieldAdvance : Walk → Rebuilt → Advance
+fieldAdvance w (Done n q d) = Further (pastField w n) q d
+fieldAdvance w Full = NoSpace

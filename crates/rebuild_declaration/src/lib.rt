@@ -5,7 +5,7 @@ ghost use Rattle.encoding.specs.Tables.{Good};
 ghost use Rattle.writing.specs.Written.{Readable};
 ghost use Rattle.pieces.specs.Walks.{FieldNext};
 ghost use Rattle.rebuild.specs.Laid.{Ruled, mapping};
-ghost use Rattle.rebuild_declaration.specs.Laying.{leftIn, Advanced, PiecesRebuild};
+ghost use Rattle.rebuild_declaration.specs.Laying.{leftIn, Advanced, fieldAdvance, PiecesRebuild};
 ghost use Rattle.rebuild_declaration.specs.Calls.{declarationIn, DeclarationRebuilds};
 use pieces::Next;
 use pieces::Start;
@@ -96,32 +96,67 @@ fn lay_field(
     out: &mut [u32],
     pos: usize,
     limit: usize,
+) -> Rebuilt
+    requires { ⌜ Good (now pairs) (now text) × Ruled (now rules) (now pairs) (now text) (now table) k × Readable (leftIn (now words) (now pairs) walk)
+        × (walk .place ≤ length (now words)) × (pos ≤ limit) × (limit ≤ length (now out)) × FieldNext walk ⌝ }
+    ensures { λ r. ⌜ Advanced (mapping (now (rules .entry)) (now (pairs .entry)) (now (text .entry))) (now (words .entry)) (now (pairs .entry)) walk limit
+        (now (out .entry)) pos (now (out .exit)) (fieldAdvance walk r) ⌝ }
+{
+    let place = walk.place;
+    let at = pieces::field_type(walk);
+    let Laying::To(p) = rebuild::lay(words, place, at - place, out, pos, limit) else {
+        return Rebuilt::Full;
+    };
+    rebuild::rebuild_type(words, pairs, text, rules, table, k, at, out, p, limit)
+}
+
+// The fields of a list that are left, one after the other.
+fn lay_fields(
+    words: &[u32],
+    pairs: &[u32],
+    text: &[u8],
+    rules: &[u32],
+    table: &[u16; 160],
+    k: usize,
+    walk: Walk,
+    out: &mut [u32],
+    pos: usize,
+    limit: usize,
 ) -> Advance
     requires { ⌜ Good (now pairs) (now text) × Ruled (now rules) (now pairs) (now text) (now table) k × Readable (leftIn (now words) (now pairs) walk)
         × (walk .place ≤ length (now words)) × (pos ≤ limit) × (limit ≤ length (now out)) × FieldNext walk ⌝ }
     ensures { λ r. ⌜ Advanced (mapping (now (rules .entry)) (now (pairs .entry)) (now (text .entry))) (now (words .entry)) (now (pairs .entry)) walk limit
         (now (out .entry)) pos (now (out .exit)) r ⌝ }
 {
-    let place = walk.place;
-    let at = pieces::field_type(walk);
-    let Laying::To(p) = rebuild::lay(words, place, at - place, out, pos, limit) else {
-        return Advance::NoSpace;
-    };
-    match rebuild::rebuild_type(words, pairs, text, rules, table, k, at, out, p, limit) {
-        Rebuilt::Done {
-            next,
-            pos: q,
-            depth,
-        } => Advance::Further {
-            walk: pieces::past_field(walk, next),
-            pos: q,
-            depth,
-        },
-        Rebuilt::Full => Advance::NoSpace,
+    let mut w = walk;
+    let mut p = pos;
+    let mut deepest = 0;
+    loop {
+        match lay_field(words, pairs, text, rules, table, k, w, out, p, limit) {
+            Rebuilt::Done {
+                next,
+                pos: q,
+                depth,
+            } => {
+                w = pieces::past_field(w, next);
+                p = q;
+                deepest = rules::larger(deepest, depth);
+            }
+            Rebuilt::Full => {
+                return Advance::NoSpace;
+            }
+        }
+        if w.fields == 0 {
+            return Advance::Further {
+                walk: w,
+                pos: p,
+                depth: deepest,
+            };
+        }
     }
 }
 
-// A field, or one step.
+// Fields, or one step.
 fn lay_piece(
     words: &[u32],
     pairs: &[u32],
@@ -140,7 +175,7 @@ fn lay_piece(
         (now (out .entry)) pos (now (out .exit)) r ⌝ }
 {
     if pieces::is_field_next(walk) {
-        return lay_field(words, pairs, text, rules, table, k, walk, out, pos, limit);
+        return lay_fields(words, pairs, text, rules, table, k, walk, out, pos, limit);
     }
     lay_next(words, pairs, text, rules, table, k, walk, out, pos, limit)
 }

@@ -112,7 +112,8 @@ fn fill_large(
     }
 }
 
-// Most trees are small: a little scratch is tried first, since a large one must be cleared before use.
+// Most trees are small: a little scratch is tried first, since a large one must be cleared before use. `fill_large` has two call sites and so a frame of its own, whose
+// pages small trees need not touch.
 fn fill(
     what: Whole,
     words: &[u32],
@@ -127,6 +128,9 @@ fn fill(
         × (ended (laidBy what (now words) (now pairs) (mapping (now rules) (now pairs) (now text))) ≡ At (length (now words))) ⌝ }
     ensures { λ r. ⌜ Fills (laidBy what (now (words .entry)) (now (pairs .entry)) (mapping (now (rules .entry)) (now (pairs .entry)) (now (text .entry)))) (now (out .entry)) (now (out .exit)) r ⌝ }
 {
+    if 128 < words.len() {
+        return fill_large(what, words, pairs, text, rules, table, k, out);
+    }
     let mut scratch = [0u32; 128];
     match attempt(what, words, pairs, text, rules, table, k, &mut scratch, out) {
         Attempt::Answered(answer) => answer,

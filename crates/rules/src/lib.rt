@@ -48,7 +48,7 @@ fn deepest(words: &[u32], pairs: &[u32], at: usize, n: usize) -> Deep
     let mut depth = 0;
     let mut left = n;
     while 0 < left {
-        let below = deepest(
+        let below = depth_below(
             words,
             pairs,
             encoding::own_end(words, place),
@@ -59,6 +59,17 @@ fn deepest(words: &[u32], pairs: &[u32], at: usize, n: usize) -> Deep
         left -= 1;
     }
     Deep { next: place, depth }
+}
+
+// The same below a head; most heads have no types below, and those need no call.
+fn depth_below(words: &[u32], pairs: &[u32], at: usize, n: usize) -> Deep
+    requires { ⌜ (at ≤ length (now words)) × Readable (readTypes (treeAt (now words) (now pairs)) n at) ⌝ }
+    ensures { λ r. ⌜ Deepens (readTypes (treeAt (now (words .entry)) (now (pairs .entry))) n at) (length (now (words .entry))) r ⌝ }
+{
+    if n == 0 {
+        return Deep { next: at, depth: 0 };
+    }
+    deepest(words, pairs, at, n)
 }
 
 // How deep the accepted type in `count` words is.
@@ -83,8 +94,8 @@ fn scan_rule(rules: &[u32], pairs: &[u32], text: &[u8], at: usize) -> RuleScan
     requires { ⌜ Good (now pairs) (now text) × (length (now rules) ≤ 8192) ⌝ }
     ensures { λ r. ⌜ RuleRead (now (rules .entry)) (now (pairs .entry)) at r ⌝ }
 {
-    match acceptance::accept_type(rules, pairs, text, at, 0) {
-        Scan::At(middle) => match acceptance::accept_type(rules, pairs, text, middle, 0) {
+    match pieces::scan_type(rules, pairs, text, at) {
+        Scan::At(middle) => match pieces::scan_type(rules, pairs, text, middle) {
             Scan::At(end) => RuleScan::OneRule { middle, end },
             Scan::Refused(r) => RuleScan::NoRule(r),
         },

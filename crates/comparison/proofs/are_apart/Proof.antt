@@ -4,9 +4,8 @@ use borrow.Author.Tests.{not-true}
 use Rattle.encoding.proofs.Tables.{impossible}
 use Rattle.encoding.specs.Tables.{nameBytes}
 use Rattle.comparison.specs.declared.Due.the-variants.{Kind}
-use Rattle.comparison.proofs.Steps.{runs-later, runs-stop}
+use Rattle.comparison.proofs.Steps.{runs-later, runs-differ}
 use Rattle.comparison.proofs.Looks.{may-not, told-apart}
-use Prim.Native.Nat.{_+_, _-_}
 use borrow.Author.Needs.{needs}
 use Rattle.comparison.proofs.are_apart.Statement.{statement}
 use Rattle.comparison.proofs.are_apart.Tie as tie
@@ -35,8 +34,14 @@ returns c = λ e.
 returns-2 : tie.Need-returns-2
 returns-2 c = λ e. impossible (cc)
 
+returns-3 : tie.Need-returns-3
+returns-3 c = λ e. impossible (cc)
+
 add-may-agree : tie.Need-add-may-agree
 add-may-agree c = search needs
+
+sub-may-agree : tie.Need-sub-may-agree
+sub-may-agree c = search needs
 
 mul-may-agree : tie.Need-mul-may-agree
 mul-may-agree c = search needs
@@ -53,15 +58,23 @@ mul-may-agree-2 c = search needs
 shared-slice-read-may-agree-2 : tie.Need-shared-slice-read-may-agree-2
 shared-slice-read-may-agree-2 c = search needs
 
+add-may-agree-3 : tie.Need-add-may-agree-3
+add-may-agree-3 c = search needs
+
+mul-may-agree-3 : tie.Need-mul-may-agree-3
+mul-may-agree-3 c = search needs
+
+shared-slice-read-may-agree-3 : tie.Need-shared-slice-read-may-agree-3
+shared-slice-read-may-agree-3 c = search needs
+
 may-agree-requires : tie.Need-may-agree-requires
 may-agree-requires c κs = search needs
 
-returns-3 : tie.Need-returns-3
-returns-3 c = λ e.
-    let s = c .before .before .before .before .before .before .before .before .before .before .before in let a = s .args in let k = c .before .before .before .before .before .before .equal-front .result in let h = c .before .before .before .before .before .before .equal-front .ensures in let n = c .before .before .before .if2 .left in
-    runs-later (nameBytes (a .pairs .now) (a .text .now)) (a .a .now) (a .b .now) k (a .start) (a .from) (a .count) h (s .pre .1) (s .pre .2)
-    (λ due. runs-stop (nameBytes (a .pairs .now) (a .text .now)) due (a .a .now) (a .b .now) (a .start + k) (a .from + k) (a .count - k) (omega (arith, h, n, s .pre .1)) (omega (arith, h, n, s .pre .2)) (omega (arith, h, n))
-    (may-not (nameBytes (a .pairs .now) (a .text .now)) _ _ (sym (c .may-agree .ensures) ∙ not-true _ e) due)) Kind
+returns-4 : tie.Need-returns-4
+returns-4 c = λ e.
+    let s = c .before .before .before .before .before .before .before .before .before .before .before .before .before in let a = s .args in let k = c .before .before .before .before .before .before .before .before .equal-front .result in let h = c .before .before .before .before .before .before .before .before .equal-front .ensures in let n = c .before .before .before .before .before .if2 .left in let z = c .before .before .before .before .if3 .left in
+    runs-differ (nameBytes (a .pairs .now) (a .text .now)) (a .a .now) (a .b .now) k (a .start) (a .from) (a .count) (omega (arith, z)) (omega (arith, h, n)) (s .pre .1) (s .pre .2)
+    (may-not (nameBytes (a .pairs .now) (a .text .now)) _ _ _ (sym (c .may-agree .ensures) ∙ not-true _ e)) Kind
 
 pub are-apart-spec : {M : Type 1} → statement M
 are-apart-spec =
@@ -74,11 +87,16 @@ are-apart-spec =
     numbers-apart-requires
     returns
     returns-2
+    returns-3
     add-may-agree
+    sub-may-agree
     mul-may-agree
     shared-slice-read-may-agree
     add-may-agree-2
     mul-may-agree-2
     shared-slice-read-may-agree-2
+    add-may-agree-3
+    mul-may-agree-3
+    shared-slice-read-may-agree-3
     may-agree-requires
-    returns-3)
+    returns-4)

@@ -12,8 +12,8 @@ returns : tie.Need-returns
 returns c =
     let a = c .before .before .before .args in part-over (a .out .now) (a .src .now) (a .pos) (a .start) (a .count) (c .before .before .before .pre .0) (c .before .before .before .pre .1) (c .if1 .taken) refl
 
-copy-words-requires : tie.Need-copy-words-requires
-copy-words-requires c κs = search needs
+copy-few-requires : tie.Need-copy-few-requires
+copy-few-requires c κs = search needs
 
 add-t7 : tie.Need-add-t7
 add-t7 c = search needs
@@ -24,7 +24,7 @@ same-length c = search needs
 returns-2 : tie.Need-returns-2
 returns-2 c =
     let a = c .before .before .before .before .before .before .before .args in
-    part-laid (a .out .now) (a .src .now) (a .pos) (a .start) (a .count) (c .before .before .before .before .before .before .before .pre .0) (omega (arith, c .before .before .before .before .if1 .left, c .before .before .before .before .before .before .before .pre .1)) (c .before .before .before .before .before .before .before .pre .2) (c .before .before .copy-words .ensures) refl
+    part-laid (a .out .now) (a .src .now) (a .pos) (a .start) (a .count) (c .before .before .before .before .before .before .before .pre .0) (omega (arith, c .before .before .before .before .if1 .left, c .before .before .before .before .before .before .before .pre .1)) (c .before .before .before .before .before .before .before .pre .2) (c .before .before .copy-few .ensures) refl
 
 pub lay-spec : {M : Type 1} → statement M
 lay-spec =
@@ -32,7 +32,7 @@ lay-spec =
     (tie.spec
     sub-if1
     returns
-    copy-words-requires
+    copy-few-requires
     add-t7
     same-length
     returns-2)

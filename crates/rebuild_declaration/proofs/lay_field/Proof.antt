@@ -1,5 +1,5 @@
 use native.Mathlib.Omega.{arith}
-use Rattle.rebuild_declaration.proofs.Steps.{field-full, field-further, field-over, field-own, field-readable, field-room}
+use Rattle.rebuild_declaration.proofs.Steps.{field-advanced, field-over, field-own, field-readable, field-room}
 use Rattle.rebuild.specs.Laid.{mapping}
 use borrow.Author.Needs.{needs}
 use Rattle.rebuild_declaration.proofs.lay_field.Statement.{statement}
@@ -40,30 +40,13 @@ rebuild-type-requires c κs =
     let r = field-room (mapping (a .rules .now) (a .pairs .now) (a .text .now)) (a .words .now) (a .pairs .now) (a .walk) (a .limit) (a .out .now) (a .pos) (s .pre .2) (s .pre .3) (s .pre .4) (s .pre .5) (s .pre .6) (rw (c .before .before .before .before .before .before .before .before .field-type .ensures) at (c .before .before .before .before .before .before .lay .ensures)) (c .before .before .p .given .1) in
     (s .pre .0, s .pre .1, rw (c .before .before .before .before .before .before .before .before .field-type .ensures) (field-readable (mapping (a .rules .now) (a .pairs .now) (a .text .now)) (a .words .now) (a .pairs .now) (a .walk) (a .limit) (a .out .now) (a .pos) (s .pre .2) (s .pre .3) (s .pre .4) (s .pre .5) (s .pre .6)), r .0, r .1)
 
-enum-known-next : tie.Need-enum-known-next
-enum-known-next c = search needs
-
-past-field-requires : tie.Need-past-field-requires
-past-field-requires c κs = search needs
-
-enum-told-2 : tie.Need-enum-told-2
-enum-told-2 c = search needs
-
 same-length-2 : tie.Need-same-length-2
 same-length-2 c = search needs
 
 returns-2 : tie.Need-returns-2
 returns-2 c =
-    let s = c .before .before .before .before .before .before .before .before .before .before .before .before .before .before .before .before .before .before .before .before .before in let a = s .args in
-    rw (c .past-field .ensures) (field-further (mapping (a .rules .now) (a .pairs .now) (a .text .now)) (a .words .now) (a .pairs .now) (a .walk) (a .limit) (a .out .now) (a .pos) (s .pre .2) (s .pre .3) (s .pre .4) (s .pre .5) (s .pre .6) (rw (c .before .before .before .before .before .before .before .before .before .before .before .before .before .before .before .field-type .ensures) at (c .before .before .before .before .before .before .before .before .before .before .before .before .before .lay .ensures)) (c .before .before .before .before .before .before .before .before .before .p .given .1) (rw (c .before .before .before .before .before .before .before .before .before .before .before .before .before .before .before .field-type .ensures) at (c .before .before .before .before .before .before .rebuild-type .ensures)) (c .before .before .next .given .1))
-
-same-length-3 : tie.Need-same-length-3
-same-length-3 c = search needs
-
-returns-3 : tie.Need-returns-3
-returns-3 c =
-    let s = c .before .before .before .before .before .before .before .before .before .before .before .before .before .before .before .before .before .before .before in let a = s .args in
-    field-full (mapping (a .rules .now) (a .pairs .now) (a .text .now)) (a .words .now) (a .pairs .now) (a .walk) (a .limit) (a .out .now) (a .pos) (s .pre .2) (s .pre .3) (s .pre .4) (s .pre .5) (s .pre .6) (rw (c .before .before .before .before .before .before .before .before .before .before .before .before .before .field-type .ensures) at (c .before .before .before .before .before .before .before .before .before .before .before .lay .ensures)) (c .before .before .before .before .before .before .before .p .given .1) (rw (c .before .before .before .before .before .before .before .before .before .before .before .before .before .field-type .ensures) at (c .before .before .before .before .rebuild-type .ensures)) (c .enum-told2 .given .1)
+    let s = c .before .before .before .before .before .before .before .before .before .before .before .before .before .before .before .before .before in let a = s .args in
+    field-advanced (mapping (a .rules .now) (a .pairs .now) (a .text .now)) (a .words .now) (a .pairs .now) (a .walk) (a .limit) (a .out .now) (a .pos) (s .pre .2) (s .pre .3) (s .pre .4) (s .pre .5) (s .pre .6) (rw (c .before .before .before .before .before .before .before .before .before .before .before .field-type .ensures) at (c .before .before .before .before .before .before .before .before .before .lay .ensures)) (c .before .before .before .before .before .p .given .1) (rw (c .before .before .before .before .before .before .before .before .before .before .before .field-type .ensures) at (c .before .before .rebuild-type .ensures))
 
 pub lay-field-spec : {M : Type 1} → statement M
 lay-field-spec =
@@ -77,10 +60,5 @@ lay-field-spec =
     same-length
     returns
     rebuild-type-requires
-    enum-known-next
-    past-field-requires
-    enum-told-2
     same-length-2
-    returns-2
-    same-length-3
-    returns-3)
+    returns-2)

@@ -5,8 +5,8 @@ use Rattle.rebuild_declaration.proofs.lay_piece.Tie as tie
 is-field-next-requires : tie.Need-is-field-next-requires
 is-field-next-requires c κs = search needs
 
-lay-field-requires : tie.Need-lay-field-requires
-lay-field-requires c κs =
+lay-fields-requires : tie.Need-lay-fields-requires
+lay-fields-requires c κs =
     let s = c .before .before .before .before .before .before .before .before in
     (s .pre .0, s .pre .1, s .pre .2, s .pre .3, s .pre .4, s .pre .5, c .before .before .is-field-next .ensures (c .before .if1 .taken))
 
@@ -30,7 +30,7 @@ lay-piece-spec =
     tie.close
     (tie.spec
     is-field-next-requires
-    lay-field-requires
+    lay-fields-requires
     same-length
     returns
     lay-next-requires

@@ -6,12 +6,21 @@ use borrow.Author.Needs.{needs}
 use Rattle.replacement.proofs.fill.Statement.{statement}
 use Rattle.replacement.proofs.fill.Tie as tie
 
+fill-large-requires : tie.Need-fill-large-requires
+fill-large-requires c κs = search needs
+
+same-length : tie.Need-same-length
+same-length c = search needs
+
+returns : tie.Need-returns
+returns c = c .before .before .fill-large .ensures
+
 slice-aggregate-attempt : tie.Need-slice-aggregate-attempt
 slice-aggregate-attempt c = search needs
 
 attempt-requires : tie.Need-attempt-requires
 attempt-requires c κs =
-    let a = c .before .before .before .before .before .before .before .args in let pre = c .before .before .before .before .before .before .before .pre in
+    let s = c .before .before .before .before .before .before .before .before in let a = s .args in let pre = s .pre in
     (pre .0, pre .1, whole-readable (a .words .now) (a .pairs .now) (a .text .now) (a .rules .now) (a .out .now) (a .what) (mapping (a .rules .now) (a .pairs .now) (a .text .now)) (mapping (a .rules .now) (a .pairs .now) (a .text .now)) (pre .3), omega arith)
 
 enum-known-answer : tie.Need-enum-known-answer
@@ -20,31 +29,34 @@ enum-known-answer c = search needs
 enum-told : tie.Need-enum-told
 enum-told c = search needs
 
-fill-large-requires : tie.Need-fill-large-requires
-fill-large-requires c κs = search needs
-
-same-length : tie.Need-same-length
-same-length c = search needs
-
-returns : tie.Need-returns
-returns c = attempt-answered (c .before .before .before .before .before .before .attempt .ensures) (c .before .answer .given .1)
+fill-large-requires-2 : tie.Need-fill-large-requires-2
+fill-large-requires-2 c κs = search needs
 
 same-length-2 : tie.Need-same-length-2
 same-length-2 c = search needs
 
 returns-2 : tie.Need-returns-2
-returns-2 c = attempt-again (c .before .before .before .before .before .before .before .before .before .attempt .ensures) (c .before .before .before .before .enum-told .given .1) (c .before .before .fill-large .ensures)
+returns-2 c = attempt-answered (c .before .before .before .before .before .before .attempt .ensures) (c .before .answer .given .1)
+
+same-length-3 : tie.Need-same-length-3
+same-length-3 c = search needs
+
+returns-3 : tie.Need-returns-3
+returns-3 c = attempt-again (c .before .before .before .before .before .before .before .before .before .attempt .ensures) (c .before .before .before .before .enum-told .given .1) (c .before .before .fill-large2 .ensures)
 
 pub fill-spec : {M : Type 1} → statement M
 fill-spec =
     tie.close
     (tie.spec
+    fill-large-requires
+    same-length
+    returns
     slice-aggregate-attempt
     attempt-requires
     enum-known-answer
     enum-told
-    fill-large-requires
-    same-length
-    returns
+    fill-large-requires-2
     same-length-2
-    returns-2)
+    returns-2
+    same-length-3
+    returns-3)

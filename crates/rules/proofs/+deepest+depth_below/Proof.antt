@@ -1,4 +1,4 @@
-use Prim.Native.Nat.{_-_, _<_, _≤_, ℕ}
+use Prim.Native.Nat.{_*_, _+_, _-_, _<_, _≤_, ℕ}
 use Rattle.encoding.specs.Types.{readTypes}
 use Rattle.rules.proofs.Depths.{Deepening, deepening-ends, deepening-starts, head-due, inner}
 use Rattle.trees.specs.Numbered.{treeAt}
@@ -9,15 +9,21 @@ use borrow.Fn.Kinds.{In}
 use borrow.Fn.PlainCycle.{Measures, is, falls, and}
 use Rattle.rules.proofs.deepest.Reads as deepest
 use Rattle.rules.proofs.deepest.Kinds as deepest-kinds
-use Rattle.rules.proofs.+deepest.Lts-deepest as deepest-lts
+use Rattle.rules.proofs.+deepest+depth_below.Lts-deepest as deepest-lts
+use Rattle.rules.proofs.depth_below.Reads as depth-below
+use Rattle.rules.proofs.depth_below.Kinds as depth-below-kinds
+use Rattle.rules.proofs.+deepest+depth_below.Lts-depth_below as depth-below-lts
 use Rattle.encoding.proofs.own_end.Reads as own-end-reads
 use Rattle.encoding.proofs.types_below.Reads as types-below-reads
 use Rattle.rules.proofs.larger.Reads as larger-reads
-use Rattle.rules.proofs.+deepest.{statement}
-use Rattle.rules.proofs.+deepest.Tie.{close}
+use Rattle.rules.proofs.+deepest+depth_below.{statement}
+use Rattle.rules.proofs.+deepest+depth_below.Tie.{close}
 
 abbrev μ-deepest : Measures 2 deepest-kinds.ps ℕ
-μ-deepest κs a = length (a .0 .now) - a .1 .1 .0
+μ-deepest κs a = 2 * (length (a .0 .now) - a .1 .1 .0)
+
+abbrev μ-depth-below : Measures 2 depth-below-kinds.ps ℕ
+μ-depth-below κs a = 2 * (length (a .0 .now) - a .1 .1 .0) + 1
 
 abbrev deepest-at : ℕ → In 2 deepest-kinds.ps
 deepest-at t = and 2 deepest-kinds.ps (is 2 deepest-kinds.ps μ-deepest t) deepest.Pre
@@ -25,8 +31,14 @@ deepest-at t = and 2 deepest-kinds.ps (is 2 deepest-kinds.ps μ-deepest t) deepe
 abbrev deepest-below : ℕ → In 2 deepest-kinds.ps
 deepest-below t = and 2 deepest-kinds.ps (falls 2 deepest-kinds.ps _<_ μ-deepest t) deepest.Pre
 
+abbrev depth-below-at : ℕ → In 2 depth-below-kinds.ps
+depth-below-at t = and 2 depth-below-kinds.ps (is 2 depth-below-kinds.ps μ-depth-below t) depth-below.Pre
+
+abbrev depth-below-below : ℕ → In 2 depth-below-kinds.ps
+depth-below-below t = and 2 depth-below-kinds.ps (falls 2 depth-below-kinds.ps _<_ μ-depth-below t) depth-below.Pre
+
 abbrev deepest-calls : ℕ → deepest-lts.Claims
-deepest-calls t = (own-end-reads.Asked, own-end-reads.Learnt, types-below-reads.Asked, types-below-reads.Learnt, deepest-below t, deepest.Post, larger-reads.Asked, larger-reads.Learnt)
+deepest-calls t = (own-end-reads.Asked, own-end-reads.Learnt, types-below-reads.Asked, types-below-reads.Learnt, depth-below-below t, depth-below.Post, larger-reads.Asked, larger-reads.Learnt)
 
 abbrev deepest-Inv-loop : deepest-lts.InvT-loop
 deepest-Inv-loop words pairs at n place₀ depth₀ left₀ place depth left = (at ≤ place) × Deepening words pairs (readTypes (treeAt words pairs) n at) place depth left
@@ -45,8 +57,8 @@ deepest-own-end-requires t c κs = head-due (c .loop-test .taken) (c .before .lo
 deepest-types-below-requires : (t : ℕ) → deepest-lts.Need-types-below-requires (deepest-calls t) (deepest-at t) deepest.Post deepest-Inv-loop deepest-μ-loop
 deepest-types-below-requires t c κs = head-due (c .before .loop-test .taken) (c .before .before .loop .inv .1)
 
-deepest-deepest-requires : (t : ℕ) → deepest-lts.Need-deepest-requires (deepest-calls t) (deepest-at t) deepest.Post deepest-Inv-loop deepest-μ-loop
-deepest-deepest-requires t c κs =
+deepest-depth-below-requires : (t : ℕ) → deepest-lts.Need-depth-below-requires (deepest-calls t) (deepest-at t) deepest.Post deepest-Inv-loop deepest-μ-loop
+deepest-depth-below-requires t c κs =
     let l = c .before .before .before .loop in
     let s = inner (c .before .before .loop-test .taken) (l .inv .1) in
     let e = c .before .own-end .ensures in
@@ -55,7 +67,7 @@ deepest-deepest-requires t c κs =
 deepest-add-larger : (t : ℕ) → deepest-lts.Need-add-larger (deepest-calls t) (deepest-at t) deepest.Post deepest-Inv-loop deepest-μ-loop
 deepest-add-larger t c =
     let s = inner (c .before .before .before .before .loop-test .taken) (c .before .before .before .before .before .loop .inv .1) in
-    omega (arith, s .small _ (rw (c .before .before .before .own-end .ensures, c .before .before .types-below .ensures) at (c .before .deepest .ensures)))
+    omega (arith, s .small _ (rw (c .before .before .before .own-end .ensures, c .before .before .types-below .ensures) at (c .before .depth-below .ensures)))
 
 deepest-larger-requires : (t : ℕ) → deepest-lts.Need-larger-requires (deepest-calls t) (deepest-at t) deepest.Post deepest-Inv-loop deepest-μ-loop
 deepest-larger-requires t c κs = search needs
@@ -70,7 +82,7 @@ deepest-loop-again : (t : ℕ) → deepest-lts.Need-loop-again (deepest-calls t)
 deepest-loop-again t c =
     let l = c .before .before .before .before .before .before .loop in
     let s = inner (c .before .before .before .before .before .loop-test .taken) (l .inv .1) in
-    let d = rw (c .before .before .before .before .own-end .ensures, c .before .before .before .types-below .ensures) at (c .before .before .deepest .ensures) in
+    let d = rw (c .before .before .before .before .own-end .ensures, c .before .before .before .types-below .ensures) at (c .before .before .depth-below .ensures) in
     (omega (arith, l .inv .0, s .past _ d), s .next _ _ d (c .larger .ensures))
 
 deepest-returns : (t : ℕ) → deepest-lts.Need-returns (deepest-calls t) (deepest-at t) deepest.Post deepest-Inv-loop deepest-μ-loop
@@ -78,8 +90,22 @@ deepest-returns t c =
     let a = c .before .before .before .before .args in
     deepening-ends (a .words .now) (a .pairs .now) (a .at) (a .n) (omega (arith, c .loop-test .left)) (c .before .loop .inv .1)
 
-pub +deepest-spec : {M : Type 1} → statement M
-+deepest-spec = close μ-deepest λ t. deepest-lts.spec (deepest-calls t)
+abbrev depth-below-calls : ℕ → depth-below-lts.Claims
+depth-below-calls t = (deepest-below t, deepest.Post)
+
+depth-below-returns : (t : ℕ) → depth-below-lts.Need-returns (depth-below-calls t) (depth-below-at t) depth-below.Post
+depth-below-returns t c =
+    let s = c .before .before .before in let a = s .args in
+    deepening-ends (a .words .now) (a .pairs .now) (a .at) (a .n) (c .if1 .taken) (deepening-starts (a .words .now) (a .pairs .now) (a .at) (a .n) (s .pre .1 .0) (s .pre .1 .1))
+
+depth-below-deepest-requires : (t : ℕ) → depth-below-lts.Need-deepest-requires (depth-below-calls t) (depth-below-at t) depth-below.Post
+depth-below-deepest-requires t c κs = let s = c .before .before .before in (omega (arith, s .pre .0), s .pre .1)
+
+depth-below-returns-2 : (t : ℕ) → depth-below-lts.Need-returns-2 (depth-below-calls t) (depth-below-at t) depth-below.Post
+depth-below-returns-2 t c = c .deepest .ensures
+
+pub +deepest+depth-below-spec : {M : Type 1} → statement M
++deepest+depth-below-spec = close μ-deepest μ-depth-below (λ t. deepest-lts.spec (deepest-calls t)
     (deepest-at t)
     deepest.Post
     deepest-Inv-loop
@@ -87,10 +113,17 @@ pub +deepest-spec : {M : Type 1} → statement M
     (deepest-loop-holds t)
     (deepest-own-end-requires t)
     (deepest-types-below-requires t)
-    (deepest-deepest-requires t)
+    (deepest-depth-below-requires t)
     (deepest-add-larger t)
     (deepest-larger-requires t)
     (deepest-sub-left t)
     (deepest-loop-less t)
     (deepest-loop-again t)
-    (deepest-returns t)
+    (deepest-returns t))
+    λ t. depth-below-lts.spec
+    (depth-below-calls t)
+    (depth-below-at t)
+    depth-below.Post
+    (depth-below-returns t)
+    (depth-below-deepest-requires t)
+    (depth-below-returns-2 t)

@@ -1,0 +1,76 @@
+use Prim.Native.Nat.{_-_}
+use Rattle.rebuild.specs.Laid.{mapping}
+use Rattle.rebuild_declaration.proofs.Steps.{Among, among-ahead, among-ends, among-full, among-next, going-starts}
+use lib.ListN.{length}
+use native.Mathlib.Omega.{arith}
+use borrow.Author.Needs.{needs}
+use Rattle.rebuild_declaration.proofs.lay_fields.Statement.{statement}
+use Rattle.rebuild_declaration.proofs.lay_fields.Tie as tie
+
+abbrev Inv-loop : tie.InvT-loop
+Inv-loop words pairs text rules table k out₀ pos limit w₀ p₀ deepest₀ out w p deepest = Among (mapping rules pairs text) words pairs w₀ limit out₀ pos out w p deepest
+
+abbrev μ-loop : tie.MeasureT-loop
+μ-loop words pairs text rules table k out₀ pos limit w₀ p₀ deepest₀ out w p deepest = length words - w .place
+
+loop-holds : tie.Need-loop-holds Inv-loop μ-loop
+loop-holds c =
+    let s = c .before .before .before .before .before in let a = s .args in
+    record { going = going-starts (mapping (a .rules .now) (a .pairs .now) (a .text .now)) (a .words .now) (a .pairs .now) (a .walk) (a .limit) (a .out .now) (a .pos) (s .pre .2) (s .pre .3) (s .pre .4) (s .pre .5); behind = omega arith; due = s .pre .6 }
+
+lay-field-requires : tie.Need-lay-field-requires Inv-loop μ-loop
+lay-field-requires c κs =
+    let s = c .before .before .before .before .before .before .before in let i = c .before .loop .inv in let g = i .going in
+    (s .pre .0, s .pre .1, g .readable, g .inside, g .within, omega (arith, g .grown .kept, s .pre .5), i .due)
+
+enum-known-next : tie.Need-enum-known-next Inv-loop μ-loop
+enum-known-next c = search needs
+
+past-field-requires : tie.Need-past-field-requires Inv-loop μ-loop
+past-field-requires c κs = c .before .before .before .before .before .before .before .loop .inv .due .3
+
+larger-requires : tie.Need-larger-requires Inv-loop μ-loop
+larger-requires c κs = search needs
+
+enum-told : tie.Need-enum-told Inv-loop μ-loop
+enum-told c = search needs
+
+same-length : tie.Need-same-length Inv-loop μ-loop
+same-length c = search needs
+
+returns : tie.Need-returns Inv-loop μ-loop
+returns c = let a = c .before .before .before .before .before .before .before .before .before .before .before .before .args in among-full (mapping (a .rules .now) (a .pairs .now) (a .text .now)) (a .words .now) (a .pairs .now) (a .walk) (a .limit) (a .out .now) (a .pos) (c .before .before .before .before .before .before .loop .inv) (c .before .before .before .before .lay-field .ensures) (c .enum-told .given .1)
+
+same-length-2 : tie.Need-same-length-2 Inv-loop μ-loop
+same-length-2 c = search needs
+
+returns-2 : tie.Need-returns-2 Inv-loop μ-loop
+returns-2 c = let a = c .before .before .before .before .before .before .before .before .before .before .before .before .before .before .before .before .before .args in among-ends (mapping (a .rules .now) (a .pairs .now) (a .text .now)) (a .words .now) (a .pairs .now) (a .walk) (a .limit) (a .out .now) (a .pos) (c .before .before .before .before .before .before .before .before .before .before .before .loop .inv) (c .before .before .before .before .before .before .before .before .before .lay-field .ensures) (c .before .before .before .before .before .next .given .1) (c .before .before .before .past-field .ensures) (c .before .before .larger .ensures)
+
+loop-less : tie.Need-loop-less Inv-loop μ-loop
+loop-less c =
+    let a = c .before .before .before .before .before .before .before .before .before .before .before .before .before .before .before .before .before .args in
+    let h = among-ahead (mapping (a .rules .now) (a .pairs .now) (a .text .now)) (a .words .now) (a .pairs .now) (a .walk) (a .limit) (a .out .now) (a .pos) (c .before .before .before .before .before .before .before .before .before .before .before .loop .inv) (c .before .before .before .before .before .before .before .before .before .lay-field .ensures) (c .before .before .before .before .before .next .given .1) (c .before .before .before .past-field .ensures) (c .before .before .larger .ensures) in
+    omega (arith, h .0, h .1)
+
+loop-again : tie.Need-loop-again Inv-loop μ-loop
+loop-again c = let a = c .before .before .before .before .before .before .before .before .before .before .before .before .before .before .before .before .before .args in among-next (mapping (a .rules .now) (a .pairs .now) (a .text .now)) (a .words .now) (a .pairs .now) (a .walk) (a .limit) (a .out .now) (a .pos) (c .before .before .before .before .before .before .before .before .before .before .before .loop .inv) (c .before .before .before .before .before .before .before .before .before .lay-field .ensures) (c .before .before .before .before .before .next .given .1) (c .before .before .before .past-field .ensures) (c .before .before .larger .ensures) (c .if1 .left)
+
+pub lay-fields-spec : {M : Type 1} → statement M
+lay-fields-spec =
+    tie.close
+    (tie.spec
+    Inv-loop
+    μ-loop
+    loop-holds
+    lay-field-requires
+    enum-known-next
+    past-field-requires
+    larger-requires
+    enum-told
+    same-length
+    returns
+    same-length-2
+    returns-2
+    loop-less
+    loop-again)
