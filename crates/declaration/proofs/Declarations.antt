@@ -21,9 +21,10 @@ use Rattle.encoding.specs.Tables.{nameBytes, nameCount}
 use Rattle.encoding.specs.Heads.{readPath}
 use Rattle.encoding.specs.Types.{pathOf, typeAt}
 use Rattle.encoding.specs.Declarations.{readCounted, readVisibility, readAttribute, readParameter, readField, readNamelessField, readFields, readCase, readStruct, readEnum, readTypeSynonym, readUse, declarationAfter, readDeclaration}
-use Rattle.laying.specs.Passes.{Chain, last, _then_, run}
+use Rattle.laying.specs.Passes.{Chain, last, _then_, run, Ready}
 use Rattle.laying.specs.Texts.{nameAt, typeTextAt, pathTextAt, visibilityAt, docAt}
 use Rattle.laying.proofs.Passes.{Runs}
+use Rattle.laying.proofs.Leaves.{BelowThere, below-of}
 use Rattle.laying.proofs.Splits.{map-same, map-made, runs-as, split₃, split-front, text-before, text-behind, listed-read, counted-got, counted-none, counted-stop}
 use Rattle.lists.specs.Texts.{attributesAt, parametersAt}
 use Rattle.fields.specs.declared.Entry.{Entry}
@@ -172,12 +173,23 @@ module _ (ws pairs : List ℕ) (text : Bytes) where
       | no z ↦ nameless-fields inCase z ∙ ap (λ (x : Entry). listedAt ws pairs text x level p) (entry-nameless inCase z ∙ sym d)
     ]
 
+    -- in a case nothing stands behind them
+    pub case-listed : {entry : Entry} → entry ≡ entryOf true k → fieldsAt ws pairs text true level at ≡ listAt ws pairs text entry level p
+    case-listed {entry} d = elim (ℕ-discrete k 0) [
+      | yes z ↦ named-fields true z ∙ ap (λ (x : Entry). listAt ws pairs text x level p) (entry-named true z ∙ sym d)
+      | no z ↦ as-nameless (Fields·ToString (indent level) true) z ∙ ap (λ (x : Entry). listAt ws pairs text x level p) (entry-nameless true z ∙ sym d)
+    ]
+
   pub fields-stop : (inCase : Bool) (level at : ℕ) {k : Refusal} → readBelow 2 ws at ≡ stop k → fieldsAt ws pairs text inCase level at ≡ stop k
   unfolding readFields mapReading
   fields-stop inCase level at e = rw e
 
   pub listed-runs : (entry : Entry) (level at : ℕ) → Runs (listedAt ws pairs text entry level at) (listAt ws pairs text entry level at then λ p. last (got (fieldsEnd entry) p))
   listed-runs entry level at = record { same = refl }
+
+  -- the word that says which they are was accepted
+  pub fields-there : (level at : ℕ) {o : List ℕ} {p : ℕ} → Ready true o p (fieldsAt ws pairs text true level at) → BelowThere 2 ws at
+  fields-there level at r = below-of 2 ws at (fieldsAt ws pairs text true level at) (λ k e. fields-stop true level at e) r
 
   -- ---- the cases of an enum
 

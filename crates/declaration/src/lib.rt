@@ -1,14 +1,17 @@
 // A pass over the words of a declaration that lays its text, at a level: it writes the bytes, or only counts them.
 ghost use mathlib.Core.Path.{_≡_};
+ghost use mathlib.Core.Bool.{true, false};
 ghost use Prim.Native.Nat.{_+_, _^_, _<_};
 ghost use Rattle.output.specs.Laid.{Laid, Fits};
-ghost use Rattle.laying.specs.Passes.{Checked, Ready, Went};
+ghost use Rattle.laying.specs.Passes.{Checked, Ready, Came, Went, Counts};
+ghost use Rattle.lists.specs.Texts.{attributesAt};
+ghost use Rattle.fields.specs.Texts.{listAt};
 ghost use Rattle.declaration.specs.Texts.{keywordText, entryOf, fieldsEnd, listedAt, fieldsAt, titleAt, frontAt, caseAt, caseLineAt, casesAt, variantsAt, enumBody, synonymBody, bodyAt, frontedAt, useAt, afterAt, declarationTextAt};
 use encoding::Refusal;
 use encoding::WordScan;
 use fields::Entry;
 use laying::Place;
-use lists::Item;
+use writing::Spot;
 
 // The heads of declarations.
 const STRUCT: u32 = 25;
@@ -44,7 +47,32 @@ fn lay_fields_end(write: bool, entry: Entry, out: &mut [u8], pos: usize) -> usiz
     }
 }
 
-// Fields behind the word that says whether they have names. This is the one call of `lay_list`.
+// Fields behind the word that says whether they have names.
+fn lay_list(
+    write: bool,
+    words: &[u32],
+    pairs: &[u32],
+    text: &[u8],
+    entry: Entry,
+    level: u32,
+    at: usize,
+    out: &mut [u8],
+    pos: usize,
+) -> Place
+    requires { ⌜ Checked (now words) (now pairs) (now text) × (level < 2 ^ 31) × Ready write (now out) pos (listAt (now words) (now pairs) (now text) entry level at) ⌝ }
+    ensures { λ r. ⌜ Went write (now (out .entry)) pos (listAt (now (words .entry)) (now (pairs .entry)) (now (text .entry)) entry level at) (now (out .exit)) r ⌝ }
+{
+    if write {
+        let spot = fields::write_list(words, pairs, text, entry, level, at, out, pos);
+        return Place::At {
+            next: spot.next,
+            pos: spot.pos,
+        };
+    }
+    fields::count_list(words, pairs, text, entry, level, at, pos)
+}
+
+// The same, and what stands behind them in a struct.
 fn lay_listed(
     write: bool,
     words: &[u32],
@@ -59,7 +87,7 @@ fn lay_listed(
     requires { ⌜ Checked (now words) (now pairs) (now text) × (level < 2 ^ 31) × Ready write (now out) pos (listedAt (now words) (now pairs) (now text) entry level at) ⌝ }
     ensures { λ r. ⌜ Went write (now (out .entry)) pos (listedAt (now (words .entry)) (now (pairs .entry)) (now (text .entry)) entry level at) (now (out .exit)) r ⌝ }
 {
-    let list = fields::lay_list(write, words, pairs, text, entry, level, at, out, pos);
+    let list = lay_list(write, words, pairs, text, entry, level, at, out, pos);
     let Place::At { next, pos: end } = list else {
         return list;
     };
@@ -69,24 +97,23 @@ fn lay_listed(
     }
 }
 
-// The fields of a case or of a struct.
+// The fields of a struct.
 fn lay_fields(
     write: bool,
     words: &[u32],
     pairs: &[u32],
     text: &[u8],
-    in_case: bool,
     level: u32,
     at: usize,
     out: &mut [u8],
     pos: usize,
 ) -> Place
-    requires { ⌜ Checked (now words) (now pairs) (now text) × (level < 2 ^ 31) × Ready write (now out) pos (fieldsAt (now words) (now pairs) (now text) in_case level at) ⌝ }
-    ensures { λ r. ⌜ Went write (now (out .entry)) pos (fieldsAt (now (words .entry)) (now (pairs .entry)) (now (text .entry)) in_case level at) (now (out .exit)) r ⌝ }
+    requires { ⌜ Checked (now words) (now pairs) (now text) × (level < 2 ^ 31) × Ready write (now out) pos (fieldsAt (now words) (now pairs) (now text) false level at) ⌝ }
+    ensures { λ r. ⌜ Went write (now (out .entry)) pos (fieldsAt (now (words .entry)) (now (pairs .entry)) (now (text .entry)) false level at) (now (out .exit)) r ⌝ }
 {
     match encoding::scan_below(words, 2, at) {
         WordScan::Word { value, next } => {
-            let entry = fields_entry(in_case, value);
+            let entry = fields_entry(false, value);
             lay_listed(write, words, pairs, text, entry, level, next, out, pos)
         }
         WordScan::NoWord(r) => Place::Stopped(r),
@@ -124,7 +151,31 @@ fn lay_title(
     let Place::At { next, pos: p } = name else {
         return name;
     };
-    lists::lay_item_list(write, words, pairs, text, Item::Parameter, 0, next, out, p)
+    lists::lay_parameter_list(write, words, pairs, text, next, out, p)
+}
+
+// The attributes.
+fn lay_attributes(
+    write: bool,
+    words: &[u32],
+    pairs: &[u32],
+    text: &[u8],
+    level: u32,
+    at: usize,
+    out: &mut [u8],
+    pos: usize,
+) -> Place
+    requires { ⌜ Checked (now words) (now pairs) (now text) × (level < 2 ^ 31) × Ready write (now out) pos (attributesAt (now words) (now pairs) (now text) level at) ⌝ }
+    ensures { λ r. ⌜ Went write (now (out .entry)) pos (attributesAt (now (words .entry)) (now (pairs .entry)) (now (text .entry)) level at) (now (out .exit)) r ⌝ }
+{
+    if write {
+        let spot = lists::write_attribute_list(words, pairs, text, level, at, out, pos);
+        return Place::At {
+            next: spot.next,
+            pos: spot.pos,
+        };
+    }
+    lists::count_attribute_list(words, pairs, text, level, at, pos)
 }
 
 // What a struct, an enum and a type synonym begin with: doc, attributes, keyword, name, parameters.
@@ -146,51 +197,98 @@ fn lay_front(
     let Place::At { next: q, pos: p } = doc else {
         return doc;
     };
-    let attributes = lists::lay_item_list(
-        write,
-        words,
-        pairs,
-        text,
-        Item::Attribute,
-        level,
-        q,
-        out,
-        p,
-    );
+    let attributes = lay_attributes(write, words, pairs, text, level, q, out, p);
     let Place::At { next, pos: p } = attributes else {
         return attributes;
     };
     lay_title(write, words, pairs, text, head, next, out, p)
 }
 
-// A case: doc, name, fields.
-fn lay_case(
-    write: bool,
+// The fields of a case, counted.
+fn count_case_fields(
     words: &[u32],
     pairs: &[u32],
     text: &[u8],
     level: u32,
     at: usize,
-    out: &mut [u8],
     pos: usize,
 ) -> Place
-    requires { ⌜ Checked (now words) (now pairs) (now text) × (level < 2 ^ 31) × Ready write (now out) pos (caseAt (now words) (now pairs) (now text) level at) ⌝ }
-    ensures { λ r. ⌜ Went write (now (out .entry)) pos (caseAt (now (words .entry)) (now (pairs .entry)) (now (text .entry)) level at) (now (out .exit)) r ⌝ }
+    requires { ⌜ Checked (now words) (now pairs) (now text) × (level < 2 ^ 31) ⌝ }
+    ensures { λ r. ⌜ Counts pos (fieldsAt (now (words .entry)) (now (pairs .entry)) (now (text .entry)) true level at) r ⌝ }
 {
-    let doc = laying::lay_doc(write, words, pairs, text, level, at, out, pos);
+    match encoding::scan_below(words, 2, at) {
+        WordScan::Word { value, next } => {
+            let entry = fields_entry(true, value);
+            fields::count_list(words, pairs, text, entry, level, next, pos)
+        }
+        WordScan::NoWord(r) => Place::Stopped(r),
+    }
+}
+
+// A case, counted: doc, name, fields.
+fn count_case(words: &[u32], pairs: &[u32], text: &[u8], level: u32, at: usize, pos: usize) -> Place
+    requires { ⌜ Checked (now words) (now pairs) (now text) × (level < 2 ^ 31) ⌝ }
+    ensures { λ r. ⌜ Counts pos (caseAt (now (words .entry)) (now (pairs .entry)) (now (text .entry)) level at) r ⌝ }
+{
+    let doc = laying::count_doc(words, pairs, text, level, at, pos);
     let Place::At { next: q, pos: p } = doc else {
         return doc;
     };
-    let name = laying::lay_name(write, words, pairs, text, q, out, p);
+    let name = laying::count_name(words, pairs, text, 0, q, p);
     let Place::At { next, pos: p } = name else {
         return name;
     };
-    lay_fields(write, words, pairs, text, true, level, next, out, p)
+    count_case_fields(words, pairs, text, level, next, p)
 }
 
-// A case on its line; `level` is the enum's.
-fn lay_case_line(
-    write: bool,
+// A case on its line, counted; `level` is the enum's.
+fn count_case_line(
+    words: &[u32],
+    pairs: &[u32],
+    text: &[u8],
+    level: u32,
+    at: usize,
+    pos: usize,
+) -> Place
+    requires { ⌜ Checked (now words) (now pairs) (now text) × (level < 2 ^ 30) ⌝ }
+    ensures { λ r. ⌜ Counts pos (caseLineAt (now (words .entry)) (now (pairs .entry)) (now (text .entry)) level at) r ⌝ }
+{
+    let p = output::count_few(pos, 5 + 4 * level as usize);
+    count_case(words, pairs, text, level + 1, at, p)
+}
+
+// `n` cases, one at least, counted.
+fn count_cases(
+    words: &[u32],
+    pairs: &[u32],
+    text: &[u8],
+    level: u32,
+    n: u32,
+    at: usize,
+    pos: usize,
+) -> Place
+    requires { ⌜ Checked (now words) (now pairs) (now text) × (0 < n) × (level < 2 ^ 30) ⌝ }
+    ensures { λ r. ⌜ Counts pos (casesAt (now (words .entry)) (now (pairs .entry)) (now (text .entry)) level n at) r ⌝ }
+{
+    let mut place = at;
+    let mut p = pos;
+    let mut left = n;
+    loop {
+        let one = count_case_line(words, pairs, text, level, place, p);
+        let Place::At { next, pos: end } = one else {
+            return one;
+        };
+        left -= 1;
+        if left == 0 {
+            return one;
+        }
+        place = next;
+        p = output::count_few(end, 1);
+    }
+}
+
+// The fields of a case, which was accepted.
+fn write_case_fields(
     words: &[u32],
     pairs: &[u32],
     text: &[u8],
@@ -198,12 +296,75 @@ fn lay_case_line(
     at: usize,
     out: &mut [u8],
     pos: usize,
-) -> Place
-    requires { ⌜ Checked (now words) (now pairs) (now text) × (level < 2 ^ 30) × Ready write (now out) pos (caseLineAt (now words) (now pairs) (now text) level at) ⌝ }
-    ensures { λ r. ⌜ Went write (now (out .entry)) pos (caseLineAt (now (words .entry)) (now (pairs .entry)) (now (text .entry)) level at) (now (out .exit)) r ⌝ }
+) -> Spot
+    requires { ⌜ Checked (now words) (now pairs) (now text) × (level < 2 ^ 31) × Ready true (now out) pos (fieldsAt (now words) (now pairs) (now text) true level at) ⌝ }
+    ensures { λ r. ⌜ Came true (now (out .entry)) pos (fieldsAt (now (words .entry)) (now (pairs .entry)) (now (text .entry)) true level at) (now (out .exit)) (r .next) (r .pos) ⌝ }
 {
-    let p = doc::lay_line(write, level + 1, out, pos);
-    lay_case(write, words, pairs, text, level + 1, at, out, p)
+    let entry = fields_entry(true, words[at]);
+    fields::write_list(words, pairs, text, entry, level, at + 1, out, pos)
+}
+
+// A case that was accepted.
+fn write_case(
+    words: &[u32],
+    pairs: &[u32],
+    text: &[u8],
+    level: u32,
+    at: usize,
+    out: &mut [u8],
+    pos: usize,
+) -> Spot
+    requires { ⌜ Checked (now words) (now pairs) (now text) × (level < 2 ^ 31) × Ready true (now out) pos (caseAt (now words) (now pairs) (now text) level at) ⌝ }
+    ensures { λ r. ⌜ Came true (now (out .entry)) pos (caseAt (now (words .entry)) (now (pairs .entry)) (now (text .entry)) level at) (now (out .exit)) (r .next) (r .pos) ⌝ }
+{
+    let p = laying::write_doc(words, pairs, text, level, at, out, pos);
+    let p = encoding::put_name(pairs, text, words[at + 1], out, p);
+    write_case_fields(words, pairs, text, level, at + 2, out, p)
+}
+
+// The same on its line; `level` is the enum's.
+fn write_case_line(
+    words: &[u32],
+    pairs: &[u32],
+    text: &[u8],
+    level: u32,
+    at: usize,
+    out: &mut [u8],
+    pos: usize,
+) -> Spot
+    requires { ⌜ Checked (now words) (now pairs) (now text) × (level < 2 ^ 30) × Ready true (now out) pos (caseLineAt (now words) (now pairs) (now text) level at) ⌝ }
+    ensures { λ r. ⌜ Came true (now (out .entry)) pos (caseLineAt (now (words .entry)) (now (pairs .entry)) (now (text .entry)) level at) (now (out .exit)) (r .next) (r .pos) ⌝ }
+{
+    let p = doc::put_line(level + 1, out, pos);
+    write_case(words, pairs, text, level + 1, at, out, p)
+}
+
+// `n` cases, one at least, which were accepted.
+fn write_cases(
+    words: &[u32],
+    pairs: &[u32],
+    text: &[u8],
+    level: u32,
+    n: u32,
+    at: usize,
+    out: &mut [u8],
+    pos: usize,
+) -> Spot
+    requires { ⌜ Checked (now words) (now pairs) (now text) × (0 < n) × (level < 2 ^ 30) × Ready true (now out) pos (casesAt (now words) (now pairs) (now text) level n at) ⌝ }
+    ensures { λ r. ⌜ Came true (now (out .entry)) pos (casesAt (now (words .entry)) (now (pairs .entry)) (now (text .entry)) level n at) (now (out .exit)) (r .next) (r .pos) ⌝ }
+{
+    let mut place = at;
+    let mut p = pos;
+    let mut left = n;
+    loop {
+        let spot = write_case_line(words, pairs, text, level, place, out, p);
+        left -= 1;
+        if left == 0 {
+            return spot;
+        }
+        place = spot.next;
+        p = output::put(b",", out, spot.pos);
+    }
 }
 
 // `n` cases, one at least.
@@ -221,21 +382,14 @@ fn lay_cases(
     requires { ⌜ Checked (now words) (now pairs) (now text) × (0 < n) × (level < 2 ^ 30) × Ready write (now out) pos (casesAt (now words) (now pairs) (now text) level n at) ⌝ }
     ensures { λ r. ⌜ Went write (now (out .entry)) pos (casesAt (now (words .entry)) (now (pairs .entry)) (now (text .entry)) level n at) (now (out .exit)) r ⌝ }
 {
-    let mut place = at;
-    let mut p = pos;
-    let mut left = n;
-    loop {
-        let one = lay_case_line(write, words, pairs, text, level, place, out, p);
-        let Place::At { next, pos: end } = one else {
-            return one;
+    if write {
+        let spot = write_cases(words, pairs, text, level, n, at, out, pos);
+        return Place::At {
+            next: spot.next,
+            pos: spot.pos,
         };
-        left -= 1;
-        if left == 0 {
-            return one;
-        }
-        place = next;
-        p = output::lay(write, b",", out, end);
     }
+    count_cases(words, pairs, text, level, n, at, pos)
 }
 
 // The cases of an enum.
@@ -329,7 +483,7 @@ fn lay_body(
     ensures { λ r. ⌜ Went write (now (out .entry)) pos (bodyAt (now (words .entry)) (now (pairs .entry)) (now (text .entry)) head level at) (now (out .exit)) r ⌝ }
 {
     match head {
-        STRUCT => lay_fields(write, words, pairs, text, false, level, at, out, pos),
+        STRUCT => lay_fields(write, words, pairs, text, level, at, out, pos),
         ENUM => lay_enum_body(write, words, pairs, text, level, at, out, pos),
         _ => lay_synonym_body(write, words, pairs, text, at, out, pos),
     }

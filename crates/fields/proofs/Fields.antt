@@ -1,23 +1,31 @@
 -- Fields and lists of fields, from the texts of their parts.
-use Prim.Native.Nat.{ℕ, _+_, _<_}
-use mathlib.Core.Path.{_≡_, refl, ap, sym, _∙_}
+use Prim.Native.Nat.{ℕ, _+_, _*_, _≤_, _<_}
+use mathlib.Core.Path.{_≡_, refl, ap, sym, _∙_, subst}
 use mathlib.Core.Bool.{Bool, true, false}
-use mathlib.Core.List.{List, _∷_, _++_, append-assoc}
+use mathlib.Core.List.{List, [], _∷_, _++_, append-assoc}
 use native.Mathlib.Numerals.{add-one}
+use native.Mathlib.Omega.{arith}
+use lib.ListN.{length, getD, length-append}
 use Rattle.rast.specs.Bytes.{Bytes, ascii}
 use Rattle.rast.specs.Tree.{Ty}
 use Rattle.rast.specs.ToString.{Type·ToString}
 use Rattle.rast.specs.Indent.{IND, indent, SeqToString}
 use Rattle.rast.specs.Declaration.{NamedFields, NamelessFields}
 use Rattle.rast.specs.DeclarationToString.{Visibility·ToString, Formal·ToString, Field·ToString, NamelessField·ToString, separatorText, beginSpace, endSpace, Fields·ToString}
+use Rattle.output.specs.Laid.{clamp, Laid}
+use Rattle.output.proofs.Passes.{laid-counted}
+use Rattle.doc.proofs.Laying.{indent-length, line-size}
 use Rattle.encoding.specs.declared.Refusal.{Refusal}
 use Rattle.encoding.specs.Reading.{Reading, got, stop, mapReading, readWord}
 use Rattle.encoding.specs.Tables.{nameBytes, nameCount}
 use Rattle.encoding.specs.Types.{typeAt}
 use Rattle.encoding.specs.Declarations.{readList, readVisibility, readFormal, readField, readNamelessField}
-use Rattle.laying.specs.Passes.{last, _then_, run}
+use Rattle.encoding.proofs.Tables.{impossible}
+use Rattle.encoding.proofs.Inside.{word-there}
+use Rattle.laying.specs.declared.Place.the-variants.{At}
+use Rattle.laying.specs.Passes.{last, _then_, run, Ready, Came, came, Along}
 use Rattle.laying.specs.Texts.{visibilityAt}
-use Rattle.laying.proofs.Passes.{Runs}
+use Rattle.laying.proofs.Passes.{Runs, came-to}
 use Rattle.laying.proofs.Splits.{split₂, listed-read, listed-same, around, counted-got, counted-none, counted-stop, within-same}
 use Rattle.fields.specs.declared.Entry.{Entry}
 use Rattle.fields.specs.declared.Entry.the-variants.{Named, Inline, Lined}
@@ -32,6 +40,34 @@ indent-more level = rw (add-one level)
 pub comma-line : (level : ℕ) → separatorText (indent level) true ≡ ascii "," ++ (ascii "\n" ++ indent (level + 1))
 unfolding separatorText ascii
 comma-line level = rw (indent-more level)
+
+-- ---- the lengths of fixed texts
+
+pub comma-line-size : (level : ℕ) → length (separatorText (indent level) true) ≡ 6 + 4 * level
+unfolding ascii
+comma-line-size level = ap length (comma-line level) ∙ (let n = indent-length (level + 1) in omega (arith, n))
+
+pub front-size : (level : ℕ) → length (listFront true level) ≡ 7 + 4 * level
+unfolding listFront ascii
+front-size level = let n = indent-length (level + 1) in omega (arith, n)
+
+pub end-size : (level : ℕ) → length (listEnd true level) ≡ 2 + 4 * level
+unfolding listEnd ascii
+end-size level = let n = line-size level in let l = length-append (lineText level) (ascii "}") in omega (arith, n, l)
+
+-- ---- bytes that are counted, or have room
+
+pub laid-size : {p q n : ℕ} {b : Bytes} → clamp q ≡ clamp (p + n) → n ≡ length b → Laid false [] p b [] q
+laid-size {p} c e = laid-counted refl (c ∙ ap (λ (m : ℕ). clamp (p + m)) e)
+
+pub room-as : (p : ℕ) (o : List ℕ) {b c : Bytes} → b ≡ c → p + length b ≤ length o → p + length c ≤ length o
+room-as p o e h = subst (λ (x : Bytes). p + length x ≤ length o) e h
+
+-- what was left of a text is written: so is the text
+pub along-came : {o o₁ o₂ : List ℕ} {p p₁ n q : ℕ} {whole left : Reading Bytes} → Along true o p whole o₁ p₁ left → Came true o₁ p₁ left o₂ n q → Came true o p whole o₂ n q
+along-came {o₂ = o₂} {n = n} {q = q} a c = came-to (a .ends o₂ (At n q) (came c)) refl
+
+-- ---- texts
 
 -- the text of a list of named fields
 braces : (ind s : Bytes) → ascii " {" ++ (ascii "\n" ++ ind ++ IND) ++ s ++ (ascii "\n" ++ ind) ++ ascii "}"
@@ -122,6 +158,14 @@ module _ (ws pairs : List ℕ) (text : Bytes) where
   list-stop Named level at e = counted-stop (λ l. Fields·ToString (indent level) true (NamedFields l)) ws (readField bound ws name type) at e
   list-stop Inline level at e = counted-stop (λ l. Fields·ToString (indent level) false (NamelessFields l)) ws (readNamelessField bound ws name type) at e
   list-stop Lined level at e = counted-stop (λ l. Fields·ToString (indent level) true (NamelessFields l)) ws (readNamelessField bound ws name type) at e
+
+  -- the count of a list that was accepted
+  pub list-there : (entry : Entry) (level at : ℕ) {o : List ℕ} {p : ℕ} → Ready true o p (listAt ws pairs text entry level at) → readWord ws at ≡ got (getD ws at 0) (at + 1)
+  list-there entry level at r = go (readWord ws at) refl (r .room refl .reads)
+    where
+      go : {v : Bytes} {n : ℕ} (y : Reading ℕ) → readWord ws at ≡ y → listAt ws pairs text entry level at ≡ got v n → readWord ws at ≡ got (getD ws at 0) (at + 1)
+      go (got w m) e d = let t = word-there ws at e in e ∙ cc (t .same, t .next)
+      go (stop k) e d = impossible (let c = list-stop entry level at e in cc)
 
   -- ---- a list that is not empty, as a chain
 

@@ -1,19 +1,20 @@
 // Lists of fields, with names or without.
 ghost use mathlib.Core.Path.{_≡_};
 ghost use mathlib.Core.Bool.{true};
-ghost use mathlib.Core.List.{_++_};
-ghost use Prim.Native.Nat.{_+_, _^_, _<_};
-ghost use Rattle.rast.specs.Bytes.{ascii};
-ghost use Rattle.rast.specs.Indent.{indent};
+ghost use Prim.Native.Nat.{_+_, _^_, _<_, _≤_};
+ghost use lib.ListN.{length};
 ghost use Rattle.rast.specs.DeclarationToString.{separatorText};
-ghost use Rattle.output.specs.Laid.{Laid, Fits};
-ghost use Rattle.laying.specs.Passes.{Checked, Ready, Went};
+ghost use Rattle.rast.specs.Indent.{indent};
+ghost use Rattle.output.specs.Wrote.{Wrote};
+ghost use Rattle.laying.specs.Passes.{Checked, Ready, Came, Counts};
 ghost use Rattle.laying.specs.Texts.{typeTextAt};
-ghost use Rattle.formal.specs.Labels.{Labelled};
-ghost use Rattle.fields.specs.Texts.{lineText, isNamed, entryGap, listFront, listEnd, noFields, restAt, fieldAt, entryAt, entriesAt, someAt, listAt};
+ghost use Rattle.formal.specs.Labels.{Labelled, LabelWritten};
+ghost use Rattle.fields.specs.Texts.{isNamed, entryGap, listFront, listEnd, noFields, restAt, fieldAt, entriesAt, someAt, listAt};
 use encoding::WordScan;
 use formal::Label;
 use laying::Place;
+use writing::Part;
+use writing::Spot;
 
 // What a list is of: named fields, which stand on lines of their own, or fields without names, one behind the other or on lines of their own.
 pub enum Entry {
@@ -33,121 +34,110 @@ fn is_named(entry: Entry) -> bool
     }
 }
 
+// ---- counting
+
 // What stands before a field's type, if it has a name.
-fn lay_label(
-    write: bool,
+fn count_label(
     words: &[u32],
     pairs: &[u32],
     text: &[u8],
     named: bool,
     at: usize,
-    out: &mut [u8],
     pos: usize,
 ) -> Label
-    requires { ⌜ Checked (now words) (now pairs) (now text) × Ready write (now out) pos (restAt (now words) (now pairs) (now text) named at) ⌝ }
-    ensures { λ r. ⌜ Labelled (typeTextAt (now (words .entry)) (now (pairs .entry)) (now (text .entry))) write (now (out .entry)) pos (restAt (now (words .entry)) (now (pairs .entry)) (now (text .entry)) named at) (now (out .exit)) r ⌝ }
+    requires { ⌜ Checked (now words) (now pairs) (now text) ⌝ }
+    ensures { λ r. ⌜ Labelled (typeTextAt (now (words .entry)) (now (pairs .entry)) (now (text .entry))) pos (restAt (now (words .entry)) (now (pairs .entry)) (now (text .entry)) named at) r ⌝ }
 {
     if named {
-        return formal::lay_label(write, words, pairs, text, at, out, pos);
+        return formal::count_label(words, pairs, text, at, pos);
     }
     Label::Open { next: at, pos }
 }
 
-// A field behind its visibility: its name and type, or its type alone. All types of fields are laid by this one call.
-fn lay_rest(
-    write: bool,
+// A field behind its visibility: its name and type, or its type alone. All types of fields are counted by this one call.
+fn count_rest(
     words: &[u32],
     pairs: &[u32],
     text: &[u8],
     named: bool,
     at: usize,
-    out: &mut [u8],
     pos: usize,
 ) -> Place
-    requires { ⌜ Checked (now words) (now pairs) (now text) × Ready write (now out) pos (restAt (now words) (now pairs) (now text) named at) ⌝ }
-    ensures { λ r. ⌜ Went write (now (out .entry)) pos (restAt (now (words .entry)) (now (pairs .entry)) (now (text .entry)) named at) (now (out .exit)) r ⌝ }
+    requires { ⌜ Checked (now words) (now pairs) (now text) ⌝ }
+    ensures { λ r. ⌜ Counts pos (restAt (now (words .entry)) (now (pairs .entry)) (now (text .entry)) named at) r ⌝ }
 {
-    match lay_label(write, words, pairs, text, named, at, out, pos) {
-        Label::Open { next, pos: p } => laying::lay_field_type(
-            write,
-            words,
-            pairs,
-            text,
-            next,
-            out,
-            p,
-        ),
+    match count_label(words, pairs, text, named, at, pos) {
+        Label::Open { next, pos: p } => laying::count_field_type(words, pairs, text, next, p),
         Label::Whole { next, pos: p } => Place::At { next, pos: p },
         Label::NoLabel(r) => Place::Stopped(r),
     }
 }
 
-// A field.
-fn lay_field(
-    write: bool,
+// A field, counted.
+fn count_field(
     words: &[u32],
     pairs: &[u32],
     text: &[u8],
     named: bool,
     at: usize,
-    out: &mut [u8],
     pos: usize,
 ) -> Place
-    requires { ⌜ Checked (now words) (now pairs) (now text) × Ready write (now out) pos (fieldAt (now words) (now pairs) (now text) named at) ⌝ }
-    ensures { λ r. ⌜ Went write (now (out .entry)) pos (fieldAt (now (words .entry)) (now (pairs .entry)) (now (text .entry)) named at) (now (out .exit)) r ⌝ }
+    requires { ⌜ Checked (now words) (now pairs) (now text) ⌝ }
+    ensures { λ r. ⌜ Counts pos (fieldAt (now (words .entry)) (now (pairs .entry)) (now (text .entry)) named at) r ⌝ }
 {
-    let visibility = laying::lay_visibility(write, words, at, out, pos);
+    let visibility = laying::count_visibility(words, at, pos);
     let Place::At { next, pos: p } = visibility else {
         return visibility;
     };
-    lay_rest(write, words, pairs, text, named, next, out, p)
-}
-
-// One of a list.
-fn lay_entry(
-    write: bool,
-    words: &[u32],
-    pairs: &[u32],
-    text: &[u8],
-    entry: Entry,
-    at: usize,
-    out: &mut [u8],
-    pos: usize,
-) -> Place
-    requires { ⌜ Checked (now words) (now pairs) (now text) × Ready write (now out) pos (entryAt (now words) (now pairs) (now text) entry at) ⌝ }
-    ensures { λ r. ⌜ Went write (now (out .entry)) pos (entryAt (now (words .entry)) (now (pairs .entry)) (now (text .entry)) entry at) (now (out .exit)) r ⌝ }
-{
-    lay_field(write, words, pairs, text, is_named(entry), at, out, pos)
-}
-
-// A comma, and the next line of the fields.
-fn lay_comma_line(write: bool, level: u32, out: &mut [u8], pos: usize) -> usize
-    requires { ⌜ (level < 2 ^ 31) × Fits write (now out) pos (separatorText (indent level) true) ⌝ }
-    ensures { λ r. ⌜ Laid write (now (out .entry)) pos (separatorText (indent level) true) (now (out .exit)) r ⌝ }
-{
-    let inner = level + 1;
-    if write {
-        let p = output::put(b",", out, pos);
-        return doc::put_line(inner, out, p);
-    }
-    output::count_few(pos, 2 + 4 * inner as usize)
+    count_rest(words, pairs, text, named, next, p)
 }
 
 // What stands between two of them.
-fn lay_entry_gap(write: bool, entry: Entry, level: u32, out: &mut [u8], pos: usize) -> usize
-    requires { ⌜ (level < 2 ^ 31) × Fits write (now out) pos (entryGap entry level) ⌝ }
-    ensures { λ r. ⌜ Laid write (now (out .entry)) pos (entryGap entry level) (now (out .exit)) r ⌝ }
+fn gap_length(entry: Entry, level: u32) -> usize
+    requires { ⌜ level < 2 ^ 31 ⌝ }
+    ensures { λ r. ⌜ (r ≡ length (entryGap entry level)) × (r < 2 ^ 40) ⌝ }
 {
     match entry {
-        Entry::Named => lay_comma_line(write, level, out, pos),
-        Entry::Inline => output::lay(write, b", ", out, pos),
-        Entry::Lined => lay_comma_line(write, level, out, pos),
+        Entry::Named => 6 + 4 * level as usize,
+        Entry::Inline => 2,
+        Entry::Lined => 6 + 4 * level as usize,
     }
 }
 
-// `n` of them, one at least.
-fn lay_entries(
-    write: bool,
+// What stands before the first field.
+fn front_length(named: bool, level: u32) -> usize
+    requires { ⌜ level < 2 ^ 31 ⌝ }
+    ensures { λ r. ⌜ (r ≡ length (listFront named level)) × (r < 2 ^ 40) ⌝ }
+{
+    if named {
+        return 7 + 4 * level as usize;
+    }
+    1
+}
+
+// What stands behind the last one.
+fn end_length(named: bool, level: u32) -> usize
+    requires { ⌜ level < 2 ^ 31 ⌝ }
+    ensures { λ r. ⌜ (r ≡ length (listEnd named level)) × (r < 2 ^ 40) ⌝ }
+{
+    if named {
+        return 2 + 4 * level as usize;
+    }
+    1
+}
+
+// What stands for no fields.
+fn none_length(named: bool) -> usize
+    ensures { λ r. ⌜ (r ≡ length (noFields named)) × (r < 2 ^ 40) ⌝ }
+{
+    if named {
+        return 3;
+    }
+    2
+}
+
+// `n` of them, one at least, counted.
+fn count_entries(
     words: &[u32],
     pairs: &[u32],
     text: &[u8],
@@ -155,17 +145,17 @@ fn lay_entries(
     level: u32,
     n: u32,
     at: usize,
-    out: &mut [u8],
     pos: usize,
 ) -> Place
-    requires { ⌜ Checked (now words) (now pairs) (now text) × (0 < n) × (level < 2 ^ 31) × Ready write (now out) pos (entriesAt (now words) (now pairs) (now text) entry level n at) ⌝ }
-    ensures { λ r. ⌜ Went write (now (out .entry)) pos (entriesAt (now (words .entry)) (now (pairs .entry)) (now (text .entry)) entry level n at) (now (out .exit)) r ⌝ }
+    requires { ⌜ Checked (now words) (now pairs) (now text) × (0 < n) × (level < 2 ^ 31) ⌝ }
+    ensures { λ r. ⌜ Counts pos (entriesAt (now (words .entry)) (now (pairs .entry)) (now (text .entry)) entry level n at) r ⌝ }
 {
+    let named = is_named(entry);
     let mut place = at;
     let mut p = pos;
     let mut left = n;
     loop {
-        let one = lay_entry(write, words, pairs, text, entry, place, out, p);
+        let one = count_field(words, pairs, text, named, place, p);
         let Place::At { next, pos: end } = one else {
             return one;
         };
@@ -174,64 +164,143 @@ fn lay_entries(
             return one;
         }
         place = next;
-        p = lay_entry_gap(write, entry, level, out, end);
+        p = output::count_few(end, gap_length(entry, level));
     }
-}
-
-// An open brace, and the line of the first named field.
-fn lay_open_brace(write: bool, level: u32, out: &mut [u8], pos: usize) -> usize
-    requires { ⌜ (level < 2 ^ 31) × Fits write (now out) pos (ascii " {" ++ lineText (level + 1)) ⌝ }
-    ensures { λ r. ⌜ Laid write (now (out .entry)) pos (ascii " {" ++ lineText (level + 1)) (now (out .exit)) r ⌝ }
-{
-    let p = output::lay(write, b" {", out, pos);
-    doc::lay_line(write, level + 1, out, p)
-}
-
-// A line behind the last named field, and its brace.
-fn lay_close_brace(write: bool, level: u32, out: &mut [u8], pos: usize) -> usize
-    requires { ⌜ Fits write (now out) pos (lineText level ++ ascii "}") ⌝ }
-    ensures { λ r. ⌜ Laid write (now (out .entry)) pos (lineText level ++ ascii "}") (now (out .exit)) r ⌝ }
-{
-    let p = doc::lay_line(write, level, out, pos);
-    output::lay(write, b"}", out, p)
-}
-
-// What stands before the first field.
-fn lay_list_front(write: bool, named: bool, level: u32, out: &mut [u8], pos: usize) -> usize
-    requires { ⌜ (level < 2 ^ 31) × Fits write (now out) pos (listFront named level) ⌝ }
-    ensures { λ r. ⌜ Laid write (now (out .entry)) pos (listFront named level) (now (out .exit)) r ⌝ }
-{
-    if named {
-        return lay_open_brace(write, level, out, pos);
-    }
-    output::lay(write, b"(", out, pos)
-}
-
-// What stands behind the last one.
-fn lay_list_end(write: bool, named: bool, level: u32, out: &mut [u8], pos: usize) -> usize
-    requires { ⌜ Fits write (now out) pos (listEnd named level) ⌝ }
-    ensures { λ r. ⌜ Laid write (now (out .entry)) pos (listEnd named level) (now (out .exit)) r ⌝ }
-{
-    if named {
-        return lay_close_brace(write, level, out, pos);
-    }
-    output::lay(write, b")", out, pos)
-}
-
-// What stands for no fields.
-fn lay_no_fields(write: bool, named: bool, out: &mut [u8], pos: usize) -> usize
-    requires { ⌜ Fits write (now out) pos (noFields named) ⌝ }
-    ensures { λ r. ⌜ Laid write (now (out .entry)) pos (noFields named) (now (out .exit)) r ⌝ }
-{
-    if named {
-        return output::lay(write, b" {}", out, pos);
-    }
-    output::lay(write, b"()", out, pos)
 }
 
 // `n` fields with what stands around them.
-fn lay_some(
-    write: bool,
+fn count_some(
+    words: &[u32],
+    pairs: &[u32],
+    text: &[u8],
+    entry: Entry,
+    level: u32,
+    n: u32,
+    at: usize,
+    pos: usize,
+) -> Place
+    requires { ⌜ Checked (now words) (now pairs) (now text) × (0 < n) × (level < 2 ^ 31) ⌝ }
+    ensures { λ r. ⌜ Counts pos (someAt (now (words .entry)) (now (pairs .entry)) (now (text .entry)) entry level n at) r ⌝ }
+{
+    let named = is_named(entry);
+    let p = output::count_few(pos, front_length(named, level));
+    let list = count_entries(words, pairs, text, entry, level, n, at, p);
+    let Place::At { next, pos: end } = list else {
+        return list;
+    };
+    Place::At {
+        next,
+        pos: output::count_few(end, end_length(named, level)),
+    }
+}
+
+// The fields behind the word that says whether they have names.
+pub fn count_list(
+    words: &[u32],
+    pairs: &[u32],
+    text: &[u8],
+    entry: Entry,
+    level: u32,
+    at: usize,
+    pos: usize,
+) -> Place
+    requires { ⌜ Checked (now words) (now pairs) (now text) × (level < 2 ^ 31) ⌝ }
+    ensures { λ r. ⌜ Counts pos (listAt (now (words .entry)) (now (pairs .entry)) (now (text .entry)) entry level at) r ⌝ }
+{
+    match encoding::scan_word(words, at) {
+        WordScan::Word { value, next } => {
+            if value == 0 {
+                return Place::At {
+                    next,
+                    pos: output::count_few(pos, none_length(is_named(entry))),
+                };
+            }
+            count_some(words, pairs, text, entry, level, value, next, pos)
+        }
+        WordScan::NoWord(r) => Place::Stopped(r),
+    }
+}
+
+// ---- writing what was accepted
+
+// What stands before a field's type, if it has a name.
+fn write_label(
+    words: &[u32],
+    pairs: &[u32],
+    text: &[u8],
+    named: bool,
+    at: usize,
+    out: &mut [u8],
+    pos: usize,
+) -> Part
+    requires { ⌜ Checked (now words) (now pairs) (now text) × Ready true (now out) pos (restAt (now words) (now pairs) (now text) named at) ⌝ }
+    ensures { λ r. ⌜ LabelWritten (typeTextAt (now (words .entry)) (now (pairs .entry)) (now (text .entry))) (now (out .entry)) pos (restAt (now (words .entry)) (now (pairs .entry)) (now (text .entry)) named at) (now (out .exit)) r ⌝ }
+{
+    if named {
+        return formal::write_label(words, pairs, text, at, out, pos);
+    }
+    Part::Rest(Spot { next: at, pos })
+}
+
+// A field behind its visibility: its name and type, or its type alone. All types of fields are written by this one call.
+fn write_rest(
+    words: &[u32],
+    pairs: &[u32],
+    text: &[u8],
+    named: bool,
+    at: usize,
+    out: &mut [u8],
+    pos: usize,
+) -> Spot
+    requires { ⌜ Checked (now words) (now pairs) (now text) × Ready true (now out) pos (restAt (now words) (now pairs) (now text) named at) ⌝ }
+    ensures { λ r. ⌜ Came true (now (out .entry)) pos (restAt (now (words .entry)) (now (pairs .entry)) (now (text .entry)) named at) (now (out .exit)) (r .next) (r .pos) ⌝ }
+{
+    match write_label(words, pairs, text, named, at, out, pos) {
+        Part::Rest(spot) => laying::write_field_type(words, pairs, text, spot.next, out, spot.pos),
+        Part::Done(spot) => spot,
+    }
+}
+
+// A field.
+fn write_field(
+    words: &[u32],
+    pairs: &[u32],
+    text: &[u8],
+    named: bool,
+    at: usize,
+    out: &mut [u8],
+    pos: usize,
+) -> Spot
+    requires { ⌜ Checked (now words) (now pairs) (now text) × Ready true (now out) pos (fieldAt (now words) (now pairs) (now text) named at) ⌝ }
+    ensures { λ r. ⌜ Came true (now (out .entry)) pos (fieldAt (now (words .entry)) (now (pairs .entry)) (now (text .entry)) named at) (now (out .exit)) (r .next) (r .pos) ⌝ }
+{
+    let p = laying::write_visibility(words, at, out, pos);
+    write_rest(words, pairs, text, named, at + 1, out, p)
+}
+
+// A comma, and the next line of the fields.
+fn write_comma_line(level: u32, out: &mut [u8], pos: usize) -> usize
+    requires { ⌜ (level < 2 ^ 31) × (pos + length (separatorText (indent level) true) ≤ length (now out)) ⌝ }
+    ensures { λ r. ⌜ Wrote (now (out .entry)) pos (separatorText (indent level) true) (now (out .exit)) r ⌝ }
+{
+    let p = output::put(b",", out, pos);
+    doc::put_line(level + 1, out, p)
+}
+
+// What stands between two of them.
+fn write_gap(entry: Entry, level: u32, out: &mut [u8], pos: usize) -> usize
+    requires { ⌜ (level < 2 ^ 31) × (pos + length (entryGap entry level) ≤ length (now out)) ⌝ }
+    ensures { λ r. ⌜ Wrote (now (out .entry)) pos (entryGap entry level) (now (out .exit)) r ⌝ }
+{
+    match entry {
+        Entry::Named => write_comma_line(level, out, pos),
+        Entry::Inline => output::put(b", ", out, pos),
+        Entry::Lined => write_comma_line(level, out, pos),
+    }
+}
+
+// `n` of them, one at least.
+fn write_entries(
     words: &[u32],
     pairs: &[u32],
     text: &[u8],
@@ -241,25 +310,86 @@ fn lay_some(
     at: usize,
     out: &mut [u8],
     pos: usize,
-) -> Place
-    requires { ⌜ Checked (now words) (now pairs) (now text) × (0 < n) × (level < 2 ^ 31) × Ready write (now out) pos (someAt (now words) (now pairs) (now text) entry level n at) ⌝ }
-    ensures { λ r. ⌜ Went write (now (out .entry)) pos (someAt (now (words .entry)) (now (pairs .entry)) (now (text .entry)) entry level n at) (now (out .exit)) r ⌝ }
+) -> Spot
+    requires { ⌜ Checked (now words) (now pairs) (now text) × (0 < n) × (level < 2 ^ 31) × Ready true (now out) pos (entriesAt (now words) (now pairs) (now text) entry level n at) ⌝ }
+    ensures { λ r. ⌜ Came true (now (out .entry)) pos (entriesAt (now (words .entry)) (now (pairs .entry)) (now (text .entry)) entry level n at) (now (out .exit)) (r .next) (r .pos) ⌝ }
 {
     let named = is_named(entry);
-    let p = lay_list_front(write, named, level, out, pos);
-    let list = lay_entries(write, words, pairs, text, entry, level, n, at, out, p);
-    let Place::At { next, pos: end } = list else {
-        return list;
-    };
-    Place::At {
-        next,
-        pos: lay_list_end(write, named, level, out, end),
+    let mut place = at;
+    let mut p = pos;
+    let mut left = n;
+    loop {
+        let spot = write_field(words, pairs, text, named, place, out, p);
+        left -= 1;
+        if left == 0 {
+            return spot;
+        }
+        place = spot.next;
+        p = write_gap(entry, level, out, spot.pos);
+    }
+}
+
+// What stands before the first field.
+fn write_front(named: bool, level: u32, out: &mut [u8], pos: usize) -> usize
+    requires { ⌜ (level < 2 ^ 31) × (pos + length (listFront named level) ≤ length (now out)) ⌝ }
+    ensures { λ r. ⌜ Wrote (now (out .entry)) pos (listFront named level) (now (out .exit)) r ⌝ }
+{
+    if named {
+        let p = output::put(b" {", out, pos);
+        return doc::put_line(level + 1, out, p);
+    }
+    output::put(b"(", out, pos)
+}
+
+// What stands behind the last one.
+fn write_end(named: bool, level: u32, out: &mut [u8], pos: usize) -> usize
+    requires { ⌜ pos + length (listEnd named level) ≤ length (now out) ⌝ }
+    ensures { λ r. ⌜ Wrote (now (out .entry)) pos (listEnd named level) (now (out .exit)) r ⌝ }
+{
+    if named {
+        let p = doc::put_line(level, out, pos);
+        return output::put(b"}", out, p);
+    }
+    output::put(b")", out, pos)
+}
+
+// What stands for no fields.
+fn write_none(named: bool, out: &mut [u8], pos: usize) -> usize
+    requires { ⌜ pos + length (noFields named) ≤ length (now out) ⌝ }
+    ensures { λ r. ⌜ Wrote (now (out .entry)) pos (noFields named) (now (out .exit)) r ⌝ }
+{
+    if named {
+        return output::put(b" {}", out, pos);
+    }
+    output::put(b"()", out, pos)
+}
+
+// `n` fields with what stands around them.
+fn write_some(
+    words: &[u32],
+    pairs: &[u32],
+    text: &[u8],
+    entry: Entry,
+    level: u32,
+    n: u32,
+    at: usize,
+    out: &mut [u8],
+    pos: usize,
+) -> Spot
+    requires { ⌜ Checked (now words) (now pairs) (now text) × (0 < n) × (level < 2 ^ 31) × Ready true (now out) pos (someAt (now words) (now pairs) (now text) entry level n at) ⌝ }
+    ensures { λ r. ⌜ Came true (now (out .entry)) pos (someAt (now (words .entry)) (now (pairs .entry)) (now (text .entry)) entry level n at) (now (out .exit)) (r .next) (r .pos) ⌝ }
+{
+    let named = is_named(entry);
+    let p = write_front(named, level, out, pos);
+    let spot = write_entries(words, pairs, text, entry, level, n, at, out, p);
+    Spot {
+        next: spot.next,
+        pos: write_end(named, level, out, spot.pos),
     }
 }
 
 // The fields behind the word that says whether they have names.
-pub fn lay_list(
-    write: bool,
+pub fn write_list(
     words: &[u32],
     pairs: &[u32],
     text: &[u8],
@@ -268,31 +398,16 @@ pub fn lay_list(
     at: usize,
     out: &mut [u8],
     pos: usize,
-) -> Place
-    requires { ⌜ Checked (now words) (now pairs) (now text) × (level < 2 ^ 31) × Ready write (now out) pos (listAt (now words) (now pairs) (now text) entry level at) ⌝ }
-    ensures { λ r. ⌜ Went write (now (out .entry)) pos (listAt (now (words .entry)) (now (pairs .entry)) (now (text .entry)) entry level at) (now (out .exit)) r ⌝ }
+) -> Spot
+    requires { ⌜ Checked (now words) (now pairs) (now text) × (level < 2 ^ 31) × Ready true (now out) pos (listAt (now words) (now pairs) (now text) entry level at) ⌝ }
+    ensures { λ r. ⌜ Came true (now (out .entry)) pos (listAt (now (words .entry)) (now (pairs .entry)) (now (text .entry)) entry level at) (now (out .exit)) (r .next) (r .pos) ⌝ }
 {
-    match encoding::scan_word(words, at) {
-        WordScan::Word { value, next } => {
-            if value == 0 {
-                return Place::At {
-                    next,
-                    pos: lay_no_fields(write, is_named(entry), out, pos),
-                };
-            }
-            lay_some(
-                write,
-                words,
-                pairs,
-                text,
-                entry,
-                level,
-                value,
-                next,
-                out,
-                pos,
-            )
-        }
-        WordScan::NoWord(r) => Place::Stopped(r),
+    let n = words[at];
+    if n == 0 {
+        return Spot {
+            next: at + 1,
+            pos: write_none(is_named(entry), out, pos),
+        };
     }
+    write_some(words, pairs, text, entry, level, n, at + 1, out, pos)
 }

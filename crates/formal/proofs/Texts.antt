@@ -2,13 +2,16 @@
 use Prim.Native.Nat.{ℕ, _+_}
 use mathlib.Core.Path.{_≡_, refl, ap, sym, _∙_, subst}
 use mathlib.Core.Bool.{Bool, true, false}
-use mathlib.Core.List.{List, _++_, append-assoc}
+use mathlib.Core.List.{List, [], _++_, append-assoc}
+use lib.ListN.{length, getD}
 use Rattle.rast.specs.Bytes.{Bytes, ascii, same, _and_}
 use Rattle.rast.specs.Tree.{Ty, TIdentifier}
 use Rattle.rast.specs.ToString.{Type·ToString}
 use Rattle.rast.specs.Declaration.{Formal}
 use Rattle.rast.specs.DeclarationToString.{Expand, isSelfOwned, isSelfBorrowed, isSelfBorrowedMut, isUnderscore, Formal·ToString}
-use Rattle.output.specs.Laid.{Laid}
+use Rattle.output.specs.Wrote.{Wrote}
+use Rattle.output.specs.Laid.{Laid, clamp}
+use Rattle.output.proofs.Passes.{laid-wrote}
 use Rattle.encoding.specs.declared.Refusal.{Refusal}
 use Rattle.encoding.specs.Refusals.{pick}
 use Rattle.encoding.specs.Reading.{Reading, got, stop, _>>=_, mapReading, readBelow}
@@ -16,15 +19,21 @@ use Rattle.encoding.specs.Tables.{nameBytes, nameCount}
 use Rattle.encoding.specs.Types.{typeAt}
 use Rattle.encoding.specs.Declarations.{readName, readFormal}
 use Rattle.encoding.proofs.Tables.{impossible}
+use Rattle.encoding.proofs.Types.{bind-got}
+use Rattle.encoding.proofs.Inside.{below-there}
+use Rattle.writing.specs.declared.Spot.{Spot}
+use Rattle.writing.specs.declared.Part.{Part}
+use Rattle.writing.specs.declared.Part.the-variants.{Rest, Done}
+use Rattle.writing.specs.Written.{Readable}
 use Rattle.laying.specs.Passes.{last, _then_, run, Ready, Came, Along}
 use Rattle.laying.specs.Texts.{typeTextAt}
-use Rattle.laying.proofs.Passes.{Runs, ReadyChain, came-bytes, ready-runs, ready-last, ready-next, went-runs, went-last, went-then}
+use Rattle.laying.proofs.Passes.{Runs, ReadyChain, came-bytes, counts-bytes, ready-runs, ready-last, ready-next, went-runs, went-last, went-then}
 use Rattle.laying.proofs.Splits.{map-got, map-made}
 use Rattle.formal.specs.declared.Label.{Label}
 use Rattle.formal.specs.declared.Label.the-variants.{Open, Whole, NoLabel}
 use Rattle.formal.specs.declared.Receiver.{Receiver}
 use Rattle.formal.specs.declared.Receiver.the-variants.{ByValue, ByRef, ByMut, Typed}
-use Rattle.formal.specs.Labels.{Labelled, opened, whole, unread}
+use Rattle.formal.specs.Labels.{Labelled, opened, whole, unread, LabelWritten, front, all}
 use Rattle.formal.specs.Receivers.{receiverOf}
 use Rattle.formal.specs.Texts.{formalAt, formalOf, typedAt}
 
@@ -158,30 +167,73 @@ module _ (ws pairs : List ℕ) (text : Bytes) (x at : ℕ) where
     ends = λ o″ a w. went-runs typed-runs (went-then (came-bytes at k) (went-then (came-bytes at l) (went-last w)));
   }
 
--- ---- how far a field was laid
+-- ---- a field that was accepted
 
-module _ {rest : ℕ → Reading Bytes} {write : Bool} {o : List ℕ} {p : ℕ} {o′ : List ℕ} where
-  pub labelled-as : {x y : Reading Bytes} {r : Label} → x ≡ y → Labelled rest write o p x o′ r → Labelled rest write o p y o′ r
-  labelled-as {r = r} e l = subst (λ (z : Reading Bytes). Labelled rest write o p z o′ r) e l
+made-of : {A : Type 0} (f : A → Bytes) (y : Reading A) {b : Bytes} {n : ℕ} → mapReading f y ≡ got b n → Readable y
+unfolding mapReading
+made-of f (got a m) e = record { value = a; end = m; reads = refl }
+made-of f (stop k) e = impossible (cc)
+
+module _ (ws pairs : List ℕ) (text : Bytes) {o : List ℕ} {pos : ℕ} where
+  pub type-read : (x at : ℕ) → Ready true o pos (formalOf ws pairs text x at) → Readable (typeAt ws pairs text at)
+  type-read x at r = made-of (λ t. Formal·ToString (formal (nameBytes pairs text x) t)) (typeAt ws pairs text at) (r .room refl .reads)
+
+  pub name-read : (at : ℕ) → Ready true o pos (formalAt ws pairs text at) → readBelow (nameCount pairs) ws at ≡ got (getD ws at 0) (at + 1)
+  unfolding readFormal readName
+  name-read at r =
+      let m = made-of Formal·ToString (readFormal (nameCount pairs) ws (nameBytes pairs text) (typeAt ws pairs text) at) (r .room refl .reads) in
+      let d = bind-got (readName (nameCount pairs) ws (nameBytes pairs text) (typeAt ws pairs text) at) _ (m .reads) in
+      let e = bind-got (readBelow (nameCount pairs) ws at) _ (d .first) in
+      let w = below-there (nameCount pairs) ws at (e .first) in
+      e .first ∙ cc (w .same, w .next)
+
+-- ---- how far a field was counted
+
+module _ {rest : ℕ → Reading Bytes} {p : ℕ} where
+  pub labelled-as : {x y : Reading Bytes} {r : Label} → x ≡ y → Labelled rest p x r → Labelled rest p y r
+  labelled-as {r = r} e l = subst (λ (z : Reading Bytes). Labelled rest p z r) e l
+
+  -- all of a text of known bytes is counted
+  pub label-bytes : {x : Reading Bytes} {b : Bytes} {n q : ℕ} → x ≡ got b n → clamp q ≡ clamp (p + length b) → Labelled rest p x (Whole n q)
+  label-bytes e c = labelled-as (sym e) (whole (counts-bytes c))
 
   module _ {x : Reading Bytes} where
-    pub label-open : {r : Label} {n q : ℕ} → Labelled rest write o p x o′ r → r ≡ Open n q → Along write o p x o′ q (rest n)
+    pub label-open : {r : Label} {n q : ℕ} → Labelled rest p x r → r ≡ Open n q → Along false [] p x [] q (rest n)
     label-open {n = n} {q = q} (opened {n = m} {p′ = p′} a) e =
         let u : m ≡ n = cc in
         let v : p′ ≡ q = cc in
-        subst (λ (z : ℕ). Along write o p x o′ q (rest z)) u (subst (λ (z : ℕ). Along write o p x o′ z (rest m)) v a)
+        subst (λ (z : ℕ). Along false [] p x [] q (rest z)) u (subst (λ (z : ℕ). Along false [] p x [] z (rest m)) v a)
     label-open (whole c) e = impossible (cc)
-    label-open (unread d k) e = impossible (cc)
+    label-open (unread d) e = impossible (cc)
 
-    pub label-whole : {r : Label} {n q : ℕ} → Labelled rest write o p x o′ r → r ≡ Whole n q → Came write o p x o′ n q
+    pub label-whole : {r : Label} {n q : ℕ} → Labelled rest p x r → r ≡ Whole n q → Came false [] p x [] n q
     label-whole (opened a) e = impossible (cc)
     label-whole {n = n} {q = q} (whole {n = m} {p′ = p′} c) e =
         let u : m ≡ n = cc in
         let v : p′ ≡ q = cc in
-        subst (λ (z : ℕ). Came write o p x o′ z q) u (subst (λ (z : ℕ). Came write o p x o′ m z) v c)
-    label-whole (unread d k) e = impossible (cc)
+        subst (λ (z : ℕ). Came false [] p x [] z q) u (subst (λ (z : ℕ). Came false [] p x [] m z) v c)
+    label-whole (unread d) e = impossible (cc)
 
-    pub label-none : {r : Label} {k : Refusal} → Labelled rest write o p x o′ r → r ≡ NoLabel k → (x ≡ stop k) × (o′ ≡ o)
+    pub label-none : {r : Label} {k : Refusal} → Labelled rest p x r → r ≡ NoLabel k → x ≡ stop k
     label-none (opened a) e = impossible (cc)
     label-none (whole c) e = impossible (cc)
-    label-none {k = k} (unread {k = m} d h) e = let u : m ≡ k = cc in (d ∙ ap stop u, h)
+    label-none {k = k} (unread {k = m} d) e = let u : m ≡ k = cc in d ∙ ap stop u
+
+-- ---- how far a field was written
+
+module _ {rest : ℕ → Reading Bytes} {o : List ℕ} {p : ℕ} {o′ : List ℕ} where
+  pub written-as : {x y : Reading Bytes} {r : Part} → x ≡ y → LabelWritten rest o p x o′ r → LabelWritten rest o p y o′ r
+  written-as {r = r} e l = subst (λ (z : Reading Bytes). LabelWritten rest o p z o′ r) e l
+
+  -- all of a text of known bytes is written
+  pub written-bytes : {x : Reading Bytes} {b : Bytes} {s : Spot} → x ≡ got b (s .next) → Wrote o p b o′ (s .pos) → LabelWritten rest o p x o′ (Done s)
+  written-bytes {s = s} e w = written-as (sym e) (all (came-bytes (s .next) (laid-wrote refl w)))
+
+  module _ {x : Reading Bytes} where
+    pub written-front : {r : Part} {s : Spot} → LabelWritten rest o p x o′ r → r ≡ Rest s → Along true o p x o′ (s .pos) (rest (s .next))
+    written-front {s = s} (front {s = t} a) e = let u : t ≡ s = cc in subst (λ (z : Spot). Along true o p x o′ (z .pos) (rest (z .next))) u a
+    written-front (all c) e = impossible (cc)
+
+    pub written-all : {r : Part} {s : Spot} → LabelWritten rest o p x o′ r → r ≡ Done s → Came true o p x o′ (s .next) (s .pos)
+    written-all (front a) e = impossible (cc)
+    written-all {s = s} (all {s = t} c) e = let u : t ≡ s = cc in subst (λ (z : Spot). Came true o p x o′ (z .next) (z .pos)) u c

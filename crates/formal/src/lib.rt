@@ -1,5 +1,5 @@
-// A named field's name and type: `Formal.ToString`. A field named `self` may show without its type. The type itself is left to the caller, so that it is laid at
-// one place, whether a field has a name or not.
+// A named field's name and type: `Formal.ToString`. A field named `self` may show without its type. The type itself is left to the caller, so that it is counted
+// and written at one place, whether a field has a name or not.
 ghost use Rattle.rast.specs.DeclarationToString.{isSelfOwned};
 ghost use Rattle.encoding.specs.Tables.{Good, nameBytes, nameCount};
 ghost use Rattle.encoding.specs.Types.{typeAt};
@@ -12,13 +12,15 @@ ghost use Rattle.rast.specs.Bytes.{ascii, same};
 ghost use Rattle.laying.specs.Passes.{Checked, Ready};
 ghost use Rattle.laying.specs.Texts.{typeTextAt};
 ghost use Rattle.formal.specs.Texts.{formalAt, formalOf, typedAt};
-ghost use Rattle.formal.specs.Labels.{Labelled};
+ghost use Rattle.formal.specs.Labels.{Labelled, LabelWritten};
 ghost use Rattle.formal.specs.Receivers.{receiverOf, BorrowKind, isSelfBorrowedAs, Tells};
 use encoding::Refusal;
 use encoding::WordScan;
 use measure::Measure;
+use writing::Part;
+use writing::Spot;
 
-// How far a named field was laid, in the words and in the text: up to its type, or whole; or the refusal that was met.
+// How far a named field was counted, in the words and in the text: up to its type, or whole; or the refusal that was met.
 pub enum Label {
     Open { next: usize, pos: usize },
     Whole { next: usize, pos: usize },
@@ -95,27 +97,24 @@ fn self_form(words: &[u32], pairs: &[u32], text: &[u8], at: usize) -> Receiver
     Receiver::Typed
 }
 
-// A name, before the type at `at`.
-fn lay_open(
-    write: bool,
-    words: &[u32],
-    pairs: &[u32],
-    text: &[u8],
-    name: u32,
-    at: usize,
-    out: &mut [u8],
-    pos: usize,
-) -> Label
-    requires { ⌜ Checked (now words) (now pairs) (now text) × (name < nameCount (now pairs)) × Ready write (now out) pos (typedAt (now words) (now pairs) (now text) name at) ⌝ }
-    ensures { λ r. ⌜ Labelled (typeTextAt (now (words .entry)) (now (pairs .entry)) (now (text .entry))) write (now (out .entry)) pos (typedAt (now (words .entry)) (now (pairs .entry)) (now (text .entry)) name at) (now (out .exit)) r ⌝ }
+// Whether an accepted type is `_`.
+fn is_accepted_underscore(words: &[u32], pairs: &[u32], text: &[u8], at: usize) -> bool
+    requires { ⌜ Good (now pairs) (now text) × Readable (typeAt (now words) (now pairs) (now text) at) ⌝ }
+    ensures { λ r. ⌜ Tells (typeAt (now (words .entry)) (now (pairs .entry)) (now (text .entry)) at) at r ⌝ }
 {
-    if write {
-        let p = encoding::put_name(pairs, text, name, out, pos);
-        return Label::Open {
-            next: at,
-            pos: output::put(b": ", out, p),
-        };
+    if words[at] != 12 {
+        return false;
     }
+    encoding::is_name(pairs, text, words[at + 1], 14, b"_")
+}
+
+// ---- counting
+
+// A name, before the type at `at`.
+fn count_open(words: &[u32], pairs: &[u32], text: &[u8], name: u32, at: usize, pos: usize) -> Label
+    requires { ⌜ Checked (now words) (now pairs) (now text) × (name < nameCount (now pairs)) ⌝ }
+    ensures { λ r. ⌜ Labelled (typeTextAt (now (words .entry)) (now (pairs .entry)) (now (text .entry))) pos (typedAt (now (words .entry)) (now (pairs .entry)) (now (text .entry)) name at) r ⌝ }
+{
     Label::Open {
         next: at,
         pos: output::count_few(pos, encoding::name_length(pairs, name) + 2),
@@ -123,90 +122,62 @@ fn lay_open(
 }
 
 // A field with another name than `self`.
-fn lay_typed(
-    write: bool,
-    words: &[u32],
-    pairs: &[u32],
-    text: &[u8],
-    name: u32,
-    at: usize,
-    out: &mut [u8],
-    pos: usize,
-) -> Label
-    requires { ⌜ Checked (now words) (now pairs) (now text) × (name < nameCount (now pairs)) × (same (nameBytes (now pairs) (now text) name) (ascii "self") ≡ false) × Ready write (now out) pos (formalOf (now words) (now pairs) (now text) name at) ⌝ }
-    ensures { λ r. ⌜ Labelled (typeTextAt (now (words .entry)) (now (pairs .entry)) (now (text .entry))) write (now (out .entry)) pos (formalOf (now (words .entry)) (now (pairs .entry)) (now (text .entry)) name at) (now (out .exit)) r ⌝ }
+fn count_typed(words: &[u32], pairs: &[u32], text: &[u8], name: u32, at: usize, pos: usize) -> Label
+    requires { ⌜ Checked (now words) (now pairs) (now text) × (name < nameCount (now pairs)) × (same (nameBytes (now pairs) (now text) name) (ascii "self") ≡ false) ⌝ }
+    ensures { λ r. ⌜ Labelled (typeTextAt (now (words .entry)) (now (pairs .entry)) (now (text .entry))) pos (formalOf (now (words .entry)) (now (pairs .entry)) (now (text .entry)) name at) r ⌝ }
 {
     if is_underscore(words, pairs, text, at) {
         return Label::Whole {
             next: at + 2,
-            pos: laying::lay_known(write, pairs, text, name, out, pos),
+            pos: output::count_few(pos, encoding::name_length(pairs, name)),
         };
     }
-    lay_open(write, words, pairs, text, name, at, out, pos)
+    count_open(words, pairs, text, name, at, pos)
 }
 
 // A field named `self`, whose type was accepted and ends at `end`.
-fn lay_receiver(
-    write: bool,
+fn count_receiver(
     words: &[u32],
     pairs: &[u32],
     text: &[u8],
     name: u32,
     end: usize,
     at: usize,
-    out: &mut [u8],
     pos: usize,
 ) -> Label
-    requires { ⌜ Checked (now words) (now pairs) (now text) × (name < nameCount (now pairs)) × (same (nameBytes (now pairs) (now text) name) (ascii "self") ≡ true) × EndsAt (typeAt (now words) (now pairs) (now text) at) end × Ready write (now out) pos (formalOf (now words) (now pairs) (now text) name at) ⌝ }
-    ensures { λ r. ⌜ Labelled (typeTextAt (now (words .entry)) (now (pairs .entry)) (now (text .entry))) write (now (out .entry)) pos (formalOf (now (words .entry)) (now (pairs .entry)) (now (text .entry)) name at) (now (out .exit)) r ⌝ }
+    requires { ⌜ Checked (now words) (now pairs) (now text) × (name < nameCount (now pairs)) × (same (nameBytes (now pairs) (now text) name) (ascii "self") ≡ true) × EndsAt (typeAt (now words) (now pairs) (now text) at) end ⌝ }
+    ensures { λ r. ⌜ Labelled (typeTextAt (now (words .entry)) (now (pairs .entry)) (now (text .entry))) pos (formalOf (now (words .entry)) (now (pairs .entry)) (now (text .entry)) name at) r ⌝ }
 {
     match self_form(words, pairs, text, at) {
         Receiver::ByValue => Label::Whole {
             next: end,
-            pos: laying::lay_known(write, pairs, text, name, out, pos),
+            pos: output::count_few(pos, encoding::name_length(pairs, name)),
         },
-        Receiver::ByRef => {
-            let p = output::lay(write, b"&", out, pos);
-            Label::Whole {
-                next: end,
-                pos: laying::lay_known(write, pairs, text, name, out, p),
-            }
-        }
-        Receiver::ByMut => {
-            let p = output::lay(write, b"&mut ", out, pos);
-            Label::Whole {
-                next: end,
-                pos: laying::lay_known(write, pairs, text, name, out, p),
-            }
-        }
-        Receiver::Typed => lay_open(write, words, pairs, text, name, at, out, pos),
+        Receiver::ByRef => Label::Whole {
+            next: end,
+            pos: output::count_few(pos, encoding::name_length(pairs, name) + 1),
+        },
+        Receiver::ByMut => Label::Whole {
+            next: end,
+            pos: output::count_few(pos, encoding::name_length(pairs, name) + 5),
+        },
+        Receiver::Typed => count_open(words, pairs, text, name, at, pos),
     }
 }
 
 // A field named `self`. Its type is read before it is looked at.
-fn lay_self(
-    write: bool,
-    words: &[u32],
-    pairs: &[u32],
-    text: &[u8],
-    name: u32,
-    at: usize,
-    out: &mut [u8],
-    pos: usize,
-) -> Label
-    requires { ⌜ Checked (now words) (now pairs) (now text) × (name < nameCount (now pairs)) × (same (nameBytes (now pairs) (now text) name) (ascii "self") ≡ true) × Ready write (now out) pos (formalOf (now words) (now pairs) (now text) name at) ⌝ }
-    ensures { λ r. ⌜ Labelled (typeTextAt (now (words .entry)) (now (pairs .entry)) (now (text .entry))) write (now (out .entry)) pos (formalOf (now (words .entry)) (now (pairs .entry)) (now (text .entry)) name at) (now (out .exit)) r ⌝ }
+fn count_self(words: &[u32], pairs: &[u32], text: &[u8], name: u32, at: usize, pos: usize) -> Label
+    requires { ⌜ Checked (now words) (now pairs) (now text) × (name < nameCount (now pairs)) × (same (nameBytes (now pairs) (now text) name) (ascii "self") ≡ true) ⌝ }
+    ensures { λ r. ⌜ Labelled (typeTextAt (now (words .entry)) (now (pairs .entry)) (now (text .entry))) pos (formalOf (now (words .entry)) (now (pairs .entry)) (now (text .entry)) name at) r ⌝ }
 {
     match measure::measure_type(words, pairs, text, at) {
-        Measure::Measured { next, bytes: _ } => lay_receiver(
-            write,
+        Measure::Measured { next, bytes: _ } => count_receiver(
             words,
             pairs,
             text,
             name,
             next,
             at,
-            out,
             pos,
         ),
         Measure::Stopped(r) => Label::NoLabel(r),
@@ -214,25 +185,102 @@ fn lay_self(
 }
 
 // A field's name and type, `Formal.ToString`, or all of it but the type.
-pub fn lay_label(
-    write: bool,
+pub fn count_label(words: &[u32], pairs: &[u32], text: &[u8], at: usize, pos: usize) -> Label
+    requires { ⌜ Checked (now words) (now pairs) (now text) ⌝ }
+    ensures { λ r. ⌜ Labelled (typeTextAt (now (words .entry)) (now (pairs .entry)) (now (text .entry))) pos (formalAt (now (words .entry)) (now (pairs .entry)) (now (text .entry)) at) r ⌝ }
+{
+    match encoding::scan_below(words, encoding::name_count(pairs), at) {
+        WordScan::Word { value, next } => {
+            if encoding::is_name(pairs, text, value, 15, b"self") {
+                return count_self(words, pairs, text, value, next, pos);
+            }
+            count_typed(words, pairs, text, value, next, pos)
+        }
+        WordScan::NoWord(r) => Label::NoLabel(r),
+    }
+}
+
+// ---- writing what was accepted
+
+// A name, before the type at `at`.
+fn write_open(
+    words: &[u32],
+    pairs: &[u32],
+    text: &[u8],
+    name: u32,
+    at: usize,
+    out: &mut [u8],
+    pos: usize,
+) -> Part
+    requires { ⌜ Checked (now words) (now pairs) (now text) × (name < nameCount (now pairs)) × Ready true (now out) pos (typedAt (now words) (now pairs) (now text) name at) ⌝ }
+    ensures { λ r. ⌜ LabelWritten (typeTextAt (now (words .entry)) (now (pairs .entry)) (now (text .entry))) (now (out .entry)) pos (typedAt (now (words .entry)) (now (pairs .entry)) (now (text .entry)) name at) (now (out .exit)) r ⌝ }
+{
+    let p = encoding::put_name(pairs, text, name, out, pos);
+    Part::Rest(Spot {
+        next: at,
+        pos: output::put(b": ", out, p),
+    })
+}
+
+// A field named `self`.
+fn write_receiver(
+    words: &[u32],
+    pairs: &[u32],
+    text: &[u8],
+    name: u32,
+    at: usize,
+    out: &mut [u8],
+    pos: usize,
+) -> Part
+    requires { ⌜ Checked (now words) (now pairs) (now text) × (name < nameCount (now pairs)) × (same (nameBytes (now pairs) (now text) name) (ascii "self") ≡ true) × Ready true (now out) pos (formalOf (now words) (now pairs) (now text) name at) ⌝ }
+    ensures { λ r. ⌜ LabelWritten (typeTextAt (now (words .entry)) (now (pairs .entry)) (now (text .entry))) (now (out .entry)) pos (formalOf (now (words .entry)) (now (pairs .entry)) (now (text .entry)) name at) (now (out .exit)) r ⌝ }
+{
+    match self_form(words, pairs, text, at) {
+        Receiver::ByValue => Part::Done(Spot {
+            next: writing::skip_type(words, pairs, text, at),
+            pos: encoding::put_name(pairs, text, name, out, pos),
+        }),
+        Receiver::ByRef => {
+            let p = output::put(b"&", out, pos);
+            Part::Done(Spot {
+                next: writing::skip_type(words, pairs, text, at),
+                pos: encoding::put_name(pairs, text, name, out, p),
+            })
+        }
+        Receiver::ByMut => {
+            let p = output::put(b"&mut ", out, pos);
+            Part::Done(Spot {
+                next: writing::skip_type(words, pairs, text, at),
+                pos: encoding::put_name(pairs, text, name, out, p),
+            })
+        }
+        Receiver::Typed => write_open(words, pairs, text, name, at, out, pos),
+    }
+}
+
+// A field's name and type, `Formal.ToString`, or all of it but the type. One function for all names but `self`: with one more the slices would be copied for each
+// field.
+pub fn write_label(
     words: &[u32],
     pairs: &[u32],
     text: &[u8],
     at: usize,
     out: &mut [u8],
     pos: usize,
-) -> Label
-    requires { ⌜ Checked (now words) (now pairs) (now text) × Ready write (now out) pos (formalAt (now words) (now pairs) (now text) at) ⌝ }
-    ensures { λ r. ⌜ Labelled (typeTextAt (now (words .entry)) (now (pairs .entry)) (now (text .entry))) write (now (out .entry)) pos (formalAt (now (words .entry)) (now (pairs .entry)) (now (text .entry)) at) (now (out .exit)) r ⌝ }
+) -> Part
+    requires { ⌜ Checked (now words) (now pairs) (now text) × Ready true (now out) pos (formalAt (now words) (now pairs) (now text) at) ⌝ }
+    ensures { λ r. ⌜ LabelWritten (typeTextAt (now (words .entry)) (now (pairs .entry)) (now (text .entry))) (now (out .entry)) pos (formalAt (now (words .entry)) (now (pairs .entry)) (now (text .entry)) at) (now (out .exit)) r ⌝ }
 {
-    match encoding::scan_below(words, encoding::name_count(pairs), at) {
-        WordScan::Word { value, next } => {
-            if encoding::is_name(pairs, text, value, 15, b"self") {
-                return lay_self(write, words, pairs, text, value, next, out, pos);
-            }
-            lay_typed(write, words, pairs, text, value, next, out, pos)
-        }
-        WordScan::NoWord(r) => Label::NoLabel(r),
+    let name = words[at];
+    let next = at + 1;
+    if encoding::is_name(pairs, text, name, 15, b"self") {
+        return write_receiver(words, pairs, text, name, next, out, pos);
     }
+    if is_accepted_underscore(words, pairs, text, next) {
+        return Part::Done(Spot {
+            next: next + 2,
+            pos: encoding::put_name(pairs, text, name, out, pos),
+        });
+    }
+    write_open(words, pairs, text, name, next, out, pos)
 }

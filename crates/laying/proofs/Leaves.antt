@@ -4,8 +4,8 @@ use mathlib.Core.Path.{_≡_, refl, ap, sym, _∙_, subst}
 use mathlib.Core.Bool.{Bool, true, false}
 use mathlib.Core.List.{List, []}
 use native.Mathlib.Omega.{arith}
-use borrow.Author.Tests.{eq-eqb, ne-eqb, leb-true}
-use lib.Dec.{leb}
+use borrow.Author.Tests.{eq-eqb, ne-eqb, leb-true, ltb-true, ltb-false}
+use lib.Dec.{leb, ltb}
 use lib.ListN.{length, getD}
 use Rattle.rast.specs.Bytes.{Bytes, ascii, _and_}
 use Rattle.rast.specs.Tree.{U8, Ty}
@@ -29,6 +29,7 @@ use Rattle.encoding.specs.Declarations.{visibilityOf, readVisibility, readName}
 use Rattle.encoding.proofs.Tables.{impossible, everyBelow, every-at, name-fixed}
 use Rattle.encoding.proofs.Heads.{head-at, head-plain}
 use Rattle.encoding.proofs.Types.{type-end}
+use Rattle.encoding.proofs.Inside.{below-there}
 use Rattle.encoding.proofs.Reading.{word-got, word-stop}
 use Rattle.measure.specs.declared.Measure.{Measure}
 use Rattle.measure.specs.declared.Measure.the-variants.{Measured, Stopped as Refused}
@@ -37,7 +38,7 @@ use Rattle.measure.proofs.Measured.{measured-got, measured-stop}
 use Rattle.writing.specs.declared.Spot.{Spot}
 use Rattle.writing.specs.Written.{Room, Written}
 use Rattle.laying.specs.declared.Place.the-variants.{At, Stopped}
-use Rattle.laying.specs.Passes.{Went, came}
+use Rattle.laying.specs.Passes.{Ready, Went, came}
 use Rattle.laying.specs.Texts.{visibilityAt, nameAt, typeTextAt, docAt}
 use Rattle.laying.proofs.Passes.{stops-here}
 use Rattle.laying.proofs.Splits.{map-got, map-stop}
@@ -68,6 +69,30 @@ module _ (ws pairs : List ℕ) (text : Bytes) (at : ℕ) where
   pub doc-stop : (level : ℕ) {k : Refusal} → readBelow (nameCount pairs) ws at ≡ stop k → docAt ws pairs text level at ≡ stop k
   doc-stop level e = map-stop (λ d. ToDocstringPrefix d (indent level)) (name-stop e)
 
+-- ---- what was accepted is there
+
+-- a word below b, which a text that was accepted is made of
+pub record BelowThere (b : ℕ) (ws : List ℕ) (at : ℕ) : Type 0 where
+  pub here : at < length ws
+  pub below : getD ws at 0 < b
+  pub reads : readBelow b ws at ≡ got (getD ws at 0) (at + 1)
+
+pub below-of : (b : ℕ) (ws : List ℕ) (at : ℕ) {o : List ℕ} {p : ℕ} (x : Reading Bytes) → ((k : Refusal) → readBelow b ws at ≡ stop k → x ≡ stop k) → Ready true o p x → BelowThere b ws at
+below-of b ws at x stops r = go (readBelow b ws at) refl (r .room refl .reads)
+  where
+    go : {v : Bytes} {n : ℕ} (y : Reading ℕ) → readBelow b ws at ≡ y → x ≡ got v n → BelowThere b ws at
+    go (got w m) e d =
+        let t = below-there b ws at e in
+        record { here = t .here; below = subst (λ (z : ℕ). z < b) (t .same) (t .below); reads = e ∙ ap (λ (z : ℕ). got z m) (t .same) ∙ ap (got (getD ws at 0)) (t .next) }
+    go (stop k) e d = impossible (let c = stops k e in cc)
+
+module _ (ws pairs : List ℕ) (text : Bytes) (at : ℕ) {o : List ℕ} {p : ℕ} where
+  pub name-there : Ready true o p (nameAt ws pairs text at) → BelowThere (nameCount pairs) ws at
+  name-there r = below-of (nameCount pairs) ws at (nameAt ws pairs text at) (λ k e. name-stop ws pairs text at e) r
+
+  pub doc-there : (level : ℕ) → Ready true o p (docAt ws pairs text level at) → BelowThere (nameCount pairs) ws at
+  doc-there level r = below-of (nameCount pairs) ws at (docAt ws pairs text level at) (λ k e. doc-stop ws pairs text at level e) r
+
 -- no fixed name has more than 16 bytes
 pub fixed-short : (pairs text : List ℕ) (x : ℕ) → x < 16 → length (nameBytes pairs text x) ≤ 16
 unfolding everyBelow fixedNames ascii _and_
@@ -89,6 +114,9 @@ module _ (ws : List ℕ) (at : ℕ) where
   pub visibility-stop : {k : Refusal} → readBelow 2 ws at ≡ stop k → visibilityAt ws at ≡ stop k
   unfolding mapReading readVisibility
   visibility-stop e = rw e
+
+pub visibility-there : (ws : List ℕ) (at : ℕ) {o : List ℕ} {p : ℕ} → Ready true o p (visibilityAt ws at) → BelowThere 2 ws at
+visibility-there ws at r = below-of 2 ws at (visibilityAt ws at) (λ k e. visibility-stop ws at e) r
 
 -- ---- types
 
@@ -135,6 +163,13 @@ module _ (ws pairs : List ℕ) (text : Bytes) (at : ℕ) where
   pub named-text : at < length ws → getD ws at 0 ≡ 12 → typeTextAt ws pairs text at ≡ nameAt ws pairs text (at + 1)
   unfolding readType readName headAfter
   named-text h k = rw (head-at (nameCount pairs) ws at h, k) (name-map ws (nameBytes pairs text) (readType (nameCount pairs) ws (nameBytes pairs text) 63) (readBelow (nameCount pairs) ws (at + 1)))
+
+  pub type-there : {o : List ℕ} {p : ℕ} → Ready true o p (typeTextAt ws pairs text at) → at < length ws
+  type-there r = go (ltb at (length ws)) (ltb-true at (length ws)) (ltb-false at (length ws))
+    where
+      go : (t : Bool) → (t ≡ true → at < length ws) → (t ≡ false → length ws ≤ at) → at < length ws
+      go true h k = h refl
+      go false h k = impossible (let e = ended-text (k refl) in let d = r .room refl .reads in cc)
 
 -- the empty name is no doc
 pub no-doc-text : (pairs : List ℕ) (text : Bytes) (x : ℕ) (ind : Bytes) → x ≡ 0 → [] ≡ ToDocstringPrefix (nameBytes pairs text x) ind

@@ -4,12 +4,13 @@ use mathlib.Core.Path.{_≡_, refl, ap, sym, _∙_, subst}
 use mathlib.Core.Bool.{Bool, true, false}
 use mathlib.Core.List.{List, [], _++_}
 use native.Mathlib.Omega.{arith}
+use native.Mathlib.Nat.{add-zero}
 use native.Mathlib.Numerals.{sub-one}
 use lib.ListN.{length, length-append}
 use Rattle.rast.specs.Bytes.{Bytes}
-use Rattle.output.specs.Laid.{Laid, Fits}
+use Rattle.output.specs.Laid.{clamp, Laid, Fits}
 use Rattle.output.proofs.Laws.{wrote-kept}
-use Rattle.output.proofs.Passes.{laid-nothing, laid-then}
+use Rattle.output.proofs.Passes.{laid-nothing, laid-then, laid-wrote, laid-counted}
 use Rattle.encoding.specs.declared.Refusal.{Refusal}
 use Rattle.encoding.specs.Reading.{Reading, got, stop}
 use Rattle.encoding.proofs.Tables.{impossible}
@@ -17,7 +18,7 @@ use Rattle.encoding.proofs.Types.{bind-got}
 use Rattle.writing.specs.Written.{Room}
 use Rattle.laying.specs.declared.Place.{Place}
 use Rattle.laying.specs.declared.Place.the-variants.{At, Stopped}
-use Rattle.laying.specs.Passes.{Chain, last, _then_, run, listed, Ready, Came, Went, came, stopped, Along}
+use Rattle.laying.specs.Passes.{Chain, last, _then_, run, listed, Ready, Came, Went, Counts, came, stopped, Along}
 
 -- ---- from an answer to what it says
 
@@ -58,6 +59,37 @@ module _ {write : Bool} where
 
   pub stops-here : {o : List ℕ} {p : ℕ} {x : Reading Bytes} {k : Refusal} → x ≡ stop k → Went write o p x o (Stopped k)
   stops-here e = stopped e (λ d. refl)
+
+-- ---- counting alone, and writing alone
+
+pub counts-went : {write : Bool} {o : List ℕ} {p : ℕ} {x : Reading Bytes} {r : Place} → write ≡ false → Counts p x r → Went write o p x o r
+counts-went e (came c) = came (record { bytes = c .bytes; reads = c .reads; laid = laid-counted e (c .laid .counted refl .next) })
+counts-went e (stopped d h) = stops-here d
+
+pub came-went : {write : Bool} {o o′ : List ℕ} {p n q : ℕ} {x : Reading Bytes} → write ≡ true → Came true o p x o′ n q → Went write o p x o′ (At n q)
+came-went e c = came (record { bytes = c .bytes; reads = c .reads; laid = laid-wrote e (c .laid .wrote refl) })
+
+pub ready-true : {write : Bool} {o : List ℕ} {p : ℕ} {x : Reading Bytes} → write ≡ true → Ready write o p x → Ready true o p x
+ready-true e r = record { room = λ d. r .room e }
+
+-- nothing stands before it
+pub counts-here : {p : ℕ} {x : Reading Bytes} {r : Place} → Counts (p + 0) x r → Counts p x r
+counts-here {p} {x} {r} w = subst (λ (z : ℕ). Counts z x r) (add-zero p) w
+
+-- a pass that counts needs no room
+pub ready-count : {o : List ℕ} {p : ℕ} {x : Reading Bytes} → Ready false o p x
+ready-count = record { room = λ e. impossible (cc) }
+
+-- a text of known bytes, counted
+pub counts-bytes : {p p′ n : ℕ} {b : Bytes} → clamp p′ ≡ clamp (p + length b) → Came false [] p (got b n) [] n p′
+counts-bytes {n = n} e = came-bytes n (laid-counted refl e)
+
+-- the same text, said in another way
+pub came-as : {write : Bool} {o o′ : List ℕ} {p n q : ℕ} {x y : Reading Bytes} → x ≡ y → Came write o p x o′ n q → Came write o p y o′ n q
+came-as {write} {o} {o′} {p} {n} {q} e c = subst (λ (z : Reading Bytes). Came write o p z o′ n q) e c
+
+pub came-at : {write : Bool} {o o′ : List ℕ} {p n m q : ℕ} {x : Reading Bytes} → n ≡ m → Came write o p x o′ n q → Came write o p x o′ m q
+came-at {write} {o} {o′} {p} {q = q} {x = x} e c = subst (λ (z : ℕ). Came write o p x o′ z q) e c
 
 -- ---- chains
 

@@ -49,6 +49,10 @@ pub data Went (write : Bool) (o : List ℕ) (p : ℕ) (x : Reading Bytes) (o′ 
   came : {n p′ : ℕ} → Came write o p x o′ n p′ → Went write o p x o′ (At n p′)
   stopped : {k : Refusal} → x ≡ stop k → (write ≡ false → o′ ≡ o) → Went write o p x o′ (Stopped k)
 
+-- what a pass says that only counts, from p on: it has no buffer
+abbrev pub Counts : ℕ → Reading Bytes → Place → Type 0
+Counts p x r = Went false [] p x [] r
+
 -- how a pass over a text has come so far: what is left of it is the whole's end
 pub record Along (write : Bool) (o : List ℕ) (p : ℕ) (whole : Reading Bytes) (o′ : List ℕ) (p′ : ℕ) (left : Reading Bytes) : Type 0 where
   pub ready : Ready write o′ p′ left

@@ -1,46 +1,29 @@
 // Passes over the words of a declaration: names, docs, types and paths. A pass reads what stands there and lays its text: it writes the
 // bytes, or only counts them.
 ghost use mathlib.Core.Path.{_≡_};
-ghost use Prim.Native.Nat.{_<_};
-ghost use lib.ListN.{length, getD};
-ghost use Rattle.rast.specs.Tree.{U8};
-ghost use Rattle.rast.specs.ToString.{Path·ToString, Primitive·ToString};
+ghost use mathlib.Core.Bool.{true};
+ghost use Prim.Native.Nat.{_+_, _^_, _<_};
+ghost use lib.ListN.{length};
+ghost use Rattle.rast.specs.ToString.{Path·ToString};
 ghost use Rattle.rast.specs.Indent.{indent};
 ghost use Rattle.rast.specs.Doc.{ToDocstringPrefix};
 ghost use Rattle.output.specs.Laid.{Laid, Fits};
 ghost use Rattle.encoding.specs.Tables.{Good, nameBytes, nameCount};
 ghost use Rattle.encoding.specs.Heads.{InsidePath};
-ghost use Rattle.encoding.specs.Types.{primitives, pathOf};
-ghost use Rattle.laying.specs.Passes.{Checked, Ready, Went};
+ghost use Rattle.encoding.specs.Types.{pathOf};
+ghost use Rattle.laying.specs.Passes.{Checked, Ready, Came, Went, Counts};
 ghost use Rattle.laying.specs.Texts.{visibilityAt, nameAt, typeTextAt, pathTextAt, docAt};
 use encoding::PathAt;
 use encoding::Refusal;
 use encoding::WordScan;
 use measure::Measure;
 use measure::PathMeasure;
+use writing::Spot;
 
 // Where a pass has come to, in the words and in the text; or the refusal that it met.
 pub enum Place {
     At { next: usize, pos: usize },
     Stopped(Refusal),
-}
-
-// A name that was read.
-pub fn lay_known(
-    write: bool,
-    pairs: &[u32],
-    text: &[u8],
-    name: u32,
-    out: &mut [u8],
-    pos: usize,
-) -> usize
-    requires { ⌜ (name < nameCount (now pairs)) × Good (now pairs) (now text) × Fits write (now out) pos (nameBytes (now pairs) (now text) name) ⌝ }
-    ensures { λ r. ⌜ Laid write (now (out .entry)) pos (nameBytes (now (pairs .entry)) (now (text .entry)) name) (now (out .exit)) r ⌝ }
-{
-    if write {
-        return encoding::put_name(pairs, text, name, out, pos);
-    }
-    output::count_few(pos, encoding::name_length(pairs, name))
 }
 
 // A path that was read, with so many bytes of text.
@@ -113,6 +96,42 @@ fn lay_known_doc(
     )
 }
 
+// The name at `at`, counted behind `before` other bytes.
+pub fn count_name(
+    words: &[u32],
+    pairs: &[u32],
+    text: &[u8],
+    before: usize,
+    at: usize,
+    pos: usize,
+) -> Place
+    requires { ⌜ Checked (now words) (now pairs) (now text) × (before < 2 ^ 40) ⌝ }
+    ensures { λ r. ⌜ Counts (pos + before) (nameAt (now (words .entry)) (now (pairs .entry)) (now (text .entry)) at) r ⌝ }
+{
+    match encoding::scan_below(words, encoding::name_count(pairs), at) {
+        WordScan::Word { value, next } => Place::At {
+            next,
+            pos: output::count_few(pos, before + encoding::name_length(pairs, value)),
+        },
+        WordScan::NoWord(r) => Place::Stopped(r),
+    }
+}
+
+// The name at `at`, which was accepted.
+pub fn write_name(
+    words: &[u32],
+    pairs: &[u32],
+    text: &[u8],
+    at: usize,
+    out: &mut [u8],
+    pos: usize,
+) -> usize
+    requires { ⌜ Checked (now words) (now pairs) (now text) × Ready true (now out) pos (nameAt (now words) (now pairs) (now text) at) ⌝ }
+    ensures { λ r. ⌜ Came true (now (out .entry)) pos (nameAt (now (words .entry)) (now (pairs .entry)) (now (text .entry)) at) (now (out .exit)) (at + 1) r ⌝ }
+{
+    encoding::put_name(pairs, text, words[at], out, pos)
+}
+
 // The name at `at`.
 pub fn lay_name(
     write: bool,
@@ -126,16 +145,31 @@ pub fn lay_name(
     requires { ⌜ Checked (now words) (now pairs) (now text) × Ready write (now out) pos (nameAt (now words) (now pairs) (now text) at) ⌝ }
     ensures { λ r. ⌜ Went write (now (out .entry)) pos (nameAt (now (words .entry)) (now (pairs .entry)) (now (text .entry)) at) (now (out .exit)) r ⌝ }
 {
-    match encoding::scan_below(words, encoding::name_count(pairs), at) {
-        WordScan::Word { value, next } => Place::At {
+    if write {
+        let end = write_name(words, pairs, text, at, out, pos);
+        return Place::At {
+            next: at + 1,
+            pos: end,
+        };
+    }
+    count_name(words, pairs, text, 0, at, pos)
+}
+
+// The type at `at`, measured.
+fn count_type(words: &[u32], pairs: &[u32], text: &[u8], at: usize, pos: usize) -> Place
+    requires { ⌜ Checked (now words) (now pairs) (now text) ⌝ }
+    ensures { λ r. ⌜ Counts pos (typeTextAt (now (words .entry)) (now (pairs .entry)) (now (text .entry)) at) r ⌝ }
+{
+    match measure::measure_type(words, pairs, text, at) {
+        Measure::Measured { next, bytes } => Place::At {
             next,
-            pos: lay_known(write, pairs, text, value, out, pos),
+            pos: output::count_on(pos, bytes),
         },
-        WordScan::NoWord(r) => Place::Stopped(r),
+        Measure::Stopped(r) => Place::Stopped(r),
     }
 }
 
-// The type at `at`: measured where the bytes are counted.
+// The type at `at`.
 pub fn lay_type(
     write: bool,
     words: &[u32],
@@ -155,38 +189,13 @@ pub fn lay_type(
             pos: spot.pos,
         };
     }
-    match measure::measure_type(words, pairs, text, at) {
-        Measure::Measured { next, bytes } => Place::At {
-            next,
-            pos: output::count_on(pos, bytes),
-        },
-        Measure::Stopped(r) => Place::Stopped(r),
-    }
+    count_type(words, pairs, text, at, pos)
 }
 
-// A plain type that was read.
-fn lay_plain(write: bool, kind: u32, out: &mut [u8], pos: usize) -> usize
-    requires { ⌜ (kind < 12) × Fits write (now out) pos (Primitive·ToString (getD primitives kind U8)) ⌝ }
-    ensures { λ r. ⌜ Laid write (now (out .entry)) pos (Primitive·ToString (getD primitives kind U8)) (now (out .exit)) r ⌝ }
-{
-    if write {
-        return leaves::put_primitive(kind, out, pos);
-    }
-    output::count_few(pos, encoding::primitive_length(kind))
-}
-
-// The type at `at` of a field: most have a plain type or a name, for which neither the measuring pass nor the writer is called.
-pub fn lay_field_type(
-    write: bool,
-    words: &[u32],
-    pairs: &[u32],
-    text: &[u8],
-    at: usize,
-    out: &mut [u8],
-    pos: usize,
-) -> Place
-    requires { ⌜ Checked (now words) (now pairs) (now text) × Ready write (now out) pos (typeTextAt (now words) (now pairs) (now text) at) ⌝ }
-    ensures { λ r. ⌜ Went write (now (out .entry)) pos (typeTextAt (now (words .entry)) (now (pairs .entry)) (now (text .entry)) at) (now (out .exit)) r ⌝ }
+// The type at `at` of a field, counted: most have a plain type or a name, for which the measuring pass is not called.
+pub fn count_field_type(words: &[u32], pairs: &[u32], text: &[u8], at: usize, pos: usize) -> Place
+    requires { ⌜ Checked (now words) (now pairs) (now text) ⌝ }
+    ensures { λ r. ⌜ Counts pos (typeTextAt (now (words .entry)) (now (pairs .entry)) (now (text .entry)) at) r ⌝ }
 {
     if words.len() <= at {
         return Place::Stopped(Refusal::EndsEarly);
@@ -195,13 +204,46 @@ pub fn lay_field_type(
     if w < 12 {
         return Place::At {
             next: at + 1,
-            pos: lay_plain(write, w, out, pos),
+            pos: output::count_few(pos, encoding::primitive_length(w)),
         };
     }
     if w == 12 {
-        return lay_name(write, words, pairs, text, at + 1, out, pos);
+        return count_name(words, pairs, text, 0, at + 1, pos);
     }
-    lay_type(write, words, pairs, text, at, out, pos)
+    count_type(words, pairs, text, at, pos)
+}
+
+// The type at `at` of a field, which was accepted: for most the writer of types is not called. The spot of that writer is taken apart, so that it need not go through
+// memory.
+pub fn write_field_type(
+    words: &[u32],
+    pairs: &[u32],
+    text: &[u8],
+    at: usize,
+    out: &mut [u8],
+    pos: usize,
+) -> Spot
+    requires { ⌜ Checked (now words) (now pairs) (now text) × Ready true (now out) pos (typeTextAt (now words) (now pairs) (now text) at) ⌝ }
+    ensures { λ r. ⌜ Came true (now (out .entry)) pos (typeTextAt (now (words .entry)) (now (pairs .entry)) (now (text .entry)) at) (now (out .exit)) (r .next) (r .pos) ⌝ }
+{
+    let w = words[at];
+    if w < 12 {
+        return Spot {
+            next: at + 1,
+            pos: leaves::put_plain(w, out, pos),
+        };
+    }
+    if w == 12 {
+        return Spot {
+            next: at + 2,
+            pos: write_name(words, pairs, text, at + 1, out, pos),
+        };
+    }
+    let spot = writing::write_type(words, pairs, text, at, out, pos);
+    Spot {
+        next: spot.next,
+        pos: spot.pos,
+    }
 }
 
 // The path at `at`.
@@ -226,10 +268,9 @@ pub fn lay_path(
     }
 }
 
-// 0 is PUB, 1 is PRIV.
-pub fn lay_visibility(write: bool, words: &[u32], at: usize, out: &mut [u8], pos: usize) -> Place
-    requires { ⌜ Ready write (now out) pos (visibilityAt (now words) at) ⌝ }
-    ensures { λ r. ⌜ Went write (now (out .entry)) pos (visibilityAt (now (words .entry)) at) (now (out .exit)) r ⌝ }
+// A visibility, counted: 0 is PUB, 1 is PRIV.
+pub fn count_visibility(words: &[u32], at: usize, pos: usize) -> Place
+    ensures { λ r. ⌜ Counts pos (visibilityAt (now (words .entry)) at) r ⌝ }
 {
     match encoding::scan_below(words, 2, at) {
         WordScan::Word { value, next } => {
@@ -238,11 +279,77 @@ pub fn lay_visibility(write: bool, words: &[u32], at: usize, out: &mut [u8], pos
             }
             Place::At {
                 next,
-                pos: output::lay(write, b"pub ", out, pos),
+                pos: output::count_few(pos, 4),
             }
         }
         WordScan::NoWord(r) => Place::Stopped(r),
     }
+}
+
+// A visibility that was accepted.
+pub fn write_visibility(words: &[u32], at: usize, out: &mut [u8], pos: usize) -> usize
+    requires { ⌜ Ready true (now out) pos (visibilityAt (now words) at) ⌝ }
+    ensures { λ r. ⌜ Came true (now (out .entry)) pos (visibilityAt (now (words .entry)) at) (now (out .exit)) (at + 1) r ⌝ }
+{
+    if words[at] != 0 {
+        return pos;
+    }
+    output::put(b"pub ", out, pos)
+}
+
+// A visibility.
+pub fn lay_visibility(write: bool, words: &[u32], at: usize, out: &mut [u8], pos: usize) -> Place
+    requires { ⌜ Ready write (now out) pos (visibilityAt (now words) at) ⌝ }
+    ensures { λ r. ⌜ Went write (now (out .entry)) pos (visibilityAt (now (words .entry)) at) (now (out .exit)) r ⌝ }
+{
+    if write {
+        let end = write_visibility(words, at, out, pos);
+        return Place::At {
+            next: at + 1,
+            pos: end,
+        };
+    }
+    count_visibility(words, at, pos)
+}
+
+// The doc comment at `at`, counted. Nothing is written, so the buffer that is lent has no room.
+pub fn count_doc(
+    words: &[u32],
+    pairs: &[u32],
+    text: &[u8],
+    level: u32,
+    at: usize,
+    pos: usize,
+) -> Place
+    requires { ⌜ Checked (now words) (now pairs) (now text) ⌝ }
+    ensures { λ r. ⌜ Counts pos (docAt (now (words .entry)) (now (pairs .entry)) (now (text .entry)) level at) r ⌝ }
+{
+    match encoding::scan_below(words, encoding::name_count(pairs), at) {
+        WordScan::Word { value, next } => {
+            let mut none = [0u8; 0];
+            Place::At {
+                next,
+                pos: lay_known_doc(false, pairs, text, value, level, &mut none, pos),
+            }
+        }
+        WordScan::NoWord(r) => Place::Stopped(r),
+    }
+}
+
+// The doc comment at `at`, which was accepted.
+pub fn write_doc(
+    words: &[u32],
+    pairs: &[u32],
+    text: &[u8],
+    level: u32,
+    at: usize,
+    out: &mut [u8],
+    pos: usize,
+) -> usize
+    requires { ⌜ Checked (now words) (now pairs) (now text) × Ready true (now out) pos (docAt (now words) (now pairs) (now text) level at) ⌝ }
+    ensures { λ r. ⌜ Came true (now (out .entry)) pos (docAt (now (words .entry)) (now (pairs .entry)) (now (text .entry)) level at) (now (out .exit)) (at + 1) r ⌝ }
+{
+    lay_known_doc(true, pairs, text, words[at], level, out, pos)
 }
 
 // The doc comment at `at`.
@@ -259,11 +366,12 @@ pub fn lay_doc(
     requires { ⌜ Checked (now words) (now pairs) (now text) × Ready write (now out) pos (docAt (now words) (now pairs) (now text) level at) ⌝ }
     ensures { λ r. ⌜ Went write (now (out .entry)) pos (docAt (now (words .entry)) (now (pairs .entry)) (now (text .entry)) level at) (now (out .exit)) r ⌝ }
 {
-    match encoding::scan_below(words, encoding::name_count(pairs), at) {
-        WordScan::Word { value, next } => Place::At {
-            next,
-            pos: lay_known_doc(write, pairs, text, value, level, out, pos),
-        },
-        WordScan::NoWord(r) => Place::Stopped(r),
+    if write {
+        let end = write_doc(words, pairs, text, level, at, out, pos);
+        return Place::At {
+            next: at + 1,
+            pos: end,
+        };
     }
+    count_doc(words, pairs, text, level, at, pos)
 }

@@ -1,13 +1,16 @@
 // Texts with no type in them, into a buffer that has room: plain types, paths, the end of an array.
+ghost use mathlib.Core.Path.{_≡_};
 ghost use Prim.Native.Nat.{_+_, _≤_, _<_};
+ghost use mathlib.Core.List.{[], _∷_};
 ghost use lib.ListN.{length, getD};
+ghost use lib.Seq.{sets};
 ghost use Rattle.rast.specs.Tree.{U8};
 ghost use Rattle.rast.specs.ToString.{Path·ToString, Primitive·ToString};
 ghost use Rattle.output.specs.Wrote.{Wrote};
 ghost use Rattle.encoding.specs.Tables.{Good, HoldsNames, nameBytes, nameCount};
 ghost use Rattle.encoding.specs.Heads.{InsidePath};
 ghost use Rattle.encoding.specs.Types.{primitives, rootOf, pathOf, sizeOf};
-ghost use Rattle.leaves.specs.Texts.{memberText, endText};
+ghost use Rattle.leaves.specs.Texts.{memberText, endText, HasEnds};
 use encoding::FixedNames;
 use encoding::PathAt;
 
@@ -23,6 +26,73 @@ pub fn put_primitive(kind: u32, out: &mut [u8], pos: usize) -> usize
     let start = STARTS[kind as usize] as usize;
     let end = STARTS[kind as usize + 1] as usize;
     output::put_few(all, start, end - start, out, pos)
+}
+
+// The first two and the last two letters of a text of at most four.
+struct Ends {
+    first: u8,
+    second: u8,
+    third: u8,
+    fourth: u8,
+}
+
+fn with_ends(first: u8, second: u8, third: u8, fourth: u8) -> Ends
+    ensures { λ r. ⌜ (r .first ≡ first) × (r .second ≡ second) × (r .third ≡ third) × (r .fourth ≡ fourth) ⌝ }
+{
+    Ends {
+        first,
+        second,
+        third,
+        fourth,
+    }
+}
+
+// Those of the plain types other than `usize`. The match compiles to tables that need not be laid out.
+fn plain_ends(kind: u32) -> Ends
+    requires { ⌜ (kind < 12) × (kind ≡ 10 → ⊥) ⌝ }
+    ensures { λ r. ⌜ HasEnds (Primitive·ToString (getD primitives kind U8)) (r .first) (r .second) (r .third) (r .fourth) ⌝ }
+{
+    match kind {
+        0 => with_ends(b'u', b'8', b'u', b'8'),
+        1 => with_ends(b'u', b'1', b'1', b'6'),
+        2 => with_ends(b'u', b'3', b'3', b'2'),
+        3 => with_ends(b'u', b'6', b'6', b'4'),
+        4 => with_ends(b'u', b'1', b'2', b'8'),
+        5 => with_ends(b'i', b'8', b'i', b'8'),
+        6 => with_ends(b'i', b'1', b'1', b'6'),
+        7 => with_ends(b'i', b'3', b'3', b'2'),
+        8 => with_ends(b'i', b'6', b'6', b'4'),
+        9 => with_ends(b'i', b'1', b'2', b'8'),
+        _ => with_ends(b'b', b'o', b'o', b'l'),
+    }
+}
+
+fn put_two(first: u8, second: u8, out: &mut [u8], pos: usize)
+    requires { ⌜ pos + 2 ≤ length (now out) ⌝ }
+    ensures { λ _. ⌜ now (out .exit) ≡ sets (now (out .entry)) pos (first ∷ second ∷ []) ⌝ }
+{
+    out[pos] = first;
+    out[pos + 1] = second;
+}
+
+// A plain type, for callers that write many: `put_primitive` is too large to be put in place, and this would make what calls itself too large.
+pub fn put_plain(kind: u32, out: &mut [u8], pos: usize) -> usize
+    requires { ⌜ (kind < 12) × (pos + length (Primitive·ToString (getD primitives kind U8)) ≤ length (now out)) ⌝ }
+    ensures { λ r. ⌜ Wrote (now (out .entry)) pos (Primitive·ToString (getD primitives kind U8)) (now (out .exit)) r ⌝ }
+{
+    if kind == 10 {
+        return output::put(b"usize", out, pos);
+    }
+    let Ends {
+        first,
+        second,
+        third,
+        fourth,
+    } = plain_ends(kind);
+    let count = encoding::primitive_length(kind);
+    put_two(first, second, out, pos);
+    put_two(third, fourth, out, pos + (count - 2));
+    pos + count
 }
 
 fn put_root(root: u32, out: &mut [u8], pos: usize) -> usize

@@ -1,25 +1,94 @@
 -- Attributes and parameters, and lists of them, from the texts of their parts.
-use Prim.Native.Nat.{ℕ, _<_}
+use Prim.Native.Nat.{ℕ, zero, suc, _+_, _-_, _*_, _≤_, _<_}
 use mathlib.Core.Path.{_≡_, refl, ap, sym, _∙_}
+use mathlib.Core.Bool.{Bool, true, false}
 use mathlib.Core.List.{List, [], _∷_, _++_, append-assoc, append-nil}
+use native.Mathlib.Omega.{arith}
+use native.Mathlib.Numerals.{sub-one}
+use borrow.Author.Tests.{ltb-true, ltb-false}
+use lib.Dec.{ltb}
+use lib.ListN.{length}
 use Rattle.rast.specs.Bytes.{Bytes, ascii}
 use Rattle.rast.specs.ToString.{Type·ToString}
 use Rattle.rast.specs.Indent.{indent, SeqToString}
+use Rattle.rast.specs.Declaration.{Attribute, TypeParamDecl}
 use Rattle.rast.specs.DeclarationToString.{derivedText, Attribute·ToString, Attribute·ToStringMultiple, constraintsText, TypeParamDecl·ToString, TypeParamDecl·ToStringMultiple}
+use Rattle.output.specs.Laid.{clamp}
+use Rattle.doc.proofs.Laying.{indent-length}
 use Rattle.encoding.specs.declared.Refusal.{Refusal}
 use Rattle.encoding.specs.Reading.{Reading, got, stop, _>>=_, mapReading, readWord}
 use Rattle.encoding.specs.Tables.{nameBytes, nameCount}
 use Rattle.encoding.specs.Types.{typeAt}
 use Rattle.encoding.specs.Declarations.{readList, readCounted, readAttribute, readParameter}
-use Rattle.laying.specs.Passes.{last, _then_, run}
-use Rattle.laying.specs.Texts.{nameAt, typeTextAt}
-use Rattle.laying.proofs.Passes.{Runs}
+use Rattle.encoding.proofs.Tables.{impossible}
+use Rattle.encoding.proofs.Reading.{word-end}
+use Rattle.laying.specs.declared.Place.the-variants.{At}
+use Rattle.laying.specs.Passes.{last, _then_, run, listed, Ready, Came, Went, came, Along}
+use Rattle.laying.specs.Texts.{nameAt}
+use Rattle.laying.proofs.Passes.{Runs, ready-runs, ready-last, ready-next, went-runs, went-then, went-last, went-as, came-nothing, counts-bytes}
 use Rattle.laying.proofs.Splits.{map-same, runs-as, split₂, listed-read, listed-same, around, counted-got, counted-none, counted-stop, within-same}
-use Rattle.lists.specs.declared.Item.{Item}
-use Rattle.lists.specs.declared.Item.the-variants.{Attribute, Parameter}
-use Rattle.lists.specs.declared.Mark.{Mark}
-use Rattle.lists.specs.declared.Mark.the-variants.{Front, Behind}
-use Rattle.lists.specs.Texts.{markText, leafAt, leavesAt, someAt, countedAt, attributeAt, parameterAt, itemFront, itemEnd, itemMark, itemAt, itemsAt, itemsSome, itemListAt}
+use Rattle.lists.specs.Texts.{someArguments, derivedAt, attributeAt, someAttributes, attributesAt, someConstraints, constraintsAt, parameterAt, someParameters, parametersAt}
+
+-- ---- any readings
+
+-- nothing stands behind a text, or before it
+nothing-behind : (x : Reading Bytes) → run (x then λ q. last (got [] q)) ≡ x
+unfolding run
+nothing-behind (got b n) = ap (λ (t : Bytes). got t n) (append-nil b)
+nothing-behind (stop k) = refl
+
+nothing-before : (n : ℕ) (x : ℕ → Reading Bytes) → run (got [] n then λ p. last (x p)) ≡ x n
+unfolding run
+nothing-before n x = go (x n)
+  where
+    go : (w : Reading Bytes) → (w >>= λ c q. got ([] ++ c) q) ≡ w
+    go (got c q) = refl
+    go (stop k) = refl
+
+-- the end of an attribute's line, counted
+pub counts-line : (level : ℕ) {p p′ n : ℕ} → clamp p′ ≡ clamp (p + (2 + 4 * level)) → Came false [] p (got (ascii "]" ++ (ascii "\n" ++ indent level)) n) [] n p′
+unfolding ascii
+counts-line level {p} e =
+    let s : 2 + 4 * level ≡ length (ascii "]" ++ (ascii "\n" ++ indent level)) = omega (arith, indent-length level) in
+    counts-bytes (e ∙ ap (λ (m : ℕ). clamp (p + m)) s)
+
+-- a count that was accepted stands in the words
+count-there : {A : Type 0} (f : List A → Bytes) (ws : List ℕ) (item : ℕ → Reading A) (at : ℕ) {o : List ℕ} {p : ℕ} → Ready true o p (mapReading f (readCounted ws item at)) → at < length ws
+count-there f ws item at r = go (ltb at (length ws)) (ltb-true at (length ws)) (ltb-false at (length ws))
+  where
+    go : (t : Bool) → (t ≡ true → at < length ws) → (t ≡ false → length ws ≤ at) → at < length ws
+    go true h k = h refl
+    go false h k = impossible (let e = r .room refl .reads in let d = counted-stop f ws item at (word-end ws at (k refl)) in cc)
+
+-- ---- a list with nothing between its items
+
+module _ (item : ℕ → Reading Bytes) where
+  each-first : (n p : ℕ) → 0 < n → Runs (listed item [] n p) (item p then λ q. last (listed item [] (n - 1) q))
+  unfolding listed run
+  each-first zero p h = absurd (let z : ⊥ = omega arith in z)
+  each-first (suc zero) p h = record { same = sym (nothing-behind (item p)) }
+  each-first (suc (suc n)) p h = record { same = rw (sub-one (suc (suc n))) (go (item p)) }
+    where
+      go : (x : Reading Bytes) → run (x then λ q. got [] q then λ r. last (listed item [] (suc n) r)) ≡ run (x then λ q. last (listed item [] (suc n) q))
+      go (got b q) = ap (λ (z : Reading Bytes). z >>= λ c r. got (b ++ c) r) (nothing-before q (listed item [] (suc n)))
+      go (stop k) = refl
+
+  each-none : (n p : ℕ) → n ≡ 0 → listed item [] n p ≡ got [] p
+  unfolding listed
+  each-none n p e = rw e
+
+module _ {write : Bool} {o : List ℕ} {p : ℕ} {whole : Reading Bytes} {o₁ : List ℕ} {p₁ : ℕ} (item : ℕ → Reading Bytes) (left at : ℕ)
+    (a : Along write o p whole o₁ p₁ (listed item [] left at)) where
+  pub along-end : left ≡ 0 → Went write o p whole o₁ (At at p₁)
+  along-end e = a .ends o₁ (At at p₁) (went-as (sym (each-none item left at e)) (came (came-nothing at)))
+
+  pub along-each : {o₂ : List ℕ} {n p₂ : ℕ} → 0 < left → Came write o₁ p₁ (item at) o₂ n p₂ → Along write o p whole o₂ p₂ (listed item [] (left - 1) n)
+  along-each h c = record {
+    ready = ready-last (ready-next (ready-runs (each-first item left at h) (a .ready)) c);
+    ends = λ o″ r w. a .ends o″ r (went-runs (each-first item left at h) (went-then c (went-last w)));
+  }
+
+-- ---- attributes
 
 -- an attribute on its line, from its name and its arguments
 attribute-parts : (ind : Bytes) (at : ℕ) (x : Reading Bytes) (y : ℕ → Reading (List Bytes))
@@ -37,124 +106,93 @@ attribute-parts ind at (got n p) y = record { same = go (y p) }
     go (stop k) = refl
 attribute-parts ind at (stop k) y = record { same = refl }
 
--- a text with nothing before it and nothing behind it
-nothing-around : (at : ℕ) {x y : Reading Bytes} {z : ℕ → Reading Bytes} → Runs x (y then λ p. last (z p)) → Runs x (got [] at then λ o. y then λ p. z p then λ q. last (got [] q))
-unfolding run
-nothing-around at {x} {y} {z} r = record { same = r .same ∙ go y }
-  where
-    inner : (n : Bytes) (w : Reading Bytes) → (w >>= λ c q. got (n ++ c) q) ≡ (w >>= λ b p. got (b ++ []) p) >>= λ c q. got (n ++ c) q
-    inner n (got c q) = ap (λ (t : Bytes). got (n ++ t) q) (sym (append-nil c))
-    inner n (stop k) = refl
-
-    outer : (w : Reading Bytes) → w ≡ w >>= λ c q. got ([] ++ c) q
-    outer (got c q) = refl
-    outer (stop k) = refl
-
-    go : (w : Reading Bytes) → run (w then λ p. last (z p)) ≡ run (got [] at then λ o. w then λ p. z p then λ q. last (got [] q))
-    go (got n p) = inner n (z p) ∙ outer ((z p >>= λ b p. got (b ++ []) p) >>= λ c q. got (n ++ c) q)
-    go (stop k) = refl
-
--- a fixed text by the arms of the code
-pub mark-as : {l k : Item} {m j : Mark} → l ≡ k → m ≡ j → markText l m ≡ markText k j
-mark-as e d = cc
-
-pub item-mark-as : {l k : Item} {m j : Mark} → l ≡ k → m ≡ j → itemMark l m ≡ itemMark k j
-item-mark-as e d = cc
-
 module _ (ws pairs : List ℕ) (text : Bytes) where
-  arguments-read : (n p : ℕ) → mapReading (SeqToString (λ y. y) (ascii ", ")) (readList (nameAt ws pairs text) n p) ≡ leavesAt ws pairs text Attribute n p
-  unfolding leafAt markText
+  abbrev attribute : ℕ → Reading (Attribute Bytes)
+  attribute = readAttribute (nameCount pairs) ws (nameBytes pairs text) (typeAt ws pairs text)
+
+  arguments-read : (n p : ℕ) → mapReading (SeqToString (λ y. y) (ascii ", ")) (readList (nameAt ws pairs text) n p) ≡ someArguments ws pairs text n p
   arguments-read n p =
       listed-read (λ y. y) (ascii ", ") (nameAt ws pairs text) n p
-      ∙ listed-same (ascii ", ") (λ q. mapReading (λ y. y) (nameAt ws pairs text q)) (leafAt ws pairs text Attribute) (λ q. map-same (nameAt ws pairs text q)) n p
-
-  constraints-read : (n p : ℕ) → mapReading (SeqToString Type·ToString (ascii " + ")) (readList (typeAt ws pairs text) n p) ≡ leavesAt ws pairs text Parameter n p
-  unfolding leafAt markText
-  constraints-read n p =
-      listed-read Type·ToString (ascii " + ") (typeAt ws pairs text) n p
-      ∙ listed-same (ascii " + ") (typeTextAt ws pairs text) (leafAt ws pairs text Parameter) (λ q. refl) n p
+      ∙ listed-same (ascii ", ") (λ q. mapReading (λ y. y) (nameAt ws pairs text q)) (nameAt ws pairs text) (λ q. map-same (nameAt ws pairs text q)) n p
 
   module _ (at : ℕ) {n p : ℕ} (e : readWord ws at ≡ got n p) where
-    pub list-none : (item : Item) → n ≡ 0 → countedAt ws pairs text item at ≡ got [] p
-    unfolding countedAt derivedText constraintsText ascii
-    list-none Attribute z = counted-none derivedText ws (nameAt ws pairs text) at e z
-    list-none Parameter z = counted-none constraintsText ws (typeAt ws pairs text) at e z
+    pub derived-none : n ≡ 0 → derivedAt ws pairs text at ≡ got [] p
+    unfolding derivedText ascii
+    derived-none z = counted-none derivedText ws (nameAt ws pairs text) at e z
 
-    pub list-some : (item : Item) → 0 < n → countedAt ws pairs text item at ≡ someAt ws pairs text item n p
-    unfolding countedAt markText derivedText constraintsText ascii
-    list-some Attribute h =
-        counted-got derivedText ws (nameAt ws pairs text) at e
-        ∙ around derivedText (SeqToString (λ y. y) (ascii ", ")) (ascii "(") (ascii ")") (λ x l. refl) (nameAt ws pairs text) n p h
-        ∙ within-same (ascii "(") (ascii ")") p (λ q. mapReading (SeqToString (λ y. y) (ascii ", ")) (readList (nameAt ws pairs text) n q)) (leavesAt ws pairs text Attribute n) (arguments-read n p)
-    list-some Parameter h =
-        counted-got constraintsText ws (typeAt ws pairs text) at e
-        ∙ around constraintsText (SeqToString Type·ToString (ascii " + ")) (ascii ": ") [] (λ x l. ap (λ (b : Bytes). ascii ": " ++ b) (sym (append-nil (SeqToString Type·ToString (ascii " + ") (x ∷ l))))) (typeAt ws pairs text) n p h
-        ∙ within-same (ascii ": ") [] p (λ q. mapReading (SeqToString Type·ToString (ascii " + ")) (readList (typeAt ws pairs text) n q)) (leavesAt ws pairs text Parameter n) (constraints-read n p)
+    pub derived-some : 0 < n → Runs (derivedAt ws pairs text at) (got (ascii "(") p then λ q. someArguments ws pairs text n q then λ r. last (got (ascii ")") r))
+    unfolding derivedText ascii
+    derived-some h = record {
+      same = counted-got derivedText ws (nameAt ws pairs text) at e
+          ∙ around derivedText (SeqToString (λ y. y) (ascii ", ")) (ascii "(") (ascii ")") (λ x l. refl) (nameAt ws pairs text) n p h
+          ∙ within-same (ascii "(") (ascii ")") p (λ q. mapReading (SeqToString (λ y. y) (ascii ", ")) (readList (nameAt ws pairs text) n q)) (someArguments ws pairs text n) (arguments-read n p);
+    }
 
-  pub list-stop : (item : Item) (at : ℕ) {k : Refusal} → readWord ws at ≡ stop k → countedAt ws pairs text item at ≡ stop k
-  unfolding countedAt
-  list-stop Attribute at e = counted-stop derivedText ws (nameAt ws pairs text) at e
-  list-stop Parameter at e = counted-stop constraintsText ws (typeAt ws pairs text) at e
+    pub attributes-read : (level : ℕ) → attributesAt ws pairs text level at ≡ someAttributes ws pairs text level n p
+    unfolding Attribute·ToStringMultiple ascii
+    attributes-read level =
+        counted-got (Attribute·ToStringMultiple (indent level)) ws attribute at e
+        ∙ listed-read (λ a. Attribute·ToString a ++ ascii "\n" ++ indent level) [] attribute n p
 
-  -- ---- attributes and parameters
+  pub derived-stop : (at : ℕ) {k : Refusal} → readWord ws at ≡ stop k → derivedAt ws pairs text at ≡ stop k
+  derived-stop at e = counted-stop derivedText ws (nameAt ws pairs text) at e
 
-  pub item-runs : (item : Item) (level at : ℕ) → Runs (itemAt ws pairs text item level at)
-      (got (itemFront item) at then λ o. nameAt ws pairs text at then λ p. countedAt ws pairs text item p then λ q. last (got (itemEnd item level) q))
-  unfolding readAttribute readParameter TypeParamDecl·ToString countedAt itemAt itemFront itemEnd ascii
-  item-runs Attribute level at = attribute-parts (indent level) at (nameAt ws pairs text at) (readCounted ws (nameAt ws pairs text))
-  item-runs Parameter level at =
-      nothing-around at
-      (runs-as (map-same (nameAt ws pairs text at))
+  pub attributes-stop : (level at : ℕ) {k : Refusal} → readWord ws at ≡ stop k → attributesAt ws pairs text level at ≡ stop k
+  attributes-stop level at e = counted-stop (Attribute·ToStringMultiple (indent level)) ws attribute at e
+
+  module _ {o : List ℕ} {p : ℕ} where
+    pub derived-there : (at : ℕ) → Ready true o p (derivedAt ws pairs text at) → at < length ws
+    derived-there at r = count-there derivedText ws (nameAt ws pairs text) at r
+
+    pub attributes-there : (level at : ℕ) → Ready true o p (attributesAt ws pairs text level at) → at < length ws
+    attributes-there level at r = count-there (Attribute·ToStringMultiple (indent level)) ws attribute at r
+
+  pub attribute-runs : (level at : ℕ) → Runs (attributeAt ws pairs text level at)
+      (got (ascii "#[") at then λ o. nameAt ws pairs text at then λ p. derivedAt ws pairs text p then λ q. last (got (ascii "]" ++ (ascii "\n" ++ indent level)) q))
+  unfolding readAttribute
+  attribute-runs level at = attribute-parts (indent level) at (nameAt ws pairs text at) (readCounted ws (nameAt ws pairs text))
+
+  -- ---- parameters
+
+  abbrev parameter : ℕ → Reading (TypeParamDecl Bytes)
+  parameter = readParameter (nameCount pairs) ws (nameBytes pairs text) (typeAt ws pairs text)
+
+  pub parameter-runs : (at : ℕ) → Runs (parameterAt ws pairs text at) (nameAt ws pairs text at then λ p. last (constraintsAt ws pairs text p))
+  unfolding readParameter TypeParamDecl·ToString
+  parameter-runs at =
+      runs-as (map-same (nameAt ws pairs text at))
       (split₂ (λ x ts. record { name = x; constraints = ts }) TypeParamDecl·ToString (λ y. y) constraintsText (λ x ts. refl)
-      (nameAt ws pairs text at) (readCounted ws (typeAt ws pairs text))))
-
-  pub some-runs : (item : Item) (n at : ℕ) → Runs (someAt ws pairs text item n at) (got (markText item Front) at then λ p. leavesAt ws pairs text item n p then λ q. last (got (markText item Behind) q))
-  some-runs item n at = record { same = refl }
-
-  -- ---- lists of them
-
-  abbrev bound : ℕ
-  bound = nameCount pairs
-
-  abbrev name : ℕ → Bytes
-  name = nameBytes pairs text
-
-  attributes-read : (level n p : ℕ) → mapReading (Attribute·ToStringMultiple (indent level)) (readList (readAttribute bound ws name (typeAt ws pairs text)) n p) ≡ itemsAt ws pairs text Attribute level n p
-  unfolding Attribute·ToStringMultiple itemAt itemMark
-  attributes-read level n p =
-      listed-read (λ a. Attribute·ToString a ++ ascii "\n" ++ indent level) (ascii "") (readAttribute bound ws name (typeAt ws pairs text)) n p
-      ∙ listed-same (ascii "") (attributeAt ws pairs text level) (itemAt ws pairs text Attribute level) (λ q. refl) n p
-
-  parameters-read : (level n p : ℕ) → mapReading (SeqToString TypeParamDecl·ToString (ascii ", ")) (readList (readParameter bound ws name (typeAt ws pairs text)) n p) ≡ itemsAt ws pairs text Parameter level n p
-  unfolding itemAt itemMark
-  parameters-read level n p =
-      listed-read TypeParamDecl·ToString (ascii ", ") (readParameter bound ws name (typeAt ws pairs text)) n p
-      ∙ listed-same (ascii ", ") (parameterAt ws pairs text) (itemAt ws pairs text Parameter level) (λ q. refl) n p
+      (nameAt ws pairs text at) (readCounted ws (typeAt ws pairs text)))
 
   module _ (at : ℕ) {n p : ℕ} (e : readWord ws at ≡ got n p) where
-    pub items-none : (item : Item) (level : ℕ) → n ≡ 0 → itemListAt ws pairs text item level at ≡ got [] p
-    unfolding Attribute·ToStringMultiple TypeParamDecl·ToStringMultiple SeqToString ascii
-    items-none Attribute level z = counted-none (Attribute·ToStringMultiple (indent level)) ws (readAttribute bound ws name (typeAt ws pairs text)) at e z
-    items-none Parameter level z = counted-none TypeParamDecl·ToStringMultiple ws (readParameter bound ws name (typeAt ws pairs text)) at e z
+    pub constraints-none : n ≡ 0 → constraintsAt ws pairs text at ≡ got [] p
+    unfolding constraintsText ascii
+    constraints-none z = counted-none constraintsText ws (typeAt ws pairs text) at e z
 
-    pub items-some : (item : Item) (level : ℕ) → 0 < n → itemListAt ws pairs text item level at ≡ itemsSome ws pairs text item level n p
-    unfolding Attribute·ToStringMultiple TypeParamDecl·ToStringMultiple itemMark ascii
-    items-some Attribute level h =
-        counted-got (Attribute·ToStringMultiple (indent level)) ws (readAttribute bound ws name (typeAt ws pairs text)) at e
-        ∙ around (Attribute·ToStringMultiple (indent level)) (Attribute·ToStringMultiple (indent level)) [] [] (λ x l. sym (append-nil (Attribute·ToStringMultiple (indent level) (x ∷ l))))
-        (readAttribute bound ws name (typeAt ws pairs text)) n p h
-        ∙ within-same [] [] p (λ q. mapReading (Attribute·ToStringMultiple (indent level)) (readList (readAttribute bound ws name (typeAt ws pairs text)) n q))
-        (itemsAt ws pairs text Attribute level n) (attributes-read level n p)
-    items-some Parameter level h =
-        counted-got TypeParamDecl·ToStringMultiple ws (readParameter bound ws name (typeAt ws pairs text)) at e
-        ∙ around TypeParamDecl·ToStringMultiple (SeqToString TypeParamDecl·ToString (ascii ", ")) (ascii "<") (ascii ">") (λ x l. refl) (readParameter bound ws name (typeAt ws pairs text)) n p h
-        ∙ within-same (ascii "<") (ascii ">") p (λ q. mapReading (SeqToString TypeParamDecl·ToString (ascii ", ")) (readList (readParameter bound ws name (typeAt ws pairs text)) n q))
-        (itemsAt ws pairs text Parameter level n) (parameters-read level n p)
+    pub constraints-some : 0 < n → Runs (constraintsAt ws pairs text at) (got (ascii ": ") p then λ q. last (someConstraints ws pairs text n q))
+    unfolding constraintsText ascii run
+    constraints-some h = record {
+      same = counted-got constraintsText ws (typeAt ws pairs text) at e
+          ∙ around constraintsText (SeqToString Type·ToString (ascii " + ")) (ascii ": ") [] (λ x l. ap (λ (b : Bytes). ascii ": " ++ b) (sym (append-nil (SeqToString Type·ToString (ascii " + ") (x ∷ l))))) (typeAt ws pairs text) n p h
+          ∙ ap (λ (z : Reading Bytes). z >>= λ c q. got (ascii ": " ++ c) q)
+          (nothing-behind (mapReading (SeqToString Type·ToString (ascii " + ")) (readList (typeAt ws pairs text) n p)) ∙ listed-read Type·ToString (ascii " + ") (typeAt ws pairs text) n p);
+    }
 
-  pub items-stop : (item : Item) (level at : ℕ) {k : Refusal} → readWord ws at ≡ stop k → itemListAt ws pairs text item level at ≡ stop k
-  items-stop Attribute level at e = counted-stop (Attribute·ToStringMultiple (indent level)) ws (readAttribute bound ws name (typeAt ws pairs text)) at e
-  items-stop Parameter level at e = counted-stop TypeParamDecl·ToStringMultiple ws (readParameter bound ws name (typeAt ws pairs text)) at e
+    pub parameters-none : n ≡ 0 → parametersAt ws pairs text at ≡ got [] p
+    unfolding TypeParamDecl·ToStringMultiple ascii
+    parameters-none z = counted-none TypeParamDecl·ToStringMultiple ws parameter at e z
 
-  pub items-runs : (item : Item) (level n at : ℕ) → Runs (itemsSome ws pairs text item level n at)
-      (got (itemMark item Front) at then λ p. itemsAt ws pairs text item level n p then λ q. last (got (itemMark item Behind) q))
-  items-runs item level n at = record { same = refl }
+    pub parameters-some : 0 < n → Runs (parametersAt ws pairs text at) (got (ascii "<") p then λ q. someParameters ws pairs text n q then λ r. last (got (ascii ">") r))
+    unfolding TypeParamDecl·ToStringMultiple ascii
+    parameters-some h = record {
+      same = counted-got TypeParamDecl·ToStringMultiple ws parameter at e
+          ∙ around TypeParamDecl·ToStringMultiple (SeqToString TypeParamDecl·ToString (ascii ", ")) (ascii "<") (ascii ">") (λ x l. refl) parameter n p h
+          ∙ within-same (ascii "<") (ascii ">") p (λ q. mapReading (SeqToString TypeParamDecl·ToString (ascii ", ")) (readList parameter n q)) (someParameters ws pairs text n)
+          (listed-read TypeParamDecl·ToString (ascii ", ") parameter n p);
+    }
+
+  pub constraints-stop : (at : ℕ) {k : Refusal} → readWord ws at ≡ stop k → constraintsAt ws pairs text at ≡ stop k
+  constraints-stop at e = counted-stop constraintsText ws (typeAt ws pairs text) at e
+
+  pub parameters-stop : (at : ℕ) {k : Refusal} → readWord ws at ≡ stop k → parametersAt ws pairs text at ≡ stop k
+  parameters-stop at e = counted-stop TypeParamDecl·ToStringMultiple ws parameter at e

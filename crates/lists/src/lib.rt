@@ -1,86 +1,44 @@
-// The attributes of a declaration, each with its arguments, and its parameters, each with its constraints.
-ghost use mathlib.Core.List.{_++_};
-ghost use Prim.Native.Nat.{_<_};
+// The attributes of a declaration, each with its arguments, and its parameters, each with its constraints. Attributes are counted and written by functions of their
+// own: counting needs no buffer, and what was accepted is written without being tested again.
+ghost use mathlib.Core.Bool.{true};
+ghost use Prim.Native.Nat.{_+_, _^_, _<_};
 ghost use Rattle.rast.specs.Bytes.{ascii};
-ghost use Rattle.rast.specs.Indent.{indent};
 ghost use Rattle.output.specs.Laid.{Laid, Fits};
-ghost use Rattle.laying.specs.Passes.{Checked, Ready, Went};
-ghost use Rattle.lists.specs.Texts.{markText, leafAt, leavesAt, someAt, countedAt, itemFront, itemEnd, itemAt, itemMark, itemsAt, itemsSome, itemListAt};
+ghost use Rattle.laying.specs.Passes.{Checked, Ready, Came, Went, Counts};
+ghost use Rattle.lists.specs.Texts.{someArguments, derivedAt, attributeAt, someAttributes, attributesAt, someConstraints, constraintsAt, parameterAt, someParameters, parametersAt};
 use encoding::WordScan;
 use laying::Place;
+use writing::Spot;
 
-// What a list is of: attributes, which have arguments, or parameters, which have constraints.
-pub enum Item {
-    Attribute,
-    Parameter,
+// The comma between two of a list.
+fn lay_comma(write: bool, out: &mut [u8], pos: usize) -> usize
+    requires { ⌜ Fits write (now out) pos (ascii ", ") ⌝ }
+    ensures { λ r. ⌜ Laid write (now (out .entry)) pos (ascii ", ") (now (out .exit)) r ⌝ }
+{
+    output::lay(write, b", ", out, pos)
 }
 
-// Where a fixed text of a list stands.
-enum Mark {
-    Front,
-    Between,
-    Behind,
-}
+// ---- attributes, counted
 
-// An argument or a constraint.
-fn lay_leaf(
-    write: bool,
+// `n` arguments, one at least, counted behind `before` other bytes: each is counted together with what stands before it.
+fn count_arguments(
     words: &[u32],
     pairs: &[u32],
     text: &[u8],
-    item: Item,
-    at: usize,
-    out: &mut [u8],
-    pos: usize,
-) -> Place
-    requires { ⌜ Checked (now words) (now pairs) (now text) × Ready write (now out) pos (leafAt (now words) (now pairs) (now text) item at) ⌝ }
-    ensures { λ r. ⌜ Went write (now (out .entry)) pos (leafAt (now (words .entry)) (now (pairs .entry)) (now (text .entry)) item at) (now (out .exit)) r ⌝ }
-{
-    match item {
-        Item::Attribute => laying::lay_name(write, words, pairs, text, at, out, pos),
-        Item::Parameter => laying::lay_type(write, words, pairs, text, at, out, pos),
-    }
-}
-
-// A fixed text of a list of these: in front of it, between two of it, behind it.
-fn lay_mark(write: bool, item: Item, mark: Mark, out: &mut [u8], pos: usize) -> usize
-    requires { ⌜ Fits write (now out) pos (markText item mark) ⌝ }
-    ensures { λ r. ⌜ Laid write (now (out .entry)) pos (markText item mark) (now (out .exit)) r ⌝ }
-{
-    match item {
-        Item::Attribute => match mark {
-            Mark::Front => output::lay(write, b"(", out, pos),
-            Mark::Between => output::lay(write, b", ", out, pos),
-            Mark::Behind => output::lay(write, b")", out, pos),
-        },
-        Item::Parameter => match mark {
-            Mark::Front => output::lay(write, b": ", out, pos),
-            Mark::Between => output::lay(write, b" + ", out, pos),
-            Mark::Behind => pos,
-        },
-    }
-}
-
-// `n` of them, one at least.
-fn lay_leaves(
-    write: bool,
-    words: &[u32],
-    pairs: &[u32],
-    text: &[u8],
-    item: Item,
+    before: usize,
     n: u32,
     at: usize,
-    out: &mut [u8],
     pos: usize,
 ) -> Place
-    requires { ⌜ Checked (now words) (now pairs) (now text) × (0 < n) × Ready write (now out) pos (leavesAt (now words) (now pairs) (now text) item n at) ⌝ }
-    ensures { λ r. ⌜ Went write (now (out .entry)) pos (leavesAt (now (words .entry)) (now (pairs .entry)) (now (text .entry)) item n at) (now (out .exit)) r ⌝ }
+    requires { ⌜ Checked (now words) (now pairs) (now text) × (before < 2 ^ 40) × (0 < n) ⌝ }
+    ensures { λ r. ⌜ Counts (pos + before) (someArguments (now (words .entry)) (now (pairs .entry)) (now (text .entry)) n at) r ⌝ }
 {
+    let mut gap = before;
     let mut place = at;
     let mut p = pos;
     let mut left = n;
     loop {
-        let one = lay_leaf(write, words, pairs, text, item, place, out, p);
+        let one = laying::count_name(words, pairs, text, gap, place, p);
         let Place::At { next, pos: end } = one else {
             return one;
         };
@@ -88,162 +46,271 @@ fn lay_leaves(
         if left == 0 {
             return one;
         }
+        gap = 2;
         place = next;
-        p = lay_mark(write, item, Mark::Between, out, end);
+        p = end;
     }
 }
 
-// The same with what stands around them.
-fn lay_some(
-    write: bool,
-    words: &[u32],
-    pairs: &[u32],
-    text: &[u8],
-    item: Item,
-    n: u32,
-    at: usize,
-    out: &mut [u8],
-    pos: usize,
-) -> Place
-    requires { ⌜ Checked (now words) (now pairs) (now text) × (0 < n) × Ready write (now out) pos (someAt (now words) (now pairs) (now text) item n at) ⌝ }
-    ensures { λ r. ⌜ Went write (now (out .entry)) pos (someAt (now (words .entry)) (now (pairs .entry)) (now (text .entry)) item n at) (now (out .exit)) r ⌝ }
-{
-    let p = lay_mark(write, item, Mark::Front, out, pos);
-    let list = lay_leaves(write, words, pairs, text, item, n, at, out, p);
-    let Place::At { next, pos: end } = list else {
-        return list;
-    };
-    Place::At {
-        next,
-        pos: lay_mark(write, item, Mark::Behind, out, end),
-    }
-}
-
-// A whole list, its count first. An empty list has no text.
-fn lay_counted(
-    write: bool,
-    words: &[u32],
-    pairs: &[u32],
-    text: &[u8],
-    item: Item,
-    at: usize,
-    out: &mut [u8],
-    pos: usize,
-) -> Place
-    requires { ⌜ Checked (now words) (now pairs) (now text) × Ready write (now out) pos (countedAt (now words) (now pairs) (now text) item at) ⌝ }
-    ensures { λ r. ⌜ Went write (now (out .entry)) pos (countedAt (now (words .entry)) (now (pairs .entry)) (now (text .entry)) item at) (now (out .exit)) r ⌝ }
+// The arguments of an attribute, their count first. None have no text.
+fn count_derived(words: &[u32], pairs: &[u32], text: &[u8], at: usize, pos: usize) -> Place
+    requires { ⌜ Checked (now words) (now pairs) (now text) ⌝ }
+    ensures { λ r. ⌜ Counts pos (derivedAt (now (words .entry)) (now (pairs .entry)) (now (text .entry)) at) r ⌝ }
 {
     match encoding::scan_word(words, at) {
         WordScan::Word { value, next } => {
             if value == 0 {
                 return Place::At { next, pos };
             }
-            lay_some(write, words, pairs, text, item, value, next, out, pos)
+            let list = count_arguments(words, pairs, text, 1, value, next, pos);
+            let Place::At { next: end, pos: p } = list else {
+                return list;
+            };
+            Place::At {
+                next: end,
+                pos: output::count_few(p, 1),
+            }
         }
         WordScan::NoWord(r) => Place::Stopped(r),
     }
 }
 
-// What stands before an item's name.
-fn lay_item_front(write: bool, item: Item, out: &mut [u8], pos: usize) -> usize
-    requires { ⌜ Fits write (now out) pos (itemFront item) ⌝ }
-    ensures { λ r. ⌜ Laid write (now (out .entry)) pos (itemFront item) (now (out .exit)) r ⌝ }
-{
-    match item {
-        Item::Attribute => output::lay(write, b"#[", out, pos),
-        Item::Parameter => pos,
-    }
-}
-
-// The end of an attribute, and the next line.
-fn lay_attribute_end(write: bool, level: u32, out: &mut [u8], pos: usize) -> usize
-    requires { ⌜ Fits write (now out) pos (ascii "]" ++ (ascii "\n" ++ indent level)) ⌝ }
-    ensures { λ r. ⌜ Laid write (now (out .entry)) pos (ascii "]" ++ (ascii "\n" ++ indent level)) (now (out .exit)) r ⌝ }
-{
-    if write {
-        let p = output::put(b"]", out, pos);
-        return doc::put_line(level, out, p);
-    }
-    output::count_few(pos, 2 + 4 * level as usize)
-}
-
-// What stands behind an item: an attribute has a line of its own.
-fn lay_item_end(write: bool, item: Item, level: u32, out: &mut [u8], pos: usize) -> usize
-    requires { ⌜ Fits write (now out) pos (itemEnd item level) ⌝ }
-    ensures { λ r. ⌜ Laid write (now (out .entry)) pos (itemEnd item level) (now (out .exit)) r ⌝ }
-{
-    match item {
-        Item::Attribute => lay_attribute_end(write, level, out, pos),
-        Item::Parameter => pos,
-    }
-}
-
-// An attribute or a parameter.
-fn lay_item(
-    write: bool,
+// An attribute on its line.
+fn count_attribute(
     words: &[u32],
     pairs: &[u32],
     text: &[u8],
-    item: Item,
     level: u32,
     at: usize,
-    out: &mut [u8],
     pos: usize,
 ) -> Place
-    requires { ⌜ Checked (now words) (now pairs) (now text) × Ready write (now out) pos (itemAt (now words) (now pairs) (now text) item level at) ⌝ }
-    ensures { λ r. ⌜ Went write (now (out .entry)) pos (itemAt (now (words .entry)) (now (pairs .entry)) (now (text .entry)) item level at) (now (out .exit)) r ⌝ }
+    requires { ⌜ Checked (now words) (now pairs) (now text) ⌝ }
+    ensures { λ r. ⌜ Counts pos (attributeAt (now (words .entry)) (now (pairs .entry)) (now (text .entry)) level at) r ⌝ }
 {
-    let p = lay_item_front(write, item, out, pos);
-    let name = laying::lay_name(write, words, pairs, text, at, out, p);
+    let name = laying::count_name(words, pairs, text, 2, at, pos);
     let Place::At { next: q, pos: p } = name else {
         return name;
     };
-    let list = lay_counted(write, words, pairs, text, item, q, out, p);
-    let Place::At { next, pos: p } = list else {
+    let list = count_derived(words, pairs, text, q, p);
+    let Place::At { next, pos: end } = list else {
         return list;
     };
     Place::At {
         next,
-        pos: lay_item_end(write, item, level, out, p),
+        pos: output::count_few(end, 2 + 4 * level as usize),
     }
 }
 
-// A fixed text of a list of items.
-fn lay_item_mark(write: bool, item: Item, mark: Mark, out: &mut [u8], pos: usize) -> usize
-    requires { ⌜ Fits write (now out) pos (itemMark item mark) ⌝ }
-    ensures { λ r. ⌜ Laid write (now (out .entry)) pos (itemMark item mark) (now (out .exit)) r ⌝ }
-{
-    match item {
-        Item::Attribute => pos,
-        Item::Parameter => match mark {
-            Mark::Front => output::lay(write, b"<", out, pos),
-            Mark::Between => output::lay(write, b", ", out, pos),
-            Mark::Behind => output::lay(write, b">", out, pos),
-        },
-    }
-}
-
-// `n` items, one at least.
-fn lay_items(
-    write: bool,
+// `n` attributes.
+fn count_attributes(
     words: &[u32],
     pairs: &[u32],
     text: &[u8],
-    item: Item,
     level: u32,
+    n: u32,
+    at: usize,
+    pos: usize,
+) -> Place
+    requires { ⌜ Checked (now words) (now pairs) (now text) ⌝ }
+    ensures { λ r. ⌜ Counts pos (someAttributes (now (words .entry)) (now (pairs .entry)) (now (text .entry)) level n at) r ⌝ }
+{
+    let mut place = at;
+    let mut p = pos;
+    let mut left = n;
+    while 0 < left {
+        let one = count_attribute(words, pairs, text, level, place, p);
+        let Place::At { next, pos: end } = one else {
+            return one;
+        };
+        place = next;
+        p = end;
+        left -= 1;
+    }
+    Place::At {
+        next: place,
+        pos: p,
+    }
+}
+
+// The attributes of a declaration, their count first.
+pub fn count_attribute_list(
+    words: &[u32],
+    pairs: &[u32],
+    text: &[u8],
+    level: u32,
+    at: usize,
+    pos: usize,
+) -> Place
+    requires { ⌜ Checked (now words) (now pairs) (now text) ⌝ }
+    ensures { λ r. ⌜ Counts pos (attributesAt (now (words .entry)) (now (pairs .entry)) (now (text .entry)) level at) r ⌝ }
+{
+    match encoding::scan_word(words, at) {
+        WordScan::Word { value, next } => count_attributes(
+            words,
+            pairs,
+            text,
+            level,
+            value,
+            next,
+            pos,
+        ),
+        WordScan::NoWord(r) => Place::Stopped(r),
+    }
+}
+
+// ---- attributes that were accepted, written
+
+// `n` arguments, one at least.
+fn write_arguments(
+    words: &[u32],
+    pairs: &[u32],
+    text: &[u8],
     n: u32,
     at: usize,
     out: &mut [u8],
     pos: usize,
-) -> Place
-    requires { ⌜ Checked (now words) (now pairs) (now text) × (0 < n) × Ready write (now out) pos (itemsAt (now words) (now pairs) (now text) item level n at) ⌝ }
-    ensures { λ r. ⌜ Went write (now (out .entry)) pos (itemsAt (now (words .entry)) (now (pairs .entry)) (now (text .entry)) item level n at) (now (out .exit)) r ⌝ }
+) -> Spot
+    requires { ⌜ Checked (now words) (now pairs) (now text) × (0 < n) × Ready true (now out) pos (someArguments (now words) (now pairs) (now text) n at) ⌝ }
+    ensures { λ r. ⌜ Came true (now (out .entry)) pos (someArguments (now (words .entry)) (now (pairs .entry)) (now (text .entry)) n at) (now (out .exit)) (r .next) (r .pos) ⌝ }
 {
     let mut place = at;
     let mut p = pos;
     let mut left = n;
     loop {
-        let one = lay_item(write, words, pairs, text, item, level, place, out, p);
+        p = laying::write_name(words, pairs, text, place, out, p);
+        place += 1;
+        left -= 1;
+        if left == 0 {
+            return Spot {
+                next: place,
+                pos: p,
+            };
+        }
+        p = lay_comma(true, out, p);
+    }
+}
+
+// The arguments of an attribute, their count first.
+fn write_derived(
+    words: &[u32],
+    pairs: &[u32],
+    text: &[u8],
+    at: usize,
+    out: &mut [u8],
+    pos: usize,
+) -> Spot
+    requires { ⌜ Checked (now words) (now pairs) (now text) × Ready true (now out) pos (derivedAt (now words) (now pairs) (now text) at) ⌝ }
+    ensures { λ r. ⌜ Came true (now (out .entry)) pos (derivedAt (now (words .entry)) (now (pairs .entry)) (now (text .entry)) at) (now (out .exit)) (r .next) (r .pos) ⌝ }
+{
+    let n = words[at];
+    if n == 0 {
+        return Spot { next: at + 1, pos };
+    }
+    let p = output::put(b"(", out, pos);
+    let list = write_arguments(words, pairs, text, n, at + 1, out, p);
+    Spot {
+        next: list.next,
+        pos: output::put(b")", out, list.pos),
+    }
+}
+
+// An attribute on its line.
+fn write_attribute(
+    words: &[u32],
+    pairs: &[u32],
+    text: &[u8],
+    level: u32,
+    at: usize,
+    out: &mut [u8],
+    pos: usize,
+) -> Spot
+    requires { ⌜ Checked (now words) (now pairs) (now text) × Ready true (now out) pos (attributeAt (now words) (now pairs) (now text) level at) ⌝ }
+    ensures { λ r. ⌜ Came true (now (out .entry)) pos (attributeAt (now (words .entry)) (now (pairs .entry)) (now (text .entry)) level at) (now (out .exit)) (r .next) (r .pos) ⌝ }
+{
+    let p = output::put(b"#[", out, pos);
+    let q = laying::write_name(words, pairs, text, at, out, p);
+    let list = write_derived(words, pairs, text, at + 1, out, q);
+    let end = output::put(b"]", out, list.pos);
+    Spot {
+        next: list.next,
+        pos: doc::put_line(level, out, end),
+    }
+}
+
+// `n` attributes.
+fn write_attributes(
+    words: &[u32],
+    pairs: &[u32],
+    text: &[u8],
+    level: u32,
+    n: u32,
+    at: usize,
+    out: &mut [u8],
+    pos: usize,
+) -> Spot
+    requires { ⌜ Checked (now words) (now pairs) (now text) × Ready true (now out) pos (someAttributes (now words) (now pairs) (now text) level n at) ⌝ }
+    ensures { λ r. ⌜ Came true (now (out .entry)) pos (someAttributes (now (words .entry)) (now (pairs .entry)) (now (text .entry)) level n at) (now (out .exit)) (r .next) (r .pos) ⌝ }
+{
+    let mut place = at;
+    let mut p = pos;
+    let mut left = n;
+    while 0 < left {
+        let one = write_attribute(words, pairs, text, level, place, out, p);
+        place = one.next;
+        p = one.pos;
+        left -= 1;
+    }
+    Spot {
+        next: place,
+        pos: p,
+    }
+}
+
+// The attributes of a declaration, their count first.
+pub fn write_attribute_list(
+    words: &[u32],
+    pairs: &[u32],
+    text: &[u8],
+    level: u32,
+    at: usize,
+    out: &mut [u8],
+    pos: usize,
+) -> Spot
+    requires { ⌜ Checked (now words) (now pairs) (now text) × Ready true (now out) pos (attributesAt (now words) (now pairs) (now text) level at) ⌝ }
+    ensures { λ r. ⌜ Came true (now (out .entry)) pos (attributesAt (now (words .entry)) (now (pairs .entry)) (now (text .entry)) level at) (now (out .exit)) (r .next) (r .pos) ⌝ }
+{
+    write_attributes(words, pairs, text, level, words[at], at + 1, out, pos)
+}
+
+// ---- parameters
+
+// The plus between two constraints.
+fn lay_plus(write: bool, out: &mut [u8], pos: usize) -> usize
+    requires { ⌜ Fits write (now out) pos (ascii " + ") ⌝ }
+    ensures { λ r. ⌜ Laid write (now (out .entry)) pos (ascii " + ") (now (out .exit)) r ⌝ }
+{
+    output::lay(write, b" + ", out, pos)
+}
+
+// `n` constraints, one at least.
+fn lay_constraints(
+    write: bool,
+    words: &[u32],
+    pairs: &[u32],
+    text: &[u8],
+    n: u32,
+    at: usize,
+    out: &mut [u8],
+    pos: usize,
+) -> Place
+    requires { ⌜ Checked (now words) (now pairs) (now text) × (0 < n) × Ready write (now out) pos (someConstraints (now words) (now pairs) (now text) n at) ⌝ }
+    ensures { λ r. ⌜ Went write (now (out .entry)) pos (someConstraints (now (words .entry)) (now (pairs .entry)) (now (text .entry)) n at) (now (out .exit)) r ⌝ }
+{
+    let mut place = at;
+    let mut p = pos;
+    let mut left = n;
+    loop {
+        let one = laying::lay_type(write, words, pairs, text, place, out, p);
         let Place::At { next, pos: end } = one else {
             return one;
         };
@@ -252,69 +319,113 @@ fn lay_items(
             return one;
         }
         place = next;
-        p = lay_item_mark(write, item, Mark::Between, out, end);
+        p = lay_plus(write, out, end);
     }
 }
 
-// The same with what stands around them.
-fn lay_items_some(
+// The constraints of a parameter, their count first. None have no text.
+fn lay_constraint_list(
     write: bool,
     words: &[u32],
     pairs: &[u32],
     text: &[u8],
-    item: Item,
-    level: u32,
-    n: u32,
     at: usize,
     out: &mut [u8],
     pos: usize,
 ) -> Place
-    requires { ⌜ Checked (now words) (now pairs) (now text) × (0 < n) × Ready write (now out) pos (itemsSome (now words) (now pairs) (now text) item level n at) ⌝ }
-    ensures { λ r. ⌜ Went write (now (out .entry)) pos (itemsSome (now (words .entry)) (now (pairs .entry)) (now (text .entry)) item level n at) (now (out .exit)) r ⌝ }
-{
-    let p = lay_item_mark(write, item, Mark::Front, out, pos);
-    let list = lay_items(write, words, pairs, text, item, level, n, at, out, p);
-    let Place::At { next, pos: end } = list else {
-        return list;
-    };
-    Place::At {
-        next,
-        pos: lay_item_mark(write, item, Mark::Behind, out, end),
-    }
-}
-
-// The attributes or the parameters of a declaration. If there are none, they have no text.
-pub fn lay_item_list(
-    write: bool,
-    words: &[u32],
-    pairs: &[u32],
-    text: &[u8],
-    item: Item,
-    level: u32,
-    at: usize,
-    out: &mut [u8],
-    pos: usize,
-) -> Place
-    requires { ⌜ Checked (now words) (now pairs) (now text) × Ready write (now out) pos (itemListAt (now words) (now pairs) (now text) item level at) ⌝ }
-    ensures { λ r. ⌜ Went write (now (out .entry)) pos (itemListAt (now (words .entry)) (now (pairs .entry)) (now (text .entry)) item level at) (now (out .exit)) r ⌝ }
+    requires { ⌜ Checked (now words) (now pairs) (now text) × Ready write (now out) pos (constraintsAt (now words) (now pairs) (now text) at) ⌝ }
+    ensures { λ r. ⌜ Went write (now (out .entry)) pos (constraintsAt (now (words .entry)) (now (pairs .entry)) (now (text .entry)) at) (now (out .exit)) r ⌝ }
 {
     match encoding::scan_word(words, at) {
         WordScan::Word { value, next } => {
             if value == 0 {
                 return Place::At { next, pos };
             }
-            lay_items_some(
-                write,
-                words,
-                pairs,
-                text,
-                item,
-                level,
-                value,
-                next,
-                out,
-                pos,
-            )
+            let p = output::lay(write, b": ", out, pos);
+            lay_constraints(write, words, pairs, text, value, next, out, p)
+        }
+        WordScan::NoWord(r) => Place::Stopped(r),
+    }
+}
+
+// A parameter.
+fn lay_parameter(
+    write: bool,
+    words: &[u32],
+    pairs: &[u32],
+    text: &[u8],
+    at: usize,
+    out: &mut [u8],
+    pos: usize,
+) -> Place
+    requires { ⌜ Checked (now words) (now pairs) (now text) × Ready write (now out) pos (parameterAt (now words) (now pairs) (now text) at) ⌝ }
+    ensures { λ r. ⌜ Went write (now (out .entry)) pos (parameterAt (now (words .entry)) (now (pairs .entry)) (now (text .entry)) at) (now (out .exit)) r ⌝ }
+{
+    let name = laying::lay_name(write, words, pairs, text, at, out, pos);
+    let Place::At { next, pos: p } = name else {
+        return name;
+    };
+    lay_constraint_list(write, words, pairs, text, next, out, p)
+}
+
+// `n` parameters, one at least.
+fn lay_parameters(
+    write: bool,
+    words: &[u32],
+    pairs: &[u32],
+    text: &[u8],
+    n: u32,
+    at: usize,
+    out: &mut [u8],
+    pos: usize,
+) -> Place
+    requires { ⌜ Checked (now words) (now pairs) (now text) × (0 < n) × Ready write (now out) pos (someParameters (now words) (now pairs) (now text) n at) ⌝ }
+    ensures { λ r. ⌜ Went write (now (out .entry)) pos (someParameters (now (words .entry)) (now (pairs .entry)) (now (text .entry)) n at) (now (out .exit)) r ⌝ }
+{
+    let mut place = at;
+    let mut p = pos;
+    let mut left = n;
+    loop {
+        let one = lay_parameter(write, words, pairs, text, place, out, p);
+        let Place::At { next, pos: end } = one else {
+            return one;
+        };
+        left -= 1;
+        if left == 0 {
+            return one;
+        }
+        place = next;
+        p = lay_comma(write, out, end);
+    }
+}
+
+// The parameters of a declaration, their count first. None have no text.
+pub fn lay_parameter_list(
+    write: bool,
+    words: &[u32],
+    pairs: &[u32],
+    text: &[u8],
+    at: usize,
+    out: &mut [u8],
+    pos: usize,
+) -> Place
+    requires { ⌜ Checked (now words) (now pairs) (now text) × Ready write (now out) pos (parametersAt (now words) (now pairs) (now text) at) ⌝ }
+    ensures { λ r. ⌜ Went write (now (out .entry)) pos (parametersAt (now (words .entry)) (now (pairs .entry)) (now (text .entry)) at) (now (out .exit)) r ⌝ }
+{
+    match encoding::scan_word(words, at) {
+        WordScan::Word { value, next } => {
+            if value == 0 {
+                return Place::At { next, pos };
+            }
+            let p = output::lay(write, b"<", out, pos);
+            let list = lay_parameters(write, words, pairs, text, value, next, out, p);
+            let Place::At { next: end, pos: q } = list else {
+                return list;
+            };
+            Place::At {
+                next: end,
+                pos: output::lay(write, b">", out, q),
+            }
         }
         WordScan::NoWord(r) => Place::Stopped(r),
     }

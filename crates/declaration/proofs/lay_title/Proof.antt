@@ -5,14 +5,10 @@ use Rattle.declaration.proofs.lay_title.Statement.{statement}
 use Rattle.declaration.proofs.lay_title.Tie as tie
 
 lay-keyword-requires : tie.Need-lay-keyword-requires
-lay-keyword-requires c κs =
-    let start = c .before .before .before .before .before in
-    ready-bytes (ready-first (ready-runs (title-runs (start .args .words .now) (start .args .pairs .now) (start .args .text .now) (start .args .head) (start .args .at)) (start .pre .1)))
+lay-keyword-requires c κs = ready-bytes (ready-first (ready-runs (title-runs (c .before .before .before .before .before .args .words .now) (c .before .before .before .before .before .args .pairs .now) (c .before .before .before .before .before .args .text .now) (c .before .before .before .before .before .args .head) (c .before .before .before .before .before .args .at)) (c .before .before .before .before .before .pre .1)))
 
 lay-name-requires : tie.Need-lay-name-requires
-lay-name-requires c κs =
-    let start = c .before .before .before .before .before .before .before .before .before in
-    (start .pre .0, ready-first (ready-next (ready-runs (title-runs (start .args .words .now) (start .args .pairs .now) (start .args .text .now) (start .args .head) (start .args .at)) (start .pre .1)) (came-bytes _ (c .before .before .before .lay-keyword .ensures))))
+lay-name-requires c κs = (c .before .before .before .before .before .before .before .before .before .pre .0, ready-first (ready-next (ready-runs (title-runs (c .before .before .before .before .before .before .before .before .before .args .words .now) (c .before .before .before .before .before .before .before .before .before .args .pairs .now) (c .before .before .before .before .before .before .before .before .before .args .text .now) (c .before .before .before .before .before .before .before .before .before .args .head) (c .before .before .before .before .before .before .before .before .before .args .at)) (c .before .before .before .before .before .before .before .before .before .pre .1)) (came-bytes _ (c .before .before .before .lay-keyword .ensures))))
 
 enum-known-name : tie.Need-enum-known-name
 enum-known-name c = search needs
@@ -24,22 +20,16 @@ same-length : tie.Need-same-length
 same-length c = search needs
 
 returns : tie.Need-returns
-returns c =
-    let start = c .before .before .before .before .before .before .before .before .before .before .before .before .before .before in
-    went-runs (title-runs (start .args .words .now) (start .args .pairs .now) (start .args .text .now) (start .args .head) (start .args .at)) (went-then (came-bytes _ (c .before .before .before .before .before .before .before .before .lay-keyword .ensures)) (stops-then (c .before .before .before .before .lay-name .ensures) (c .enum-told .given .1)))
+returns c = went-runs (title-runs (c .before .before .before .before .before .before .before .before .before .before .before .before .before .before .args .words .now) (c .before .before .before .before .before .before .before .before .before .before .before .before .before .before .args .pairs .now) (c .before .before .before .before .before .before .before .before .before .before .before .before .before .before .args .text .now) (c .before .before .before .before .before .before .before .before .before .before .before .before .before .before .args .head) (c .before .before .before .before .before .before .before .before .before .before .before .before .before .before .args .at)) (went-then (came-bytes _ (c .before .before .before .before .before .before .before .before .lay-keyword .ensures)) (stops-then (c .before .before .before .before .lay-name .ensures) (c .enum-told .given .1)))
 
-lay-item-list-requires : tie.Need-lay-item-list-requires
-lay-item-list-requires c κs =
-    let start = c .before .before .before .before .before .before .before .before .before .before .before .before .before .before .before .before in
-    (start .pre .0, ready-last (ready-next (ready-next (ready-runs (title-runs (start .args .words .now) (start .args .pairs .now) (start .args .text .now) (start .args .head) (start .args .at)) (start .pre .1)) (came-bytes _ (c .before .before .before .before .before .before .before .before .before .before .lay-keyword .ensures))) (came-to (c .before .before .before .before .before .before .lay-name .ensures) (c .before .before .name .given .1))))
+lay-parameter-list-requires : tie.Need-lay-parameter-list-requires
+lay-parameter-list-requires c κs = (c .before .before .before .before .before .before .before .before .before .before .before .before .before .before .before .before .pre .0, ready-last (ready-next (ready-next (ready-runs (title-runs (c .before .before .before .before .before .before .before .before .before .before .before .before .before .before .before .before .args .words .now) (c .before .before .before .before .before .before .before .before .before .before .before .before .before .before .before .before .args .pairs .now) (c .before .before .before .before .before .before .before .before .before .before .before .before .before .before .before .before .args .text .now) (c .before .before .before .before .before .before .before .before .before .before .before .before .before .before .before .before .args .head) (c .before .before .before .before .before .before .before .before .before .before .before .before .before .before .before .before .args .at)) (c .before .before .before .before .before .before .before .before .before .before .before .before .before .before .before .before .pre .1)) (came-bytes _ (c .before .before .before .before .before .before .before .before .before .before .lay-keyword .ensures))) (came-to (c .before .before .before .before .before .before .lay-name .ensures) (c .before .before .name .given .1))))
 
 same-length-2 : tie.Need-same-length-2
 same-length-2 c = search needs
 
 returns-2 : tie.Need-returns-2
-returns-2 c =
-    let start = c .before .before .before .before .before .before .before .before .before .before .before .before .before .before .before .before .before .before .before in
-    went-runs (title-runs (start .args .words .now) (start .args .pairs .now) (start .args .text .now) (start .args .head) (start .args .at)) (went-then (came-bytes _ (c .before .before .before .before .before .before .before .before .before .before .before .before .before .lay-keyword .ensures)) (went-then (came-to (c .before .before .before .before .before .before .before .before .before .lay-name .ensures) (c .before .before .before .before .before .name .given .1)) (went-last (c .before .before .lay-item-list .ensures))))
+returns-2 c = went-runs (title-runs (c .before .before .before .before .before .before .before .before .before .before .before .before .before .before .before .before .before .before .before .args .words .now) (c .before .before .before .before .before .before .before .before .before .before .before .before .before .before .before .before .before .before .before .args .pairs .now) (c .before .before .before .before .before .before .before .before .before .before .before .before .before .before .before .before .before .before .before .args .text .now) (c .before .before .before .before .before .before .before .before .before .before .before .before .before .before .before .before .before .before .before .args .head) (c .before .before .before .before .before .before .before .before .before .before .before .before .before .before .before .before .before .before .before .args .at)) (went-then (came-bytes _ (c .before .before .before .before .before .before .before .before .before .before .before .before .before .lay-keyword .ensures)) (went-then (came-to (c .before .before .before .before .before .before .before .before .before .lay-name .ensures) (c .before .before .before .before .before .name .given .1)) (went-last (c .before .before .lay-parameter-list .ensures))))
 
 pub lay-title-spec : {M : Type 1} → statement M
 lay-title-spec =
@@ -51,6 +41,6 @@ lay-title-spec =
     enum-told
     same-length
     returns
-    lay-item-list-requires
+    lay-parameter-list-requires
     same-length-2
     returns-2)

@@ -1,54 +1,31 @@
-use Rattle.encoding.specs.Tables.{nameCount}
-use Rattle.laying.proofs.Leaves.{doc-got, doc-stop, scanned-none, scanned-word}
-use Rattle.laying.proofs.Passes.{came-bytes, ready-as, ready-bytes, stops-here, went-as}
-use Rattle.laying.specs.Passes.{came}
-use Rattle.encoding.proofs.Inside.{below-there}
-use mathlib.Core.Path.{sym}
+use native.Mathlib.Omega.{arith}
+use Rattle.laying.proofs.Leaves.{doc-there}
+use Rattle.laying.proofs.Passes.{came-went, counts-went, ready-true}
 use borrow.Author.Needs.{needs}
 use Rattle.laying.proofs.lay_doc.Statement.{statement}
 use Rattle.laying.proofs.lay_doc.Tie as tie
 
-name-count-requires : tie.Need-name-count-requires
-name-count-requires c κs = search needs
+write-doc-requires : tie.Need-write-doc-requires
+write-doc-requires c κs = (c .before .before .before .before .before .before .pre .0, ready-true (c .before .if1 .taken) (c .before .before .before .before .before .before .pre .1))
 
-scan-below-requires : tie.Need-scan-below-requires
-scan-below-requires c κs = search needs
-
-enum-known-value : tie.Need-enum-known-value
-enum-known-value c = search needs
-
-lay-known-doc-requires : tie.Need-lay-known-doc-requires
-lay-known-doc-requires c κs =
-    let a = c .before .before .before .before .before .before .before .before .before .before .args in
-    let e = scanned-word (a .words .now) (nameCount (a .pairs .now)) (a .at) (c .before .before .before .before .before .name-count .ensures) (c .before .before .before .before .scan-below .ensures) (c .before .before .value .given .1) in
-    (below-there _ (a .words .now) (a .at) e .below, c .before .before .before .before .before .before .before .before .before .before .pre .0 .good, ready-bytes (ready-as (doc-got (a .words .now) (a .pairs .now) (a .text .now) (a .at) (a .level) e) (c .before .before .before .before .before .before .before .before .before .before .pre .1)))
-
-enum-known-r : tie.Need-enum-known-r
-enum-known-r c = search needs
+add-t13 : tie.Need-add-t13
+add-t13 c =
+    let t = doc-there (c .before .before .before .before .before .before .before .before .before .args .words .now) (c .before .before .before .before .before .before .before .before .before .args .pairs .now) (c .before .before .before .before .before .before .before .before .before .args .text .now) (c .before .before .before .before .before .before .before .before .before .args .at) (c .before .before .before .before .before .before .before .before .before .args .level) (ready-true (c .before .before .before .before .if1 .taken) (c .before .before .before .before .before .before .before .before .before .pre .1)) in
+    omega (arith, t .here, c .before .before .before .before .before .before .before .before .before .pre .0 .few)
 
 same-length : tie.Need-same-length
 same-length c = search needs
 
 returns : tie.Need-returns
-returns c =
-    let a = c .before .before .before .before .before .before .before .before .before .before .before .before .before .args in
-    let e = scanned-word (a .words .now) (nameCount (a .pairs .now)) (a .at) (c .before .before .before .before .before .before .before .before .name-count .ensures) (c .before .before .before .before .before .before .before .scan-below .ensures) (c .before .before .before .before .before .value .given .1) in
-    went-as (sym (doc-got (a .words .now) (a .pairs .now) (a .text .now) (a .at) (a .level) e)) (came (came-bytes _ (c .before .before .lay-known-doc .ensures)))
+returns c = came-went (c .before .before .before .before .if1 .taken) (c .before .before .write-doc .ensures)
+
+count-doc-requires : tie.Need-count-doc-requires
+count-doc-requires c κs = search needs
 
 returns-2 : tie.Need-returns-2
-returns-2 c =
-    let a = c .before .before .before .before .before .before .before .before .before .args in
-    stops-here (doc-stop (a .words .now) (a .pairs .now) (a .text .now) (a .at) (a .level) (scanned-none (a .words .now) (nameCount (a .pairs .now)) (a .at) (c .before .before .before .before .name-count .ensures) (c .before .before .before .scan-below .ensures) (c .before .r .given .1)))
+returns-2 c = counts-went (c .before .if1 .left) (c .count-doc .ensures)
 
 pub lay-doc-spec : {M : Type 1} → statement M
 lay-doc-spec =
     tie.close
-    (tie.spec
-    name-count-requires
-    scan-below-requires
-    enum-known-value
-    lay-known-doc-requires
-    enum-known-r
-    same-length
-    returns
-    returns-2)
+    (tie.spec write-doc-requires add-t13 same-length returns count-doc-requires returns-2)

@@ -1,64 +1,36 @@
-use Rattle.encoding.proofs.Reading.{word-got, word-stop}
-use Rattle.encoding.specs.Reading.{readBelow}
-use Rattle.laying.proofs.Leaves.{visibility-priv, visibility-pub, visibility-stop}
-use Rattle.laying.proofs.Passes.{came-bytes, came-nothing, ready-as, ready-bytes, stops-here, went-as}
-use Rattle.laying.specs.Passes.{came}
-use Rattle.rast.specs.Bytes.{ascii}
-use mathlib.Core.Path.{sym}
+use Rattle.laying.proofs.Leaves.{visibility-there}
+use Rattle.laying.proofs.Passes.{came-went, counts-went, ready-true}
 use borrow.Author.Needs.{needs}
 use Rattle.laying.proofs.lay_visibility.Statement.{statement}
 use Rattle.laying.proofs.lay_visibility.Tie as tie
 
-scan-below-requires : tie.Need-scan-below-requires
-scan-below-requires c κs = search needs
+write-visibility-requires : tie.Need-write-visibility-requires
+write-visibility-requires c κs = ready-true (c .before .if1 .taken) (c .before .before .before .before .pre)
 
-enum-known-value : tie.Need-enum-known-value
-enum-known-value c = search needs
-
-returns : tie.Need-returns
-returns c =
-    let a = c .before .before .before .before .before .before .before .args in
-    let e = word-got (readBelow 2 (a .words .now) (a .at)) (c .before .before .before .before .scan-below .ensures) (c .before .before .value .given .1) in
-    went-as (sym (visibility-priv (a .words .now) (a .at) e (c .if1 .taken))) (came (came-nothing _))
-
-slice-aggregate-lay : tie.Need-slice-aggregate-lay
-slice-aggregate-lay c = search needs
-
-lay-requires : tie.Need-lay-requires
-unfolding ascii
-lay-requires c κs =
-    let a = c .before .before .before .before .before .before .before .before .before .args in
-    let e = word-got (readBelow 2 (a .words .now) (a .at)) (c .before .before .before .before .before .before .scan-below .ensures) (c .before .before .before .before .value .given .1) in
-    ready-bytes (ready-as (visibility-pub (a .words .now) (a .at) e (c .before .before .if1 .left)) (c .before .before .before .before .before .before .before .before .before .pre))
-
-enum-known-r : tie.Need-enum-known-r
-enum-known-r c = search needs
+add-t10 : tie.Need-add-t10
+add-t10 c =
+    let h = visibility-there (c .before .before .before .before .before .before .before .args .words .now) (c .before .before .before .before .before .before .before .args .at) (ready-true (c .before .before .before .before .if1 .taken) (c .before .before .before .before .before .before .before .pre)) .here in
+    search needs
 
 same-length : tie.Need-same-length
 same-length c = search needs
 
-returns-2 : tie.Need-returns-2
-unfolding ascii
-returns-2 c =
-    let a = c .before .before .before .before .before .before .before .before .before .before .before .before .args in
-    let e = word-got (readBelow 2 (a .words .now) (a .at)) (c .before .before .before .before .before .before .before .before .before .scan-below .ensures) (c .before .before .before .before .before .before .before .value .given .1) in
-    went-as (sym (visibility-pub (a .words .now) (a .at) e (c .before .before .before .before .before .if1 .left))) (came (came-bytes _ (c .before .before .lay .ensures)))
+returns : tie.Need-returns
+returns c = came-went (c .before .before .before .before .if1 .taken) (c .before .before .write-visibility .ensures)
 
-returns-3 : tie.Need-returns-3
-returns-3 c =
-    let a = c .before .before .before .before .before .before .args in
-    stops-here (visibility-stop (a .words .now) (a .at) (word-stop (readBelow 2 (a .words .now) (a .at)) (c .before .before .before .scan-below .ensures) (c .before .r .given .1)))
+count-visibility-requires : tie.Need-count-visibility-requires
+count-visibility-requires c κs = search needs
+
+returns-2 : tie.Need-returns-2
+returns-2 c = counts-went (c .before .if1 .left) (c .count-visibility .ensures)
 
 pub lay-visibility-spec : {M : Type 1} → statement M
 lay-visibility-spec =
     tie.close
     (tie.spec
-    scan-below-requires
-    enum-known-value
-    returns
-    slice-aggregate-lay
-    lay-requires
-    enum-known-r
+    write-visibility-requires
+    add-t10
     same-length
-    returns-2
-    returns-3)
+    returns
+    count-visibility-requires
+    returns-2)

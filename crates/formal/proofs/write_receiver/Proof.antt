@@ -1,0 +1,167 @@
+use Rattle.encoding.specs.Tables.{nameBytes}
+use Rattle.formal.proofs.Texts.{receiver-text, receiverText, self-and-type, type-read, written-as, written-bytes}
+use Rattle.laying.proofs.Passes.{ready-as, ready-bytes}
+use Rattle.output.proofs.Laws.{wrote-then}
+use Rattle.output.proofs.Passes.{fits-behind, fits-front, laid-wrote}
+use Rattle.rast.specs.Bytes.{ascii}
+use mathlib.Core.Path.{_∙_, refl, sym}
+use borrow.Author.Needs.{needs}
+use Rattle.formal.proofs.write_receiver.Statement.{statement}
+use Rattle.formal.proofs.write_receiver.Tie as tie
+
+self-form-requires : tie.Need-self-form-requires
+self-form-requires c κs =
+    let start = c .before .before .before .before in
+    (start .pre .0 .good, type-read (start .args .words .now) (start .args .pairs .now) (start .args .text .now) (start .args .name) (start .args .at) (start .pre .3))
+
+enum-told : tie.Need-enum-told
+enum-told c = search needs
+
+skip-type-requires : tie.Need-skip-type-requires
+skip-type-requires c κs =
+    let start = c .before .before .before .before .before .before .before in
+    type-read (start .args .words .now) (start .args .pairs .now) (start .args .text .now) (start .args .name) (start .args .at) (start .pre .3)
+
+put-name-requires : tie.Need-put-name-requires
+unfolding receiverText
+put-name-requires c κs =
+    let start = c .before .before .before .before .before .before .before .before .before in
+    let there = type-read (start .args .words .now) (start .args .pairs .now) (start .args .text .now) (start .args .name) (start .args .at) (start .pre .3) in
+    let e = receiver-text (start .args .words .now) (start .args .pairs .now) (start .args .text .now) (start .args .name) (start .args .at) (start .pre .2) (there .reads) (sym (c .before .before .enum-told .given .1) ∙ c .before .before .before .before .self-form .ensures .says _ _ (there .reads)) in
+    (start .pre .1, start .pre .0 .good, ready-bytes (ready-as e (start .pre .3)) .room refl)
+
+enum-told-2 : tie.Need-enum-told-2
+enum-told-2 c = search needs
+
+slice-aggregate-put : tie.Need-slice-aggregate-put
+slice-aggregate-put c = search needs
+
+put-requires : tie.Need-put-requires
+unfolding receiverText ascii
+put-requires c κs =
+    let start = c .before .before .before .before .before .before .before .before .before in
+    let there = type-read (start .args .words .now) (start .args .pairs .now) (start .args .text .now) (start .args .name) (start .args .at) (start .pre .3) in
+    let e = receiver-text (start .args .words .now) (start .args .pairs .now) (start .args .text .now) (start .args .name) (start .args .at) (start .pre .2) (there .reads) (sym (c .before .before .enum-told2 .given .1) ∙ c .before .before .before .before .self-form .ensures .says _ _ (there .reads)) in
+    fits-front {b = ascii "&"} (nameBytes (start .args .pairs .now) (start .args .text .now) (start .args .name)) (ready-bytes (ready-as e (start .pre .3))) .room refl
+
+skip-type-requires-2 : tie.Need-skip-type-requires-2
+skip-type-requires-2 c κs =
+    let start = c .before .before .before .before .before .before .before .before .before .before .before .before in
+    type-read (start .args .words .now) (start .args .pairs .now) (start .args .text .now) (start .args .name) (start .args .at) (start .pre .3)
+
+put-name-requires-2 : tie.Need-put-name-requires-2
+unfolding receiverText ascii
+put-name-requires-2 c κs =
+    let start = c .before .before .before .before .before .before .before .before .before .before .before .before .before .before in
+    let there = type-read (start .args .words .now) (start .args .pairs .now) (start .args .text .now) (start .args .name) (start .args .at) (start .pre .3) in
+    let e = receiver-text (start .args .words .now) (start .args .pairs .now) (start .args .text .now) (start .args .name) (start .args .at) (start .pre .2) (there .reads) (sym (c .before .before .before .before .before .before .before .enum-told2 .given .1) ∙ c .before .before .before .before .before .before .before .before .before .self-form .ensures .says _ _ (there .reads)) in
+    (start .pre .1, start .pre .0 .good, fits-behind _ (ready-bytes (ready-as e (start .pre .3))) (laid-wrote refl (c .before .before .before .before .put .ensures)) .room refl)
+
+enum-told-3 : tie.Need-enum-told-3
+enum-told-3 c = search needs
+
+slice-aggregate-put-2 : tie.Need-slice-aggregate-put-2
+slice-aggregate-put-2 c = search needs
+
+put-requires-2 : tie.Need-put-requires-2
+unfolding receiverText ascii
+put-requires-2 c κs =
+    let start = c .before .before .before .before .before .before .before .before .before in
+    let there = type-read (start .args .words .now) (start .args .pairs .now) (start .args .text .now) (start .args .name) (start .args .at) (start .pre .3) in
+    let e = receiver-text (start .args .words .now) (start .args .pairs .now) (start .args .text .now) (start .args .name) (start .args .at) (start .pre .2) (there .reads) (sym (c .before .before .enum-told3 .given .1) ∙ c .before .before .before .before .self-form .ensures .says _ _ (there .reads)) in
+    fits-front {b = ascii "&mut "} (nameBytes (start .args .pairs .now) (start .args .text .now) (start .args .name)) (ready-bytes (ready-as e (start .pre .3))) .room refl
+
+skip-type-requires-3 : tie.Need-skip-type-requires-3
+skip-type-requires-3 c κs =
+    let start = c .before .before .before .before .before .before .before .before .before .before .before .before in
+    type-read (start .args .words .now) (start .args .pairs .now) (start .args .text .now) (start .args .name) (start .args .at) (start .pre .3)
+
+put-name-requires-3 : tie.Need-put-name-requires-3
+unfolding receiverText ascii
+put-name-requires-3 c κs =
+    let start = c .before .before .before .before .before .before .before .before .before .before .before .before .before .before in
+    let there = type-read (start .args .words .now) (start .args .pairs .now) (start .args .text .now) (start .args .name) (start .args .at) (start .pre .3) in
+    let e = receiver-text (start .args .words .now) (start .args .pairs .now) (start .args .text .now) (start .args .name) (start .args .at) (start .pre .2) (there .reads) (sym (c .before .before .before .before .before .before .before .enum-told3 .given .1) ∙ c .before .before .before .before .before .before .before .before .before .self-form .ensures .says _ _ (there .reads)) in
+    (start .pre .1, start .pre .0 .good, fits-behind _ (ready-bytes (ready-as e (start .pre .3))) (laid-wrote refl (c .before .before .before .before .put2 .ensures)) .room refl)
+
+enum-told-4 : tie.Need-enum-told-4
+enum-told-4 c = search needs
+
+write-open-requires : tie.Need-write-open-requires
+write-open-requires c κs =
+    let start = c .before .before .before .before .before .before .before .before in
+    let there = type-read (start .args .words .now) (start .args .pairs .now) (start .args .text .now) (start .args .name) (start .args .at) (start .pre .3) in
+    let e = self-and-type (start .args .words .now) (start .args .pairs .now) (start .args .text .now) (start .args .name) (start .args .at) (start .pre .2) (there .reads) (sym (c .before .enum-told4 .given .1) ∙ c .before .before .before .self-form .ensures .says _ _ (there .reads)) in
+    (start .pre .0, start .pre .1, ready-as e (start .pre .3))
+
+same-length : tie.Need-same-length
+same-length c = search needs
+
+returns : tie.Need-returns
+unfolding receiverText
+returns c =
+    let start = c .before .before .before .before .before .before .before .before .before .before .before .before in
+    let ends = c .before .before .before .before .skip-type .ensures .reads in
+    let e = receiver-text (start .args .words .now) (start .args .pairs .now) (start .args .text .now) (start .args .name) (start .args .at) (start .pre .2) ends (sym (c .before .before .before .before .before .enum-told .given .1) ∙ c .before .before .before .before .before .before .before .self-form .ensures .says _ _ ends) in
+    written-bytes e (c .before .before .put-name .ensures)
+
+same-length-2 : tie.Need-same-length-2
+same-length-2 c = search needs
+
+returns-2 : tie.Need-returns-2
+unfolding receiverText ascii
+returns-2 c =
+    let start = c .before .before .before .before .before .before .before .before .before .before .before .before .before .before .before .before .before in
+    let ends = c .before .before .before .before .skip-type2 .ensures .reads in
+    let e = receiver-text (start .args .words .now) (start .args .pairs .now) (start .args .text .now) (start .args .name) (start .args .at) (start .pre .2) ends (sym (c .before .before .before .before .before .before .before .before .before .before .enum-told2 .given .1) ∙ c .before .before .before .before .before .before .before .before .before .before .before .before .self-form .ensures .says _ _ ends) in
+    written-bytes e (wrote-then (c .before .before .before .before .before .before .before .put .ensures) (c .before .before .put-name2 .ensures))
+
+same-length-3 : tie.Need-same-length-3
+same-length-3 c = search needs
+
+returns-3 : tie.Need-returns-3
+unfolding receiverText ascii
+returns-3 c =
+    let start = c .before .before .before .before .before .before .before .before .before .before .before .before .before .before .before .before .before in
+    let ends = c .before .before .before .before .skip-type3 .ensures .reads in
+    let e = receiver-text (start .args .words .now) (start .args .pairs .now) (start .args .text .now) (start .args .name) (start .args .at) (start .pre .2) ends (sym (c .before .before .before .before .before .before .before .before .before .before .enum-told3 .given .1) ∙ c .before .before .before .before .before .before .before .before .before .before .before .before .self-form .ensures .says _ _ ends) in
+    written-bytes e (wrote-then (c .before .before .before .before .before .before .before .put2 .ensures) (c .before .before .put-name3 .ensures))
+
+same-length-4 : tie.Need-same-length-4
+same-length-4 c = search needs
+
+returns-4 : tie.Need-returns-4
+returns-4 c =
+    let start = c .before .before .before .before .before .before .before .before .before .before .before in
+    let there = type-read (start .args .words .now) (start .args .pairs .now) (start .args .text .now) (start .args .name) (start .args .at) (start .pre .3) in
+    let e = self-and-type (start .args .words .now) (start .args .pairs .now) (start .args .text .now) (start .args .name) (start .args .at) (start .pre .2) (there .reads) (sym (c .before .before .before .before .enum-told4 .given .1) ∙ c .before .before .before .before .before .before .self-form .ensures .says _ _ (there .reads)) in
+    written-as (sym e) (c .before .before .write-open .ensures)
+
+pub write-receiver-spec : {M : Type 1} → statement M
+write-receiver-spec =
+    tie.close
+    (tie.spec
+    self-form-requires
+    enum-told
+    skip-type-requires
+    put-name-requires
+    enum-told-2
+    slice-aggregate-put
+    put-requires
+    skip-type-requires-2
+    put-name-requires-2
+    enum-told-3
+    slice-aggregate-put-2
+    put-requires-2
+    skip-type-requires-3
+    put-name-requires-3
+    enum-told-4
+    write-open-requires
+    same-length
+    returns
+    same-length-2
+    returns-2
+    same-length-3
+    returns-3
+    same-length-4
+    returns-4)

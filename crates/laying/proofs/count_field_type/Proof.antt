@@ -1,0 +1,67 @@
+use Prim.Native.Nat.{ℕ, _+_}
+use mathlib.Core.Path.{_∙_, ap, sym}
+use native.Mathlib.Omega.{arith}
+use Rattle.output.specs.Laid.{clamp}
+use Rattle.laying.specs.Passes.{came}
+use Rattle.laying.proofs.Leaves.{ended-text, named-text, plain-text}
+use Rattle.laying.proofs.Passes.{counts-bytes, counts-here, stops-here, went-as}
+use borrow.Author.Needs.{needs}
+use Rattle.laying.proofs.count_field_type.Statement.{statement}
+use Rattle.laying.proofs.count_field_type.Tie as tie
+
+returns : tie.Need-returns
+returns c = stops-here (ended-text (c .before .before .before .before .args .words .now) (c .before .before .before .before .args .pairs .now) (c .before .before .before .before .args .text .now) (c .before .before .before .before .args .at) (c .if1 .taken))
+
+mul-w : tie.Need-mul-w
+mul-w c = search needs
+
+shared-slice-read-w : tie.Need-shared-slice-read-w
+shared-slice-read-w c = search needs
+
+add-t12 : tie.Need-add-t12
+add-t12 c = search needs
+
+primitive-length-requires : tie.Need-primitive-length-requires
+primitive-length-requires c κs = search needs
+
+count-few-requires : tie.Need-count-few-requires
+count-few-requires c κs = search needs
+
+returns-2 : tie.Need-returns-2
+returns-2 c =
+    let a = c .before .before .before .before .before .before .before .before .args in
+    went-as (sym (plain-text (c .before .before .before .before .before .before .before .before .args .words .now) (c .before .before .before .before .before .before .before .before .args .pairs .now) (c .before .before .before .before .before .before .before .before .args .text .now) (a .at) (omega (arith, c .before .before .before .before .if1 .left)) (c .before .before .if2 .taken))) (came (counts-bytes (c .count-few .ensures ∙ ap (λ (n : ℕ). clamp (a .pos + n)) (c .before .primitive-length .ensures .0))))
+
+add-count-name : tie.Need-add-count-name
+add-count-name c = search needs
+
+count-name-requires : tie.Need-count-name-requires
+count-name-requires c κs = search needs
+
+returns-3 : tie.Need-returns-3
+returns-3 c =
+    let a = c .before .before .before .before .before .before .before .before .args in
+    went-as (sym (named-text (c .before .before .before .before .before .before .before .before .args .words .now) (c .before .before .before .before .before .before .before .before .args .pairs .now) (c .before .before .before .before .before .before .before .before .args .text .now) (a .at) (omega (arith, c .before .before .before .before .if1 .left)) (c .before .if3 .taken))) (counts-here (c .count-name .ensures))
+
+count-type-requires : tie.Need-count-type-requires
+count-type-requires c κs = search needs
+
+returns-4 : tie.Need-returns-4
+returns-4 c = search needs
+
+pub count-field-type-spec : {M : Type 1} → statement M
+count-field-type-spec =
+    tie.close
+    (tie.spec
+    returns
+    mul-w
+    shared-slice-read-w
+    add-t12
+    primitive-length-requires
+    count-few-requires
+    returns-2
+    add-count-name
+    count-name-requires
+    returns-3
+    count-type-requires
+    returns-4)
