@@ -75,7 +75,7 @@ fn put_two(first: u8, second: u8, out: &mut [u8], pos: usize)
     out[pos + 1] = second;
 }
 
-// A plain type, for callers that write many: `put_primitive` is too large to be put in place, and this would make what calls itself too large.
+// A plain type of a field. `put_primitive` lays its tables out at each call; in `writing` this one would make the functions around it too large to be inlined.
 pub fn put_plain(kind: u32, out: &mut [u8], pos: usize) -> usize
     requires { ⌜ (kind < 12) × (pos + length (Primitive·ToString (getD primitives kind U8)) ≤ length (now out)) ⌝ }
     ensures { λ r. ⌜ Wrote (now (out .entry)) pos (Primitive·ToString (getD primitives kind U8)) (now (out .exit)) r ⌝ }
