@@ -25,7 +25,7 @@ use Rattle.laying.specs.Passes.{Chain, last, _then_, run, Ready}
 use Rattle.laying.specs.Texts.{nameAt, typeTextAt, pathTextAt, visibilityAt, docAt}
 use Rattle.laying.proofs.Passes.{Runs}
 use Rattle.laying.proofs.Leaves.{BelowThere, below-of}
-use Rattle.laying.proofs.Splits.{map-same, map-made, runs-as, split₃, split-front, text-before, text-behind, listed-read, counted-got, counted-none, counted-stop}
+use Rattle.laying.proofs.Splits.{map-same, map-made, nothing-behind, runs-as, split₃, split-front, text-before, text-behind, listed-read, counted-got, counted-none, counted-stop}
 use Rattle.lists.specs.Texts.{attributesAt, parametersAt}
 use Rattle.fields.specs.declared.Entry.{Entry}
 use Rattle.fields.specs.declared.Entry.the-variants.{Named}
@@ -116,12 +116,6 @@ use-parts ws name (got v p) y = record { same = go (y p) }
     go (stop k) = refl
 use-parts ws name (stop k) y = record { same = refl }
 
--- a text with nothing behind it
-nothing-behind : (x : Reading Bytes) → x ≡ run (x then λ p. last (got [] p))
-unfolding run
-nothing-behind (got b n) = ap (λ (c : Bytes). got c n) (sym (append-nil b))
-nothing-behind (stop k) = refl
-
 -- what a list of fields is of
 pub entry-named : {k : ℕ} (inCase : Bool) → k ≡ 0 → Named ≡ entryOf inCase k
 entry-named {k} inCase z = rw (eq-eqb k 0 z)
@@ -161,7 +155,7 @@ module _ (ws pairs : List ℕ) (text : Bytes) where
 
     nameless-fields : (inCase : Bool) → (k ≡ 0 → ⊥) → fieldsAt ws pairs text inCase level at ≡ listedAt ws pairs text (namelessEntry inCase) level p
     unfolding structFieldsText fieldsEnd ascii
-    nameless-fields true z = as-nameless (Fields·ToString (indent level) true) z ∙ nothing-behind (namelessFieldsAt ws pairs text true level p)
+    nameless-fields true z = as-nameless (Fields·ToString (indent level) true) z ∙ sym (nothing-behind (namelessFieldsAt ws pairs text true level p))
     nameless-fields false z =
         as-nameless (structFieldsText (indent level)) z
         ∙ text-behind (ascii ";") (λ xs. Fields·ToString (indent level) false (NamelessFields xs)) (readCounted ws (readNamelessField bound ws name type) p) .same
@@ -169,7 +163,7 @@ module _ (ws pairs : List ℕ) (text : Bytes) where
     pub fields-listed : (inCase : Bool) {entry : Entry} → entry ≡ entryOf inCase k → fieldsAt ws pairs text inCase level at ≡ listedAt ws pairs text entry level p
     unfolding fieldsEnd ascii
     fields-listed inCase {entry} d = elim (ℕ-discrete k 0) [
-      | yes z ↦ named-fields inCase z ∙ nothing-behind (namedAt ws pairs text level p) ∙ ap (λ (x : Entry). listedAt ws pairs text x level p) (entry-named inCase z ∙ sym d)
+      | yes z ↦ named-fields inCase z ∙ sym (nothing-behind (namedAt ws pairs text level p)) ∙ ap (λ (x : Entry). listedAt ws pairs text x level p) (entry-named inCase z ∙ sym d)
       | no z ↦ nameless-fields inCase z ∙ ap (λ (x : Entry). listedAt ws pairs text x level p) (entry-nameless inCase z ∙ sym d)
     ]
 

@@ -1,7 +1,7 @@
 -- The text of a thing is the texts of its parts, one behind the other: laws over any readings.
 use Prim.Native.Nat.{ℕ, zero, suc, _<_}
 use mathlib.Core.Path.{_≡_, refl, ap, _∙_}
-use mathlib.Core.List.{List, [], _∷_, _++_}
+use mathlib.Core.List.{List, [], _∷_, _++_, append-nil}
 use native.Mathlib.Omega.{arith}
 use Rattle.rast.specs.Bytes.{Bytes, ascii}
 use Rattle.rast.specs.Indent.{SeqToString}
@@ -33,6 +33,12 @@ map-made f make (got a n) = refl
 map-made f make (stop k) = refl
 
 -- ---- parts
+
+-- nothing stands behind a text
+pub nothing-behind : (x : Reading Bytes) → run (x then λ q. last (got [] q)) ≡ x
+unfolding run
+nothing-behind (got b n) = ap (λ (t : Bytes). got t n) (append-nil b)
+nothing-behind (stop k) = refl
 
 module _ {A B C : Type 0} (make : A → B → C) (f : C → Bytes) (g : A → Bytes) (h : B → Bytes) (e : (a : A) (b : B) → f (make a b) ≡ g a ++ h b) where
   pub split₂ : (x : Reading A) (y : ℕ → Reading B) → Runs (mapReading f (x >>= λ a p. y p >>= λ b q. got (make a b) q)) (mapReading g x then λ p. last (mapReading h (y p)))

@@ -26,17 +26,12 @@ use Rattle.laying.specs.declared.Place.the-variants.{At}
 use Rattle.laying.specs.Passes.{last, _then_, run, listed, Ready, Came, Went, came, Along}
 use Rattle.laying.specs.Texts.{nameAt}
 use Rattle.laying.proofs.Passes.{Runs, ready-runs, ready-last, ready-next, went-runs, went-then, went-last, went-as, came-nothing, counts-bytes}
-use Rattle.laying.proofs.Splits.{map-same, runs-as, split₂, listed-read, listed-same, around, counted-got, counted-none, counted-stop, within-same}
+use Rattle.laying.proofs.Splits.{map-same, nothing-behind, runs-as, split₂, listed-read, listed-same, around, counted-got, counted-none, counted-stop, within-same}
 use Rattle.lists.specs.Texts.{someArguments, derivedAt, attributeAt, someAttributes, attributesAt, someConstraints, constraintsAt, parameterAt, someParameters, parametersAt}
 
 -- ---- any readings
 
--- nothing stands behind a text, or before it
-nothing-behind : (x : Reading Bytes) → run (x then λ q. last (got [] q)) ≡ x
-unfolding run
-nothing-behind (got b n) = ap (λ (t : Bytes). got t n) (append-nil b)
-nothing-behind (stop k) = refl
-
+-- nothing stands before a text
 nothing-before : (n : ℕ) (x : ℕ → Reading Bytes) → run (got [] n then λ p. last (x p)) ≡ x n
 unfolding run
 nothing-before n x = go (x n)
