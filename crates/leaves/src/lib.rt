@@ -1,7 +1,6 @@
 // Texts with no type in them, into a buffer that has room: plain types, paths, the end of an array.
 ghost use mathlib.Core.Path.{_≡_};
-ghost use Prim.Native.Nat.{_+_, _≤_, _<_};
-ghost use mathlib.Core.List.{[], _∷_};
+ghost use Prim.Native.Nat.{_+_, _*_, _≤_, _<_};
 ghost use lib.ListN.{length, getD};
 ghost use lib.Seq.{sets};
 ghost use Rattle.rast.specs.Tree.{U8};
@@ -10,7 +9,7 @@ ghost use Rattle.output.specs.Wrote.{Wrote};
 ghost use Rattle.encoding.specs.Tables.{Good, HoldsNames, nameBytes, nameCount};
 ghost use Rattle.encoding.specs.Heads.{InsidePath};
 ghost use Rattle.encoding.specs.Types.{primitives, rootOf, pathOf, sizeOf};
-ghost use Rattle.leaves.specs.Texts.{memberText, endText, HasEnds};
+ghost use Rattle.leaves.specs.Texts.{memberText, endText, twoBytes, HasEnds};
 use encoding::FixedNames;
 use encoding::PathAt;
 
@@ -28,51 +27,49 @@ pub fn put_primitive(kind: u32, out: &mut [u8], pos: usize) -> usize
     output::put_few(all, start, end - start, out, pos)
 }
 
-// The first two and the last two letters of a text of at most four.
+// A text of two to four letters: their number, the first two and the last two, each two as one number with the first letter low.
 struct Ends {
-    first: u8,
-    second: u8,
-    third: u8,
-    fourth: u8,
+    count: usize,
+    front: u16,
+    back: u16,
 }
 
-fn with_ends(first: u8, second: u8, third: u8, fourth: u8) -> Ends
-    ensures { λ r. ⌜ (r .first ≡ first) × (r .second ≡ second) × (r .third ≡ third) × (r .fourth ≡ fourth) ⌝ }
+fn with_ends(count: usize, first: u8, second: u8, third: u8, fourth: u8) -> Ends
+    ensures { λ r. ⌜ (r .count ≡ count) × (r .front ≡ first + 256 * second) × (r .back ≡ third + 256 * fourth) ⌝ }
 {
     Ends {
-        first,
-        second,
-        third,
-        fourth,
+        count,
+        front: first as u16 + 256 * second as u16,
+        back: third as u16 + 256 * fourth as u16,
     }
 }
 
 // Those of the plain types other than `usize`. The match compiles to tables that need not be laid out.
 fn plain_ends(kind: u32) -> Ends
     requires { ⌜ (kind < 12) × (kind ≡ 10 → ⊥) ⌝ }
-    ensures { λ r. ⌜ HasEnds (Primitive·ToString (getD primitives kind U8)) (r .first) (r .second) (r .third) (r .fourth) ⌝ }
+    ensures { λ r. ⌜ HasEnds (Primitive·ToString (getD primitives kind U8)) (r .count) (r .front) (r .back) ⌝ }
 {
     match kind {
-        0 => with_ends(b'u', b'8', b'u', b'8'),
-        1 => with_ends(b'u', b'1', b'1', b'6'),
-        2 => with_ends(b'u', b'3', b'3', b'2'),
-        3 => with_ends(b'u', b'6', b'6', b'4'),
-        4 => with_ends(b'u', b'1', b'2', b'8'),
-        5 => with_ends(b'i', b'8', b'i', b'8'),
-        6 => with_ends(b'i', b'1', b'1', b'6'),
-        7 => with_ends(b'i', b'3', b'3', b'2'),
-        8 => with_ends(b'i', b'6', b'6', b'4'),
-        9 => with_ends(b'i', b'1', b'2', b'8'),
-        _ => with_ends(b'b', b'o', b'o', b'l'),
+        0 => with_ends(2, b'u', b'8', b'u', b'8'),
+        1 => with_ends(3, b'u', b'1', b'1', b'6'),
+        2 => with_ends(3, b'u', b'3', b'3', b'2'),
+        3 => with_ends(3, b'u', b'6', b'6', b'4'),
+        4 => with_ends(4, b'u', b'1', b'2', b'8'),
+        5 => with_ends(2, b'i', b'8', b'i', b'8'),
+        6 => with_ends(3, b'i', b'1', b'1', b'6'),
+        7 => with_ends(3, b'i', b'3', b'3', b'2'),
+        8 => with_ends(3, b'i', b'6', b'6', b'4'),
+        9 => with_ends(4, b'i', b'1', b'2', b'8'),
+        _ => with_ends(4, b'b', b'o', b'o', b'l'),
     }
 }
 
-fn put_two(first: u8, second: u8, out: &mut [u8], pos: usize)
+fn put_two(two: u16, out: &mut [u8], pos: usize)
     requires { ⌜ pos + 2 ≤ length (now out) ⌝ }
-    ensures { λ _. ⌜ now (out .exit) ≡ sets (now (out .entry)) pos (first ∷ second ∷ []) ⌝ }
+    ensures { λ _. ⌜ now (out .exit) ≡ sets (now (out .entry)) pos (twoBytes two) ⌝ }
 {
-    out[pos] = first;
-    out[pos + 1] = second;
+    out[pos] = (two % 256) as u8;
+    out[pos + 1] = (two / 256) as u8;
 }
 
 // A plain type of a field. `put_primitive` lays its tables out at each call; in `writing` this one would make the functions around it too large to be inlined.
@@ -83,15 +80,9 @@ pub fn put_plain(kind: u32, out: &mut [u8], pos: usize) -> usize
     if kind == 10 {
         return output::put(b"usize", out, pos);
     }
-    let Ends {
-        first,
-        second,
-        third,
-        fourth,
-    } = plain_ends(kind);
-    let count = encoding::primitive_length(kind);
-    put_two(first, second, out, pos);
-    put_two(third, fourth, out, pos + (count - 2));
+    let Ends { count, front, back } = plain_ends(kind);
+    put_two(front, out, pos);
+    put_two(back, out, pos + (count - 2));
     pos + count
 }
 

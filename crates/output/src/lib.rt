@@ -63,26 +63,6 @@ fn copy_few(bytes: &[u8], start: usize, count: usize, out: &mut [u8], pos: usize
     copy(bytes, start, count, out, pos)
 }
 
-// The same, for any count: names are short, and a call of a loop or of a move costs more than they do.
-fn copy_any(bytes: &[u8], start: usize, count: usize, out: &mut [u8], pos: usize)
-    requires { ⌜ (start + count ≤ length (now bytes)) × (pos + count ≤ length (now out)) ⌝ }
-    ensures { λ _. ⌜ now (out .exit) ≡ sets (now (out .entry)) pos (take count (drop start (now (bytes .entry)))) ⌝ }
-{
-    if count < 8 {
-        return copy_few(bytes, start, count, out, pos);
-    }
-    if count <= 16 {
-        return copy_ends(bytes, start, 8, count, out, pos);
-    }
-    if count <= 32 {
-        return copy_ends(bytes, start, 16, count, out, pos);
-    }
-    if count <= CHUNK {
-        return copy_chunk(bytes, start, count, out, pos);
-    }
-    copy(bytes, start, count, out, pos)
-}
-
 // `count` bytes of `bytes` from `start` on, fewer than eight, written from `pos` on. The answer is the position behind them. It calls nothing, so that a caller
 // saves no registers for it.
 pub fn put_few(bytes: &[u8], start: usize, count: usize, out: &mut [u8], pos: usize) -> usize
@@ -93,13 +73,40 @@ pub fn put_few(bytes: &[u8], start: usize, count: usize, out: &mut [u8], pos: us
     pos + count
 }
 
-// The same, for any count.
+// The same, for a long run: more than a chunk as all but the last chunk, and that. What calls itself is not inlined, so that a caller with a short run
+// saves no registers for a long one.
+fn put_long(bytes: &[u8], start: usize, count: usize, out: &mut [u8], pos: usize) -> usize
+    requires { ⌜ (start + count ≤ length (now bytes)) × (pos + count ≤ length (now out)) ⌝ }
+    ensures { λ r. ⌜ Wrote (now (out .entry)) pos (take count (drop start (now (bytes .entry)))) (now (out .exit)) r ⌝ }
+{
+    if count <= CHUNK {
+        copy_chunk(bytes, start, count, out, pos);
+        return pos + count;
+    }
+    let front = count - CHUNK;
+    let p = put_long(bytes, start, front, out, pos);
+    copy_chunk(bytes, start + front, CHUNK, out, p);
+    p + CHUNK
+}
+
+// The same, for any count. Most runs are names, and short. The slice is copied for a long run alone.
 pub fn put_part(bytes: &[u8], start: usize, count: usize, out: &mut [u8], pos: usize) -> usize
     requires { ⌜ (start + count ≤ length (now bytes)) × (pos + count ≤ length (now out)) ⌝ }
     ensures { λ r. ⌜ Wrote (now (out .entry)) pos (take count (drop start (now (bytes .entry)))) (now (out .exit)) r ⌝ }
 {
-    copy_any(bytes, start, count, out, pos);
-    pos + count
+    if count < 8 {
+        return put_few(bytes, start, count, out, pos);
+    }
+    if count <= 16 {
+        copy_ends(bytes, start, 8, count, out, pos);
+        return pos + count;
+    }
+    if count <= 32 {
+        copy_ends(bytes, start, 16, count, out, pos);
+        return pos + count;
+    }
+    let all = bytes;
+    put_long(all, start, count, out, pos)
 }
 
 // All of `bytes`: where they are few and known, no loop is left.

@@ -4,6 +4,7 @@ use Rattle.rast.specs.Bytes.{ascii}
 use Rattle.rast.specs.ToString.{Primitive·ToString}
 use Rattle.encoding.specs.Types.{primitives}
 use Rattle.encoding.proofs.Heads.{past-six}
+use Rattle.leaves.specs.Texts.{twoBytes}
 use Rattle.leaves.proofs.Plain.{ends-at}
 use borrow.Author.Needs.{needs}
 use Rattle.leaves.proofs.plain_ends.Statement.{statement}
@@ -43,53 +44,53 @@ with-ends-requires-11 : tie.Need-with-ends-requires-11
 with-ends-requires-11 c κs = search needs
 
 returns : tie.Need-returns
-unfolding primitives Primitive·ToString ascii
-returns c = ends-at (c .before .match .keys1) (record { long = omega arith; short = omega arith; front = refl; back = refl }) (c .with-ends .ensures)
+unfolding primitives Primitive·ToString ascii twoBytes
+returns c = ends-at (c .before .match .keys1) (record { size = refl; long = omega arith; short = omega arith; front = refl; back = refl }) (c .with-ends .ensures)
 
 returns-2 : tie.Need-returns-2
-unfolding primitives Primitive·ToString ascii
-returns-2 c = ends-at (c .before .match .keys2) (record { long = omega arith; short = omega arith; front = refl; back = refl }) (c .with-ends2 .ensures)
+unfolding primitives Primitive·ToString ascii twoBytes
+returns-2 c = ends-at (c .before .match .keys2) (record { size = refl; long = omega arith; short = omega arith; front = refl; back = refl }) (c .with-ends2 .ensures)
 
 returns-3 : tie.Need-returns-3
-unfolding primitives Primitive·ToString ascii
-returns-3 c = ends-at (c .before .match .keys3) (record { long = omega arith; short = omega arith; front = refl; back = refl }) (c .with-ends3 .ensures)
+unfolding primitives Primitive·ToString ascii twoBytes
+returns-3 c = ends-at (c .before .match .keys3) (record { size = refl; long = omega arith; short = omega arith; front = refl; back = refl }) (c .with-ends3 .ensures)
 
 returns-4 : tie.Need-returns-4
-unfolding primitives Primitive·ToString ascii
-returns-4 c = ends-at (c .before .match .keys4) (record { long = omega arith; short = omega arith; front = refl; back = refl }) (c .with-ends4 .ensures)
+unfolding primitives Primitive·ToString ascii twoBytes
+returns-4 c = ends-at (c .before .match .keys4) (record { size = refl; long = omega arith; short = omega arith; front = refl; back = refl }) (c .with-ends4 .ensures)
 
 returns-5 : tie.Need-returns-5
-unfolding primitives Primitive·ToString ascii
-returns-5 c = ends-at (c .before .match .keys5) (record { long = omega arith; short = omega arith; front = refl; back = refl }) (c .with-ends5 .ensures)
+unfolding primitives Primitive·ToString ascii twoBytes
+returns-5 c = ends-at (c .before .match .keys5) (record { size = refl; long = omega arith; short = omega arith; front = refl; back = refl }) (c .with-ends5 .ensures)
 
 returns-6 : tie.Need-returns-6
-unfolding primitives Primitive·ToString ascii
-returns-6 c = ends-at (c .before .match .keys6) (record { long = omega arith; short = omega arith; front = refl; back = refl }) (c .with-ends6 .ensures)
+unfolding primitives Primitive·ToString ascii twoBytes
+returns-6 c = ends-at (c .before .match .keys6) (record { size = refl; long = omega arith; short = omega arith; front = refl; back = refl }) (c .with-ends6 .ensures)
 
 returns-7 : tie.Need-returns-7
-unfolding primitives Primitive·ToString ascii
-returns-7 c = ends-at (c .before .match .keys7) (record { long = omega arith; short = omega arith; front = refl; back = refl }) (c .with-ends7 .ensures)
+unfolding primitives Primitive·ToString ascii twoBytes
+returns-7 c = ends-at (c .before .match .keys7) (record { size = refl; long = omega arith; short = omega arith; front = refl; back = refl }) (c .with-ends7 .ensures)
 
 returns-8 : tie.Need-returns-8
-unfolding primitives Primitive·ToString ascii
-returns-8 c = ends-at (c .before .match .keys8) (record { long = omega arith; short = omega arith; front = refl; back = refl }) (c .with-ends8 .ensures)
+unfolding primitives Primitive·ToString ascii twoBytes
+returns-8 c = ends-at (c .before .match .keys8) (record { size = refl; long = omega arith; short = omega arith; front = refl; back = refl }) (c .with-ends8 .ensures)
 
 returns-9 : tie.Need-returns-9
-unfolding primitives Primitive·ToString ascii
-returns-9 c = ends-at (c .before .match .keys9) (record { long = omega arith; short = omega arith; front = refl; back = refl }) (c .with-ends9 .ensures)
+unfolding primitives Primitive·ToString ascii twoBytes
+returns-9 c = ends-at (c .before .match .keys9) (record { size = refl; long = omega arith; short = omega arith; front = refl; back = refl }) (c .with-ends9 .ensures)
 
 returns-10 : tie.Need-returns-10
-unfolding primitives Primitive·ToString ascii
-returns-10 c = ends-at (c .before .match .keys10) (record { long = omega arith; short = omega arith; front = refl; back = refl }) (c .with-ends10 .ensures)
+unfolding primitives Primitive·ToString ascii twoBytes
+returns-10 c = ends-at (c .before .match .keys10) (record { size = refl; long = omega arith; short = omega arith; front = refl; back = refl }) (c .with-ends10 .ensures)
 
 returns-11 : tie.Need-returns-11
-unfolding primitives Primitive·ToString ascii
+unfolding primitives Primitive·ToString ascii twoBytes
 returns-11 c =
     let kind = c .before .before .args .kind in
     let rest = c .before .match .rest in
     let six = past-six kind 0 (omega arith) (rest .0 .0 .0 .0 .0 .0 .0 .0 .0 .1) (rest .0 .0 .0 .0 .0 .0 .0 .0 .1) (rest .0 .0 .0 .0 .0 .0 .0 .1) (rest .0 .0 .0 .0 .0 .0 .1) (rest .0 .0 .0 .0 .0 .1) (rest .0 .0 .0 .0 .1) in
     let e : kind ≡ 11 = omega (arith, six, c .before .before .pre .0, rest .0 .0 .0 .1, rest .0 .0 .1, rest .0 .1, rest .1, c .before .before .pre .1) in
-    ends-at e (record { long = omega arith; short = omega arith; front = refl; back = refl }) (c .with-ends11 .ensures)
+    ends-at e (record { size = refl; long = omega arith; short = omega arith; front = refl; back = refl }) (c .with-ends11 .ensures)
 
 pub plain-ends-spec : {M : Type 1} → statement M
 plain-ends-spec =

@@ -31,9 +31,6 @@ returns c = wrote-as (sym (usize-text (c .before .before .before .before .before
 plain-ends-requires : tie.Need-plain-ends-requires
 plain-ends-requires c κs = search needs
 
-primitive-length-requires : tie.Need-primitive-length-requires
-primitive-length-requires c κs = search needs
-
 put-two-requires : tie.Need-put-two-requires
 put-two-requires c κs = search needs
 
@@ -54,8 +51,8 @@ same-length-2 c = search needs
 
 returns-2 : tie.Need-returns-2
 returns-2 c =
-    let start = c .before .before .before .before .before .before .before .before .before .before .before .before in
-    ends-wrote (start .args .out .now) (start .args .pos) (Primitive·ToString (getD primitives (start .args .kind) U8)) (c .before .before .before .before .before .before .before .before .before .plain-ends .ensures) (c .before .before .before .before .before .before .before .before .primitive-length .ensures .0) (c .before .before .before .before .before .before .put-two .ensures) (c .before .before .put-two2 .ensures)
+    let start = c .before .before .before .before .before .before .before .before .before .before .before in
+    ends-wrote (start .args .out .now) (start .args .pos) (Primitive·ToString (getD primitives (start .args .kind) U8)) (c .before .before .before .before .before .before .before .before .plain-ends .ensures) (c .before .before .before .before .before .before .put-two .ensures) (c .before .before .put-two2 .ensures)
 
 pub put-plain-spec : {M : Type 1} → statement M
 put-plain-spec =
@@ -66,7 +63,6 @@ put-plain-spec =
     same-length
     returns
     plain-ends-requires
-    primitive-length-requires
     put-two-requires
     sub-put-two
     add-put-two
