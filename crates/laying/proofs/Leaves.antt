@@ -1,5 +1,5 @@
 -- Laws of names, docs, types and paths: from what the code's scans say to the texts.
-use Prim.Native.Nat.{ℕ, _+_, _≤_, _<_}
+use Prim.Native.Nat.{ℕ, suc, _+_, _≤_, _<_}
 use mathlib.Core.Path.{_≡_, refl, ap, sym, _∙_, subst}
 use mathlib.Core.Bool.{Bool, true, false}
 use mathlib.Core.List.{List, []}
@@ -8,27 +8,28 @@ use borrow.Author.Tests.{eq-eqb, ne-eqb, leb-true, ltb-true, ltb-false}
 use lib.Dec.{leb, ltb}
 use lib.ListN.{length, getD}
 use Rattle.rast.specs.Bytes.{Bytes, ascii, _and_}
-use Rattle.rast.specs.Tree.{U8, Ty}
+use Rattle.rast.specs.Tree.{U8, Ty, Borrowed}
 use Rattle.rast.specs.ToString.{Primitive·ToString, Type·ToString}
 use Rattle.rast.specs.Indent.{indent}
 use Rattle.rast.specs.Doc.{ToDocstringPrefix}
 use Rattle.rast.specs.DeclarationToString.{Visibility·ToString}
+use Rattle.output.specs.Wrote.{Wrote}
 use Rattle.output.specs.Laid.{clamp}
 use Rattle.output.proofs.Passes.{clamp-twice, laid-wrote, laid-counted}
 use Rattle.encoding.specs.declared.Refusal.{Refusal}
 use Rattle.encoding.specs.declared.Refusal.the-variants.{EndsEarly}
-use Rattle.encoding.specs.declared.Head.the-variants.{Name}
+use Rattle.encoding.specs.declared.Head.the-variants.{Name, Ref}
 use Rattle.encoding.specs.declared.WordScan.{WordScan}
 use Rattle.encoding.specs.declared.WordScan.the-variants.{Word, NoWord}
 use Rattle.encoding.specs.Reading.{Reading, got, stop, _>>=_, mapReading, readBelow}
 use Rattle.encoding.specs.Scans.{wordScan}
 use Rattle.encoding.specs.Tables.{fixedNames, nameBytes, nameCount}
-use Rattle.encoding.specs.Heads.{headAfter}
-use Rattle.encoding.specs.Types.{primitives, readNode, readType}
+use Rattle.encoding.specs.Heads.{headAfter, readHead}
+use Rattle.encoding.specs.Types.{primitives, readNode, readType, typeAt}
 use Rattle.encoding.specs.Declarations.{visibilityOf, readVisibility, readName}
 use Rattle.encoding.proofs.Tables.{impossible, everyBelow, every-at, name-fixed}
-use Rattle.encoding.proofs.Heads.{head-at, head-plain}
-use Rattle.encoding.proofs.Types.{type-end}
+use Rattle.encoding.proofs.Heads.{head-at, head-end, head-plain}
+use Rattle.encoding.proofs.Types.{node-of}
 use Rattle.encoding.proofs.Inside.{below-there}
 use Rattle.encoding.proofs.Reading.{word-got, word-stop}
 use Rattle.measure.specs.declared.Measure.{Measure}
@@ -37,11 +38,12 @@ use Rattle.measure.specs.Lengths.{measureOf}
 use Rattle.measure.proofs.Measured.{measured-got, measured-stop}
 use Rattle.writing.specs.declared.Spot.{Spot}
 use Rattle.writing.specs.Written.{Room, Written}
+use Rattle.laying.specs.declared.Place.{Place}
 use Rattle.laying.specs.declared.Place.the-variants.{At, Stopped}
-use Rattle.laying.specs.Passes.{Ready, Went, came}
+use Rattle.laying.specs.Passes.{last, _then_, Ready, Came, Went, Counts, came}
 use Rattle.laying.specs.Texts.{visibilityAt, nameAt, typeTextAt, docAt}
-use Rattle.laying.proofs.Passes.{stops-here}
-use Rattle.laying.proofs.Splits.{map-got, map-stop}
+use Rattle.laying.proofs.Passes.{Runs, ReadyChain, came-as, came-at, came-bytes, came-to, counts-bytes, ready-as, ready-bytes, ready-first, ready-last, ready-next, ready-runs, stops-here, went-last, went-runs, went-then}
+use Rattle.laying.proofs.Splits.{map-got, map-made, map-stop, text-before}
 
 -- ---- what a scan says
 
@@ -152,24 +154,92 @@ unfolding mapReading readNode Type·ToString
 name-map ws name again (got v q) = refl
 name-map ws name again (stop k) = refl
 
-module _ (ws pairs : List ℕ) (text : Bytes) (at : ℕ) where
-  pub ended-text : length ws ≤ at → typeTextAt ws pairs text at ≡ stop EndsEarly
-  ended-text h = map-stop Type·ToString (type-end ws pairs text at h)
+-- the text of a type that is at most so many types deep: 64, or 63 behind a borrow
+abbrev pub textWithin : ℕ → List ℕ → List ℕ → Bytes → ℕ → Reading Bytes
+textWithin deep ws pairs text at = mapReading Type·ToString (readType (nameCount pairs) ws (nameBytes pairs text) deep at)
 
-  pub plain-text : at < length ws → getD ws at 0 < 12 → typeTextAt ws pairs text at ≡ got (Primitive·ToString (getD primitives (getD ws at 0) U8)) (at + 1)
+module _ (deep : ℕ) (ws pairs : List ℕ) (text : Bytes) (at : ℕ) where
+  pub ended-text : length ws ≤ at → textWithin (suc deep) ws pairs text at ≡ stop EndsEarly
+  unfolding readType mapReading
+  ended-text h = rw (head-end (nameCount pairs) ws at h)
+
+  pub plain-text : at < length ws → getD ws at 0 < 12 → textWithin (suc deep) ws pairs text at ≡ got (Primitive·ToString (getD primitives (getD ws at 0) U8)) (at + 1)
   unfolding readType readNode mapReading Type·ToString
   plain-text h k = rw (head-at (nameCount pairs) ws at h, head-plain (nameCount pairs) ws (getD ws at 0) (at + 1) k)
 
-  pub named-text : at < length ws → getD ws at 0 ≡ 12 → typeTextAt ws pairs text at ≡ nameAt ws pairs text (at + 1)
+  pub named-text : at < length ws → getD ws at 0 ≡ 12 → textWithin (suc deep) ws pairs text at ≡ nameAt ws pairs text (at + 1)
   unfolding readType readName headAfter
-  named-text h k = rw (head-at (nameCount pairs) ws at h, k) (name-map ws (nameBytes pairs text) (readType (nameCount pairs) ws (nameBytes pairs text) 63) (readBelow (nameCount pairs) ws (at + 1)))
+  named-text h k = rw (head-at (nameCount pairs) ws at h, k) (name-map ws (nameBytes pairs text) (readType (nameCount pairs) ws (nameBytes pairs text) deep) (readBelow (nameCount pairs) ws (at + 1)))
 
-  pub type-there : {o : List ℕ} {p : ℕ} → Ready true o p (typeTextAt ws pairs text at) → at < length ws
-  type-there r = go (ltb at (length ws)) (ltb-true at (length ws)) (ltb-false at (length ws))
+-- ---- borrows
+
+-- a borrow's text has "&" before that of what is borrowed
+borrow-runs : (ws : List ℕ) (name : ℕ → Bytes) (again : ℕ → Reading (Ty Bytes)) (at : ℕ)
+    → Runs (mapReading Type·ToString (readNode ws name again Ref at)) (got (ascii "&") at then λ q. last (mapReading Type·ToString (again at)))
+unfolding readNode Type·ToString
+borrow-runs ws name again at = record { same = map-made Type·ToString Borrowed (again at) ∙ text-before (ascii "&") Type·ToString at (again at) .same }
+
+module _ (ws pairs : List ℕ) (text : Bytes) (at : ℕ) (h : at < length ws) (k : getD ws at 0 ≡ 15) where
+  borrow-head : readHead (nameCount pairs) ws at ≡ got Ref (at + 1)
+  unfolding headAfter
+  borrow-head = rw (head-at (nameCount pairs) ws at h, k)
+
+  -- what is borrowed is one level less deep
+  borrow-within : Runs (typeTextAt ws pairs text at) (got (ascii "&") (at + 1) then λ q. last (textWithin 63 ws pairs text (at + 1)))
+  unfolding readType
+  borrow-within = rw borrow-head (borrow-runs ws (nameBytes pairs text) (readType (nameCount pairs) ws (nameBytes pairs text) 63) (at + 1))
+
+  pub borrow-counts : {p : ℕ} {r : Place} → Counts (p + 1) (textWithin 63 ws pairs text (at + 1)) r → Counts p (typeTextAt ws pairs text at) r
+  unfolding ascii
+  borrow-counts w = went-runs borrow-within (went-then (counts-bytes refl) (went-last w))
+
+  -- where the borrow was accepted, what is borrowed is a type like any other
+  borrow-accepted : {o : List ℕ} {p : ℕ} → Ready true o p (typeTextAt ws pairs text at)
+      → Runs (typeTextAt ws pairs text at) (got (ascii "&") (at + 1) then λ q. last (typeTextAt ws pairs text (at + 1)))
+  borrow-accepted r =
+      let m = room-type (typeAt ws pairs text at) (r .room refl) in
+      let n = node-of ws pairs text at (m .reads) borrow-head in
+      record { same = ap (mapReading Type·ToString) (m .reads ∙ sym n) ∙ borrow-runs ws (nameBytes pairs text) (typeAt ws pairs text) (at + 1) .same }
+
+-- ---- a type that was accepted, by its first word
+
+module _ (ws pairs : List ℕ) (text : Bytes) (at : ℕ) {o : List ℕ} {p : ℕ} (r : Ready true o p (typeTextAt ws pairs text at)) where
+  pub type-there : at < length ws
+  type-there = go (ltb at (length ws)) (ltb-true at (length ws)) (ltb-false at (length ws))
     where
       go : (t : Bool) → (t ≡ true → at < length ws) → (t ≡ false → length ws ≤ at) → at < length ws
       go true h k = h refl
-      go false h k = impossible (let e = ended-text (k refl) in let d = r .room refl .reads in cc)
+      go false h k = impossible (let e = ended-text 63 ws pairs text at (k refl) in let d = r .room refl .reads in cc)
+
+  module _ (k : getD ws at 0 < 12) where
+    pub plain-room : p + length (Primitive·ToString (getD primitives (getD ws at 0) U8)) ≤ length o
+    plain-room = ready-bytes (ready-as (plain-text 63 ws pairs text at type-there k) r) .room refl
+
+    pub plain-came : {o′ : List ℕ} {p′ : ℕ} → Wrote o p (Primitive·ToString (getD primitives (getD ws at 0) U8)) o′ p′ → Came true o p (typeTextAt ws pairs text at) o′ (at + 1) p′
+    plain-came w = came-as (sym (plain-text 63 ws pairs text at type-there k)) (came-bytes (at + 1) (laid-wrote refl w))
+
+  module _ (k : getD ws at 0 ≡ 12) where
+    pub named-ready : Ready true o p (nameAt ws pairs text (at + 1))
+    named-ready = ready-as (named-text 63 ws pairs text at type-there k) r
+
+    pub named-came : {o′ : List ℕ} {p′ : ℕ} → Came true o p (nameAt ws pairs text (at + 1)) o′ (at + 1 + 1) p′ → Came true o p (typeTextAt ws pairs text at) o′ (at + 2) p′
+    named-came c = came-at (let e : at + 1 + 1 ≡ at + 2 = omega arith in e) (came-as (sym (named-text 63 ws pairs text at type-there k)) c)
+
+  module _ (k : getD ws at 0 ≡ 15) where
+    borrow-chain : ReadyChain true o p (got (ascii "&") (at + 1) then λ q. last (typeTextAt ws pairs text (at + 1)))
+    borrow-chain = ready-runs (borrow-accepted ws pairs text at type-there k r) r
+
+    pub borrow-room : p + 1 ≤ length o
+    unfolding ascii
+    borrow-room = ready-bytes (ready-first borrow-chain) .room refl
+
+    module _ {o′ : List ℕ} {p′ : ℕ} (w : Wrote o p (ascii "&") o′ p′) where
+      pub borrow-ready : Ready true o′ p′ (typeTextAt ws pairs text (at + 1))
+      borrow-ready = ready-last (ready-next borrow-chain (came-bytes (at + 1) (laid-wrote refl w)))
+
+      pub borrow-came : {o″ : List ℕ} {n q : ℕ} → Came true o′ p′ (typeTextAt ws pairs text (at + 1)) o″ n q → Came true o p (typeTextAt ws pairs text at) o″ n q
+      borrow-came c =
+          came-to (went-runs (borrow-accepted ws pairs text at type-there k r) (went-then (came-bytes (at + 1) (laid-wrote refl w)) (went-last (came c)))) refl
 
 -- the empty name is no doc
 pub no-doc-text : (pairs : List ℕ) (text : Bytes) (x : ℕ) (ind : Bytes) → x ≡ 0 → [] ≡ ToDocstringPrefix (nameBytes pairs text x) ind

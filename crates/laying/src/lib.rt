@@ -3,7 +3,7 @@
 ghost use mathlib.Core.Path.{_≡_};
 ghost use mathlib.Core.Bool.{true};
 ghost use Prim.Native.Nat.{_+_, _^_, _<_};
-ghost use lib.ListN.{length};
+ghost use lib.ListN.{length, getD};
 ghost use Rattle.rast.specs.ToString.{Path·ToString};
 ghost use Rattle.rast.specs.Indent.{indent};
 ghost use Rattle.rast.specs.Doc.{ToDocstringPrefix};
@@ -192,7 +192,28 @@ pub fn lay_type(
     count_type(words, pairs, text, at, pos)
 }
 
-// The type at `at` of a field, counted: most have a plain type or a name, for which the measuring pass is not called.
+// The borrow at `at`, counted. The measuring pass is given the whole of it, since the borrow is one of the 64 levels.
+fn count_borrow(words: &[u32], pairs: &[u32], text: &[u8], at: usize, pos: usize) -> Place
+    requires { ⌜ Checked (now words) (now pairs) (now text) × (at < length (now words)) × (getD (now words) at 0 ≡ 15) ⌝ }
+    ensures { λ r. ⌜ Counts pos (typeTextAt (now (words .entry)) (now (pairs .entry)) (now (text .entry)) at) r ⌝ }
+{
+    if words.len() <= at + 1 {
+        return Place::Stopped(Refusal::EndsEarly);
+    }
+    let w = words[at + 1];
+    if w < 12 {
+        return Place::At {
+            next: at + 2,
+            pos: output::count_few(pos, 1 + encoding::primitive_length(w)),
+        };
+    }
+    if w == 12 {
+        return count_name(words, pairs, text, 1, at + 2, pos);
+    }
+    count_type(words, pairs, text, at, pos)
+}
+
+// The type at `at` of a field, counted: most have a plain type, a name or a borrow of one, for which the measuring pass is not called.
 pub fn count_field_type(words: &[u32], pairs: &[u32], text: &[u8], at: usize, pos: usize) -> Place
     requires { ⌜ Checked (now words) (now pairs) (now text) ⌝ }
     ensures { λ r. ⌜ Counts pos (typeTextAt (now (words .entry)) (now (pairs .entry)) (now (text .entry)) at) r ⌝ }
@@ -210,11 +231,46 @@ pub fn count_field_type(words: &[u32], pairs: &[u32], text: &[u8], at: usize, po
     if w == 12 {
         return count_name(words, pairs, text, 0, at + 1, pos);
     }
+    if w == 15 {
+        return count_borrow(words, pairs, text, at, pos);
+    }
     count_type(words, pairs, text, at, pos)
 }
 
-// The type at `at` of a field, which was accepted: for most the writer of types is not called. The spot of that writer is taken apart, so that it need not go through
-// memory.
+// The type at `at` behind a borrow, which was accepted as part of it. The spot of the writer of types is taken apart, so that it need not go through memory.
+fn write_borrow(
+    words: &[u32],
+    pairs: &[u32],
+    text: &[u8],
+    at: usize,
+    out: &mut [u8],
+    pos: usize,
+) -> Spot
+    requires { ⌜ Checked (now words) (now pairs) (now text) × Ready true (now out) pos (typeTextAt (now words) (now pairs) (now text) at) ⌝ }
+    ensures { λ r. ⌜ Came true (now (out .entry)) pos (typeTextAt (now (words .entry)) (now (pairs .entry)) (now (text .entry)) at) (now (out .exit)) (r .next) (r .pos) ⌝ }
+{
+    let w = words[at];
+    if w < 12 {
+        return Spot {
+            next: at + 1,
+            pos: leaves::put_plain(w, out, pos),
+        };
+    }
+    if w == 12 {
+        return Spot {
+            next: at + 2,
+            pos: write_name(words, pairs, text, at + 1, out, pos),
+        };
+    }
+    let spot = writing::write_type(words, pairs, text, at, out, pos);
+    Spot {
+        next: spot.next,
+        pos: spot.pos,
+    }
+}
+
+// The type at `at` of a field, which was accepted: for a plain type, a name or a borrow of one, which most are, the writer of types is not called. What stands behind
+// a borrow has a function of its own with the same tests, since one function called from two places is slower.
 pub fn write_field_type(
     words: &[u32],
     pairs: &[u32],
@@ -238,6 +294,10 @@ pub fn write_field_type(
             next: at + 2,
             pos: write_name(words, pairs, text, at + 1, out, pos),
         };
+    }
+    if w == 15 {
+        let p = output::put(b"&", out, pos);
+        return write_borrow(words, pairs, text, at + 1, out, p);
     }
     let spot = writing::write_type(words, pairs, text, at, out, pos);
     Spot {

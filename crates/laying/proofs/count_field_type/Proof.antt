@@ -10,7 +10,7 @@ use Rattle.laying.proofs.count_field_type.Statement.{statement}
 use Rattle.laying.proofs.count_field_type.Tie as tie
 
 returns : tie.Need-returns
-returns c = stops-here (ended-text (c .before .before .before .before .args .words .now) (c .before .before .before .before .args .pairs .now) (c .before .before .before .before .args .text .now) (c .before .before .before .before .args .at) (c .if1 .taken))
+returns c = stops-here (ended-text 63 (c .before .before .before .before .args .words .now) (c .before .before .before .before .args .pairs .now) (c .before .before .before .before .args .text .now) (c .before .before .before .before .args .at) (c .if1 .taken))
 
 mul-w : tie.Need-mul-w
 mul-w c = search needs
@@ -30,7 +30,7 @@ count-few-requires c κs = search needs
 returns-2 : tie.Need-returns-2
 returns-2 c =
     let a = c .before .before .before .before .before .before .before .before .args in
-    went-as (sym (plain-text (c .before .before .before .before .before .before .before .before .args .words .now) (c .before .before .before .before .before .before .before .before .args .pairs .now) (c .before .before .before .before .before .before .before .before .args .text .now) (a .at) (omega (arith, c .before .before .before .before .if1 .left)) (c .before .before .if2 .taken))) (came (counts-bytes (c .count-few .ensures ∙ ap (λ (n : ℕ). clamp (a .pos + n)) (c .before .primitive-length .ensures .0))))
+    went-as (sym (plain-text 63 (c .before .before .before .before .before .before .before .before .args .words .now) (c .before .before .before .before .before .before .before .before .args .pairs .now) (c .before .before .before .before .before .before .before .before .args .text .now) (a .at) (omega (arith, c .before .before .before .before .if1 .left)) (c .before .before .if2 .taken))) (came (counts-bytes (c .count-few .ensures ∙ ap (λ (n : ℕ). clamp (a .pos + n)) (c .before .primitive-length .ensures .0))))
 
 add-count-name : tie.Need-add-count-name
 add-count-name c = search needs
@@ -41,13 +41,19 @@ count-name-requires c κs = search needs
 returns-3 : tie.Need-returns-3
 returns-3 c =
     let a = c .before .before .before .before .before .before .before .before .args in
-    went-as (sym (named-text (c .before .before .before .before .before .before .before .before .args .words .now) (c .before .before .before .before .before .before .before .before .args .pairs .now) (c .before .before .before .before .before .before .before .before .args .text .now) (a .at) (omega (arith, c .before .before .before .before .if1 .left)) (c .before .if3 .taken))) (counts-here (c .count-name .ensures))
+    went-as (sym (named-text 63 (c .before .before .before .before .before .before .before .before .args .words .now) (c .before .before .before .before .before .before .before .before .args .pairs .now) (c .before .before .before .before .before .before .before .before .args .text .now) (a .at) (omega (arith, c .before .before .before .before .if1 .left)) (c .before .if3 .taken))) (counts-here (c .count-name .ensures))
+
+count-borrow-requires : tie.Need-count-borrow-requires
+count-borrow-requires c κs = (c .before .before .before .before .before .before .before .before .pre, omega (arith, c .before .before .before .before .if1 .left), c .if4 .taken)
+
+returns-4 : tie.Need-returns-4
+returns-4 c = search needs
 
 count-type-requires : tie.Need-count-type-requires
 count-type-requires c κs = search needs
 
-returns-4 : tie.Need-returns-4
-returns-4 c = search needs
+returns-5 : tie.Need-returns-5
+returns-5 c = search needs
 
 pub count-field-type-spec : {M : Type 1} → statement M
 count-field-type-spec =
@@ -63,5 +69,7 @@ count-field-type-spec =
     add-count-name
     count-name-requires
     returns-3
+    count-borrow-requires
+    returns-4
     count-type-requires
-    returns-4)
+    returns-5)

@@ -1,10 +1,9 @@
-use Prim.Native.Nat.{_+_}
-use mathlib.Core.Path.{_≡_, refl, sym}
+use mathlib.Core.Path.{refl}
 use native.Mathlib.Omega.{arith}
-use Rattle.output.proofs.Passes.{laid-wrote}
+use Rattle.rast.specs.Bytes.{ascii}
 use Rattle.encoding.specs.Types.{typeAt}
-use Rattle.laying.proofs.Leaves.{named-text, plain-text, room-type, type-there, went-written}
-use Rattle.laying.proofs.Passes.{came-as, came-at, came-bytes, came-to, ready-as, ready-bytes}
+use Rattle.laying.proofs.Leaves.{borrow-came, borrow-ready, borrow-room, named-came, named-ready, plain-came, plain-room, room-type, type-there, went-written}
+use Rattle.laying.proofs.Passes.{came-to}
 use borrow.Author.Needs.{needs}
 use Rattle.laying.proofs.write_field_type.Statement.{statement}
 use Rattle.laying.proofs.write_field_type.Tie as tie
@@ -15,41 +14,61 @@ mul-w c = omega (arith, type-there (c .before .before .before .before .args .wor
 shared-slice-read-w : tie.Need-shared-slice-read-w
 shared-slice-read-w c = type-there (c .before .before .before .before .before .args .words .now) (c .before .before .before .before .before .args .pairs .now) (c .before .before .before .before .before .args .text .now) (c .before .before .before .before .before .args .at) (c .before .before .before .before .before .pre .1)
 
-add-t13 : tie.Need-add-t13
-add-t13 c = omega (arith, type-there (c .before .before .before .before .before .before .args .words .now) (c .before .before .before .before .before .before .args .pairs .now) (c .before .before .before .before .before .before .args .text .now) (c .before .before .before .before .before .before .args .at) (c .before .before .before .before .before .before .pre .1), c .before .before .before .before .before .before .pre .0 .few)
+add-t15 : tie.Need-add-t15
+add-t15 c = omega (arith, type-there (c .before .before .before .before .before .before .args .words .now) (c .before .before .before .before .before .before .args .pairs .now) (c .before .before .before .before .before .before .args .text .now) (c .before .before .before .before .before .before .args .at) (c .before .before .before .before .before .before .pre .1), c .before .before .before .before .before .before .pre .0 .few)
 
 put-plain-requires : tie.Need-put-plain-requires
-put-plain-requires c κs = (c .before .if1 .taken, ready-bytes (ready-as (plain-text (c .before .before .before .before .before .before .before .args .words .now) (c .before .before .before .before .before .before .before .args .pairs .now) (c .before .before .before .before .before .before .before .args .text .now) (c .before .before .before .before .before .before .before .args .at) (type-there (c .before .before .before .before .before .before .before .args .words .now) (c .before .before .before .before .before .before .before .args .pairs .now) (c .before .before .before .before .before .before .before .args .text .now) (c .before .before .before .before .before .before .before .args .at) (c .before .before .before .before .before .before .before .pre .1)) (c .before .if1 .taken)) (c .before .before .before .before .before .before .before .pre .1)) .room refl)
+put-plain-requires c κs = (c .before .if1 .taken, plain-room (c .before .before .before .before .before .before .before .args .words .now) (c .before .before .before .before .before .before .before .args .pairs .now) (c .before .before .before .before .before .before .before .args .text .now) (c .before .before .before .before .before .before .before .args .at) (c .before .before .before .before .before .before .before .pre .1) (c .before .if1 .taken))
 
 same-length : tie.Need-same-length
 same-length c = search needs
 
 returns : tie.Need-returns
-returns c = came-as (sym (plain-text (c .before .before .before .before .before .before .before .before .before .before .args .words .now) (c .before .before .before .before .before .before .before .before .before .before .args .pairs .now) (c .before .before .before .before .before .before .before .before .before .before .args .text .now) (c .before .before .before .before .before .before .before .before .before .before .args .at) (type-there (c .before .before .before .before .before .before .before .before .before .before .args .words .now) (c .before .before .before .before .before .before .before .before .before .before .args .pairs .now) (c .before .before .before .before .before .before .before .before .before .before .args .text .now) (c .before .before .before .before .before .before .before .before .before .before .args .at) (c .before .before .before .before .before .before .before .before .before .before .pre .1)) (c .before .before .before .before .if1 .taken))) (came-bytes _ (laid-wrote refl (c .before .before .put-plain .ensures)))
+returns c = plain-came (c .before .before .before .before .before .before .before .before .before .before .args .words .now) (c .before .before .before .before .before .before .before .before .before .before .args .pairs .now) (c .before .before .before .before .before .before .before .before .before .before .args .text .now) (c .before .before .before .before .before .before .before .before .before .before .args .at) (c .before .before .before .before .before .before .before .before .before .before .pre .1) (c .before .before .before .before .if1 .taken) (c .before .before .put-plain .ensures)
 
-add-t17 : tie.Need-add-t17
-add-t17 c = omega (arith, type-there (c .before .before .before .before .before .before .before .args .words .now) (c .before .before .before .before .before .before .before .args .pairs .now) (c .before .before .before .before .before .before .before .args .text .now) (c .before .before .before .before .before .before .before .args .at) (c .before .before .before .before .before .before .before .pre .1), c .before .before .before .before .before .before .before .pre .0 .few)
+add-t19 : tie.Need-add-t19
+add-t19 c = omega (arith, type-there (c .before .before .before .before .before .before .before .args .words .now) (c .before .before .before .before .before .before .before .args .pairs .now) (c .before .before .before .before .before .before .before .args .text .now) (c .before .before .before .before .before .before .before .args .at) (c .before .before .before .before .before .before .before .pre .1), c .before .before .before .before .before .before .before .pre .0 .few)
 
 add-write-name : tie.Need-add-write-name
 add-write-name c = omega (arith, type-there (c .before .before .before .before .before .before .before .args .words .now) (c .before .before .before .before .before .before .before .args .pairs .now) (c .before .before .before .before .before .before .before .args .text .now) (c .before .before .before .before .before .before .before .args .at) (c .before .before .before .before .before .before .before .pre .1), c .before .before .before .before .before .before .before .pre .0 .few)
 
 write-name-requires : tie.Need-write-name-requires
-write-name-requires c κs = (c .before .before .before .before .before .before .before .before .pre .0, ready-as (named-text (c .before .before .before .before .before .before .before .before .args .words .now) (c .before .before .before .before .before .before .before .before .args .pairs .now) (c .before .before .before .before .before .before .before .before .args .text .now) (c .before .before .before .before .before .before .before .before .args .at) (type-there (c .before .before .before .before .before .before .before .before .args .words .now) (c .before .before .before .before .before .before .before .before .args .pairs .now) (c .before .before .before .before .before .before .before .before .args .text .now) (c .before .before .before .before .before .before .before .before .args .at) (c .before .before .before .before .before .before .before .before .pre .1)) (c .before .if2 .taken)) (c .before .before .before .before .before .before .before .before .pre .1))
+write-name-requires c κs = (c .before .before .before .before .before .before .before .before .pre .0, named-ready (c .before .before .before .before .before .before .before .before .args .words .now) (c .before .before .before .before .before .before .before .before .args .pairs .now) (c .before .before .before .before .before .before .before .before .args .text .now) (c .before .before .before .before .before .before .before .before .args .at) (c .before .before .before .before .before .before .before .before .pre .1) (c .before .if2 .taken))
 
 same-length-2 : tie.Need-same-length-2
 same-length-2 c = search needs
 
 returns-2 : tie.Need-returns-2
-returns-2 c = came-at (let e : c .before .before .before .before .before .before .before .before .before .before .before .args .at + 1 + 1 ≡ c .before .before .before .before .before .before .before .before .before .before .before .args .at + 2 = omega arith in e) (came-as (sym (named-text (c .before .before .before .before .before .before .before .before .before .before .before .args .words .now) (c .before .before .before .before .before .before .before .before .before .before .before .args .pairs .now) (c .before .before .before .before .before .before .before .before .before .before .before .args .text .now) (c .before .before .before .before .before .before .before .before .before .before .before .args .at) (type-there (c .before .before .before .before .before .before .before .before .before .before .before .args .words .now) (c .before .before .before .before .before .before .before .before .before .before .before .args .pairs .now) (c .before .before .before .before .before .before .before .before .before .before .before .args .text .now) (c .before .before .before .before .before .before .before .before .before .before .before .args .at) (c .before .before .before .before .before .before .before .before .before .before .before .pre .1)) (c .before .before .before .before .if2 .taken))) (c .before .before .write-name .ensures))
+returns-2 c = named-came (c .before .before .before .before .before .before .before .before .before .before .before .args .words .now) (c .before .before .before .before .before .before .before .before .before .before .before .args .pairs .now) (c .before .before .before .before .before .before .before .before .before .before .before .args .text .now) (c .before .before .before .before .before .before .before .before .before .before .before .args .at) (c .before .before .before .before .before .before .before .before .before .before .before .pre .1) (c .before .before .before .before .if2 .taken) (c .before .before .write-name .ensures)
 
-write-type-requires : tie.Need-write-type-requires
-write-type-requires c κs = (c .before .before .before .before .before .before .before .before .pre .0 .good, room-type _ (c .before .before .before .before .before .before .before .before .pre .1 .room refl))
+slice-aggregate-put : tie.Need-slice-aggregate-put
+slice-aggregate-put c = search needs
+
+put-requires : tie.Need-put-requires
+put-requires c κs = borrow-room (c .before .before .before .before .before .before .before .before .before .before .args .words .now) (c .before .before .before .before .before .before .before .before .before .before .args .pairs .now) (c .before .before .before .before .before .before .before .before .before .before .args .text .now) (c .before .before .before .before .before .before .before .before .before .before .args .at) (c .before .before .before .before .before .before .before .before .before .before .pre .1) (c .before .before .if3 .taken)
+
+add-write-borrow : tie.Need-add-write-borrow
+add-write-borrow c = omega (arith, type-there (c .before .before .before .before .before .before .before .before .before .before .before .before .before .args .words .now) (c .before .before .before .before .before .before .before .before .before .before .before .before .before .args .pairs .now) (c .before .before .before .before .before .before .before .before .before .before .before .before .before .args .text .now) (c .before .before .before .before .before .before .before .before .before .before .before .before .before .args .at) (c .before .before .before .before .before .before .before .before .before .before .before .before .before .pre .1), c .before .before .before .before .before .before .before .before .before .before .before .before .before .pre .0 .few)
+
+write-borrow-requires : tie.Need-write-borrow-requires
+unfolding ascii
+write-borrow-requires c κs = (c .before .before .before .before .before .before .before .before .before .before .before .before .before .before .pre .0, borrow-ready (c .before .before .before .before .before .before .before .before .before .before .before .before .before .before .args .words .now) (c .before .before .before .before .before .before .before .before .before .before .before .before .before .before .args .pairs .now) (c .before .before .before .before .before .before .before .before .before .before .before .before .before .before .args .text .now) (c .before .before .before .before .before .before .before .before .before .before .before .before .before .before .args .at) (c .before .before .before .before .before .before .before .before .before .before .before .before .before .before .pre .1) (c .before .before .before .before .before .before .if3 .taken) (c .before .before .before .put .ensures))
 
 same-length-3 : tie.Need-same-length-3
 same-length-3 c = search needs
 
 returns-3 : tie.Need-returns-3
-returns-3 c = came-to (went-written (typeAt (c .before .before .before .before .before .before .before .before .before .before .before .args .words .now) (c .before .before .before .before .before .before .before .before .before .before .before .args .pairs .now) (c .before .before .before .before .before .before .before .before .before .before .before .args .text .now) (c .before .before .before .before .before .before .before .before .before .before .before .args .at)) _ refl (c .before .before .write-type .ensures)) refl
+unfolding ascii
+returns-3 c = borrow-came (c .before .before .before .before .before .before .before .before .before .before .before .before .before .before .before .before .before .args .words .now) (c .before .before .before .before .before .before .before .before .before .before .before .before .before .before .before .before .before .args .pairs .now) (c .before .before .before .before .before .before .before .before .before .before .before .before .before .before .before .before .before .args .text .now) (c .before .before .before .before .before .before .before .before .before .before .before .before .before .before .before .before .before .args .at) (c .before .before .before .before .before .before .before .before .before .before .before .before .before .before .before .before .before .pre .1) (c .before .before .before .before .before .before .before .before .before .if3 .taken) (c .before .before .before .before .before .before .put .ensures) (c .before .before .write-borrow .ensures)
+
+write-type-requires : tie.Need-write-type-requires
+write-type-requires c κs = (c .before .before .before .before .before .before .before .before .before .pre .0 .good, room-type _ (c .before .before .before .before .before .before .before .before .before .pre .1 .room refl))
+
+same-length-4 : tie.Need-same-length-4
+same-length-4 c = search needs
+
+returns-4 : tie.Need-returns-4
+returns-4 c = came-to (went-written (typeAt (c .before .before .before .before .before .before .before .before .before .before .before .before .args .words .now) (c .before .before .before .before .before .before .before .before .before .before .before .before .args .pairs .now) (c .before .before .before .before .before .before .before .before .before .before .before .before .args .text .now) (c .before .before .before .before .before .before .before .before .before .before .before .before .args .at)) _ refl (c .before .before .write-type .ensures)) refl
 
 pub write-field-type-spec : {M : Type 1} → statement M
 write-field-type-spec =
@@ -57,15 +76,21 @@ write-field-type-spec =
     (tie.spec
     mul-w
     shared-slice-read-w
-    add-t13
+    add-t15
     put-plain-requires
     same-length
     returns
-    add-t17
+    add-t19
     add-write-name
     write-name-requires
     same-length-2
     returns-2
-    write-type-requires
+    slice-aggregate-put
+    put-requires
+    add-write-borrow
+    write-borrow-requires
     same-length-3
-    returns-3)
+    returns-3
+    write-type-requires
+    same-length-4
+    returns-4)
