@@ -1,4 +1,4 @@
--- The walk as a pass of `measure`: its levels, its start and its steps.
+-- The walk as a pass of `measure`: its levels and its start.
 use Prim.Native.Nat.{ℕ, zero, suc, _+_, _*_, _-_, _/_, _≤_, _<_}
 use mathlib.Core.Path.{_≡_, refl, ap, sym, _∙_}
 use mathlib.Core.List.{List, [], _∷_}
@@ -7,17 +7,13 @@ use native.Mathlib.Nat.{add-zero}
 use lib.ListN.{length, getD, set, replicate}
 use Rattle.rast.specs.Bytes.{Bytes}
 use Rattle.rast.specs.Tree.{Ty, nil, cons}
-use Rattle.encoding.specs.declared.Refusal.the-variants.{EndsEarly, TooDeep}
+use Rattle.encoding.specs.declared.Refusal.the-variants.{EndsEarly}
 use Rattle.encoding.specs.Reading.{Reading, got, stop, _>>=_}
-use Rattle.encoding.specs.Tables.{Good, nameBytes, nameCount}
-use Rattle.encoding.specs.Heads.{readHead}
+use Rattle.encoding.specs.Tables.{nameBytes, nameCount}
 use Rattle.encoding.specs.Scans.{ended}
 use Rattle.encoding.specs.Types.{readTypes, readType}
 use Rattle.encoding.proofs.Heads.{head-end}
-use Rattle.measure.specs.declared.Pass.{Pass}
-use Rattle.measure.specs.declared.Step.the-variants.{Halt}
-use Rattle.measure.specs.Levels.{shownLength, levelsAt, restAt, stacked, restOf, under, pushed, Kept, Stepped, halt}
-use Rattle.measure.proofs.Steps.{OwnNode, step-deep, step-under, went-on, was-halted}
+use Rattle.measure.specs.Levels.{shownLength, levelsAt, restAt, stacked, restOf}
 use Rattle.acceptance.specs.Walks.{passOf, passLevels}
 
 -- ---- levels
@@ -68,11 +64,3 @@ module _ (ws pairs : List ℕ) (text : Bytes) where
   pub end-early : (inside at : ℕ) → inside < 64 → length ws ≤ at → readType (nameCount pairs) ws (nameBytes pairs text) (64 - inside) at ≡ stop EndsEarly
   unfolding readType
   end-early inside at h l = let e : 64 - inside ≡ suc (63 - inside) = omega arith in rw (e, head-end (nameCount pairs) ws at l)
-
-  -- a head at the last level that may be read, with types behind it
-  module _ (good : Good pairs text) (levels : List ℕ) (p : Pass) (kept : Kept ws levels p) where
-    pub step-deeper : length ws ≤ 8192 → {n k b m : ℕ} → OwnNode ws pairs (p .mode) (readHead (nameCount pairs) ws (p .place)) n k b m → p .depth ≡ 63
-        → Stepped ws pairs text levels p levels (Halt TooDeep)
-    step-deeper fits {n} {k} {b} {m} o e =
-        let w = went-on (step-under ws pairs text good levels p kept fits (omega arith) o refl refl) refl in
-        halt {r = TooDeep} (sym (w .1) ∙ was-halted (step-deep ws pairs text good (pushed levels p) (under p n k b m) (w .0) (omega arith)) refl)

@@ -41,9 +41,3 @@ abbrev pub passStep : Step → PassStep
 passStep (On w) = PassOn (passOf w)
 passStep (Ended next) = PassEnded (record { place = next; bytes = 0; depth = 0; due = 0; mode = 0 })
 passStep (Halt r) = PassHalt r
-
--- a walk that goes on may read a type
-abbrev pub Shallow : Step → Type 0
-Shallow (On w) = w .depth < 64
-Shallow (Ended next) = Unit {0}
-Shallow (Halt r) = Unit {0}

@@ -10,7 +10,7 @@ ghost use Rattle.encoding.specs.Types.{readType};
 ghost use Rattle.encoding.specs.declared.Head.the-variants.{Name, Apply, Tuple, Function, ArrayOf, Meta};
 ghost use Rattle.measure.specs.Lengths.{worded, namesPath, headOfPath};
 ghost use Rattle.measure.specs.Levels.{leaving, beside, under, pushed, Outward, Kept, Stepped};
-ghost use Rattle.acceptance.specs.Walks.{Scanned, passOf, passLevels, passStep, Shallow};
+ghost use Rattle.acceptance.specs.Walks.{Scanned, passOf, passLevels, passStep};
 use encoding::PathAt;
 use encoding::Refusal;
 use encoding::Scan;
@@ -231,8 +231,8 @@ fn advance(
     walk: Walk,
 ) -> Step
     requires { ⌜ (bound ≡ nameCount (now pairs)) × Good (now pairs) (now text) × (length (now words) ≤ 8192)
-        × Kept (now words) (passLevels (now levels)) (passOf walk) × (walk .depth < 64) ⌝ }
-    ensures { λ r. ⌜ Stepped (now (words .entry)) (now (pairs .entry)) (now (text .entry)) (passLevels (now (levels .entry))) (passOf walk) (passLevels (now (levels .exit))) (passStep r) × Shallow r ⌝ }
+        × Kept (now words) (passLevels (now levels)) (passOf walk) ⌝ }
+    ensures { λ r. ⌜ Stepped (now (words .entry)) (now (pairs .entry)) (now (text .entry)) (passLevels (now (levels .entry))) (passOf walk) (passLevels (now (levels .exit))) (passStep r) ⌝ }
 {
     match scan_own(words, bound, walk.place) {
         OwnScan::Leaf(next) => {

@@ -126,29 +126,24 @@ module _ (levels : List ℕ) (p : Pass) where
 -- ---- a step
 
 module _ (ws pairs : List ℕ) (text : Bytes) (good : Good pairs text) (levels : List ℕ) (p : Pass) (kept : Kept ws levels p) where
-  pub step-deep : p .depth ≡ 64 → Stepped ws pairs text levels p levels (Halt TooDeep)
+  pub step-stop : {r : Refusal} → readHead (nameCount pairs) ws (p .place) ≡ stop r → Stepped ws pairs text levels p levels (Halt r)
   unfolding restOf
-  step-deep e =
+  step-stop {r} e =
       let h = kept .some in
-      let f : p .due ≡ suc (p .due - 1) = omega arith in
-      halt {r = TooDeep} (rw (e, f) (rest-deep ws pairs text good (p .mode) (p .due - 1) (stacked levels 64) (p .place) (p .bytes)))
-
-  pub step-stop : p .depth < 64 → {r : Refusal} → readHead (nameCount pairs) ws (p .place) ≡ stop r → Stepped ws pairs text levels p levels (Halt r)
-  unfolding restOf
-  step-stop d {r} e =
-      let h = kept .some in
+      let d = kept .depth in
       let f : p .due ≡ suc (p .due - 1) = omega arith in
       let i : 64 - p .depth ≡ suc (64 - (p .depth + 1)) = omega arith in
       halt {r = r} (rw (f, i) (rest-stop ws pairs text good (64 - (p .depth + 1)) (p .mode) (p .due - 1) (stacked levels (p .depth)) (p .place) (p .bytes) e))
 
   -- behind a head
-  head-down : p .depth < 64 → (h : Head) {n : ℕ} → readHead (nameCount pairs) ws (p .place) ≡ got h n
+  head-down : (h : Head) {n : ℕ} → readHead (nameCount pairs) ws (p .place) ≡ got h n
       → restOf ws pairs text levels p
       ≡ restAt (readType (nameCount pairs) ws (nameBytes pairs text)) (64 - (p .depth + 1)) (pick (eqb (p .mode) 0) 0 (modeOf h)) (kids h)
       ((levelOf p) ∷ stacked levels (p .depth)) n (p .bytes + pick (eqb (p .mode) 0) 0 (ownLength ws (nameLength pairs) h))
   unfolding restOf
-  head-down d h e =
+  head-down h e =
       let k = kept .some in
+      let d = kept .depth in
       let f : p .due ≡ suc (p .due - 1) = omega arith in
       let i : 64 - p .depth ≡ suc (64 - (p .depth + 1)) = omega arith in
       let types = readType (nameCount pairs) ws (nameBytes pairs text) in
@@ -160,40 +155,54 @@ module _ (ws pairs : List ℕ) (text : Bytes) (good : Good pairs text) (levels :
   bytes-kept : (n b : ℕ) → p .place < n → pick (eqb (p .mode) 0) 0 b ≤ 2 ^ 46 → p .bytes + pick (eqb (p .mode) 0) 0 b ≤ n * 2 ^ 46
   bytes-kept n b l s = omega (arith, kept .bytes)
 
-  module _ (d : p .depth < 64) {n b : ℕ} (o : OwnLeaf ws pairs (p .mode) (readHead (nameCount pairs) ws (p .place)) n b) where
-    lies : HeadLies (nameCount pairs) ws (p .place) (o .head) n
-    lies = head-lies (nameCount pairs) ws (p .place) (o .read)
+  -- a head that was read ends behind its first word, inside the words
+  lies : {h : Head} {n : ℕ} → readHead (nameCount pairs) ws (p .place) ≡ got h n → HeadLies (nameCount pairs) ws (p .place) h n
+  lies = head-lies (nameCount pairs) ws (p .place)
 
+  module _ {n b : ℕ} (o : OwnLeaf ws pairs (p .mode) (readHead (nameCount pairs) ws (p .place)) n b) where
     -- a head with no type behind it
     head-leaf : restOf ws pairs text levels p ≡ restOf ws pairs text levels (beside p n b)
     unfolding restOf
     head-leaf =
-        let i : suc (64 - (p .depth + 1)) ≡ 64 - p .depth = omega arith in
+        let i : suc (64 - (p .depth + 1)) ≡ 64 - p .depth = omega (arith, kept .depth) in
         let types = readType (nameCount pairs) ws (nameBytes pairs text) in
         let up = rest-above types (64 - (p .depth + 1)) (pick (eqb (p .mode) 0) 0 (modeOf (o .head))) (levelOf p)
         (stacked levels (p .depth)) n (p .bytes + pick (eqb (p .mode) 0) 0 b) in
-        (rw (o .no-kids, ← o .same-bytes) at (head-down d (o .head) (o .read))) ∙ (rw (i, level-due (p .due - 1) (p .mode), level-mode (p .due - 1) (p .mode)) at up)
+        (rw (o .no-kids, ← o .same-bytes) at (head-down (o .head) (o .read))) ∙ (rw (i, level-due (p .due - 1) (p .mode), level-mode (p .due - 1) (p .mode)) at up)
 
     module _ {q : Pass} (w : Outward levels (beside p n b) q) where
       pub step-past : 0 < q .due → Stepped ws pairs text levels p levels (On q)
       step-past h =
-          let s = bytes-kept n b (lies .starts) (o .short) in
-          on {p′ = q} (record { room = kept .room; place = omega (arith, w .place, lies .ends); bytes = omega (arith, w .place, w .bytes); depth = omega (arith, w .depth); some = h; due = w .due })
-          (w .rest ws pairs text ∙ sym head-leaf) (omega (arith, w .place, lies .starts))
+          let s = bytes-kept n b (lies (o .read) .starts) (o .short) in
+          on {p′ = q} (record { room = kept .room; place = omega (arith, w .place, lies (o .read) .ends); bytes = omega (arith, w .place, w .bytes); depth = omega (arith, w .depth, kept .depth); some = h; due = w .due })
+          (w .rest ws pairs text ∙ sym head-leaf) (omega (arith, w .place, lies (o .read) .starts))
 
       pub step-ended : q .due ≡ 0 → q .depth ≡ 0 → Stepped ws pairs text levels p levels (Ended q)
       step-ended e z = ended {p′ = q} (head-leaf ∙ sym (w .rest ws pairs text) ∙ rest-none levels q e z ws pairs text)
 
-  -- a head with types behind it
-  pub step-under : length ws ≤ 8192 → p .depth < 64 → {n k b m : ℕ} → OwnNode ws pairs (p .mode) (readHead (nameCount pairs) ws (p .place)) n k b m
-      → {levels′ : List ℕ} {q : Pass} → levels′ ≡ pushed levels p → q ≡ under p n k b m → Stepped ws pairs text levels p levels′ (On q)
-  unfolding restOf
-  step-under fits d {n} {k} {b} {m} o same-levels same =
-      let lies = head-lies (nameCount pairs) ws (p .place) (o .read) in
-      rw (same-levels, same) (on {p′ = under p n k b m}
-      (record { room = simp length-set (kept .room); place = lies .ends; bytes = bytes-kept n b (lies .starts) (o .short); depth = omega arith; some = o .some; due = omega (arith, o .few) })
-      (rw (stacked-push levels (p .depth) (levelOf p) (omega (arith, kept .room)), o .same-bytes, o .same-below)
-      (rest-cut ws pairs text good (64 - (p .depth + 1)) _ (o .same-kids) _ n _ fits (omega (arith, lies .starts)) (lies .ends) ∙ sym (head-down d (o .head) (o .read)))) (lies .starts))
+  module _ (fits : length ws ≤ 8192) {n k b m : ℕ} (o : OwnNode ws pairs (p .mode) (readHead (nameCount pairs) ws (p .place)) n k b m) where
+    -- a head with types behind it
+    head-node : restAt (readType (nameCount pairs) ws (nameBytes pairs text)) (64 - (p .depth + 1)) (pick (eqb (p .mode) 0) 0 m) k
+        (levelOf p ∷ stacked levels (p .depth)) n (p .bytes + pick (eqb (p .mode) 0) 0 b)
+        ≡ restOf ws pairs text levels p
+    head-node =
+        rw (o .same-bytes, o .same-below)
+        (rest-cut ws pairs text good (64 - (p .depth + 1)) _ (o .same-kids) _ n _ fits (omega (arith, lies (o .read) .starts)) (lies (o .read) .ends) ∙ sym (head-down (o .head) (o .read)))
+
+    -- no type may follow at the last level
+    pub step-deep : p .depth ≡ 63 → Stepped ws pairs text levels p levels (Halt TooDeep)
+    step-deep e =
+        let h = o .some in
+        let f : k ≡ suc (k - 1) = omega arith in
+        let i : 64 - (p .depth + 1) ≡ 0 = omega arith in
+        halt {r = TooDeep} (sym head-node ∙ rw (f, i) (rest-deep ws pairs text good _ (k - 1) _ n _))
+
+    pub step-under : (p .depth ≡ 63 → ⊥) → {levels′ : List ℕ} {q : Pass} → levels′ ≡ pushed levels p → q ≡ under p n k b m → Stepped ws pairs text levels p levels′ (On q)
+    unfolding restOf
+    step-under d same-levels same =
+        rw (same-levels, same) (on {p′ = under p n k b m}
+        (record { room = simp length-set (kept .room); place = lies (o .read) .ends; bytes = bytes-kept n b (lies (o .read) .starts) (o .short); depth = omega (arith, kept .depth); some = o .some; due = omega (arith, o .few) })
+        (rw (stacked-push levels (p .depth) (levelOf p) (omega (arith, kept .room, kept .depth))) head-node) (lies (o .read) .starts))
 
 -- ---- what a step says
 

@@ -94,7 +94,7 @@ pub record Kept (ws levels : List ℕ) (p : Pass) : Type 0 where
   pub room : length levels ≡ 64
   pub place : p .place ≤ length ws
   pub bytes : p .bytes ≤ p .place * 2 ^ 46
-  pub depth : p .depth ≤ 64
+  pub depth : p .depth < 64
   pub some : 0 < p .due
   pub due : p .due ≤ 2 ^ 15
 

@@ -276,13 +276,12 @@ fn own_meta(words: &[u32], pairs: &[u32], at: usize) -> OwnScan
     }
 }
 
-// The head of kind `w`, 12 or above, whose further words begin at `at`.
+// The head of kind `w`, 13 or above, whose further words begin at `at`.
 fn own_after(words: &[u32], pairs: &[u32], bound: usize, w: u32, at: usize) -> OwnScan
-    requires { ⌜ (12 ≤ w) × (bound ≡ nameCount (now pairs)) × (length (now words) ≤ 8192) ⌝ }
+    requires { ⌜ (13 ≤ w) × (bound ≡ nameCount (now pairs)) × (length (now words) ≤ 8192) ⌝ }
     ensures { λ r. ⌜ Scanned (now (words .entry)) (now (pairs .entry)) (headAfter bound (now (words .entry)) w at) r ⌝ }
 {
     match w {
-        12 => own_name(words, pairs, bound, at),
         13 => own_path(words, pairs, bound, at),
         14 => own_apply(words, pairs, at),
         15 => own_node(at, 1, 1, 1),
@@ -299,7 +298,7 @@ fn own_after(words: &[u32], pairs: &[u32], bound: usize, w: u32, at: usize) -> O
     }
 }
 
-// The head at `at`.
+// The head at `at`. A name, the most frequent head besides plain types, is tested for by itself, and so needs no jump by a table.
 fn scan_own(words: &[u32], pairs: &[u32], bound: usize, at: usize) -> OwnScan
     requires { ⌜ (bound ≡ nameCount (now pairs)) × (length (now words) ≤ 8192) ⌝ }
     ensures { λ r. ⌜ Scanned (now (words .entry)) (now (pairs .entry)) (readHead bound (now (words .entry)) at) r ⌝ }
@@ -310,6 +309,9 @@ fn scan_own(words: &[u32], pairs: &[u32], bound: usize, at: usize) -> OwnScan
     let w = words[at];
     if w < 12 {
         return own_leaf(at + 1, encoding::primitive_length(w));
+    }
+    if w == 12 {
+        return own_name(words, pairs, bound, at + 1);
     }
     own_after(words, pairs, bound, w, at + 1)
 }
@@ -406,7 +408,7 @@ fn enter(
     }
 }
 
-// One step of the pass: a head, and the levels that end with it.
+// One step of the pass: a head, and the levels that end with it. The types behind a head may be too deep: this is tested where a level opens, and so not at each head.
 fn advance(
     words: &[u32],
     pairs: &[u32],
@@ -419,9 +421,6 @@ fn advance(
         × Kept (now words) (now levels) pass ⌝ }
     ensures { λ r. ⌜ Stepped (now (words .entry)) (now (pairs .entry)) (now (text .entry)) (now (levels .entry)) pass (now (levels .exit)) r ⌝ }
 {
-    if pass.depth == 64 {
-        return Step::Halt(Refusal::TooDeep);
-    }
     match scan_own(words, pairs, bound, pass.place) {
         OwnScan::Leaf { next, bytes } => {
             let p = settle(levels, past_leaf(pass, next, bytes));
@@ -435,7 +434,12 @@ fn advance(
             kids,
             bytes,
             below,
-        } => Step::On(enter(levels, pass, next, kids, bytes, below)),
+        } => {
+            if pass.depth == 63 {
+                return Step::Halt(Refusal::TooDeep);
+            }
+            Step::On(enter(levels, pass, next, kids, bytes, below))
+        }
         OwnScan::NoNode(r) => Step::Halt(r),
     }
 }

@@ -1,8 +1,7 @@
 use Rattle.measure.specs.Levels.{ended}
-use Rattle.measure.proofs.Steps.{step-stop, step-past, step-ended, step-under, came-to-end}
+use Rattle.measure.proofs.Steps.{step-stop, step-past, step-ended, step-deep, step-under, came-to-end}
 use Rattle.acceptance.specs.Walks.{passOf, passLevels}
 use Rattle.acceptance.proofs.Scans.{scanned-within, leaf-here, node-here, none-here}
-use Rattle.acceptance.proofs.Walks.{step-deeper}
 use mathlib.Core.Path.{refl, ap}
 use native.Mathlib.Omega.{arith}
 use borrow.Author.Needs.{needs}
@@ -30,7 +29,7 @@ returns c =
     let a = s .args in
     let o = leaf-here (a .words .now) (a .pairs .now) (scanned-within (a .words .now) (a .pairs .now) (a .walk .place) (s .pre .0) (c .before .before .before .before .before .before .before .before .scan-own .ensures)) (c .before .before .before .before .before .before .next .given .1) in
     let w = c .before .before .settle .ensures in
-    (ended (came-to-end (step-ended (a .words .now) (a .pairs .now) (a .text .now) (s .pre .1) (passLevels (a .levels .now)) (passOf (a .walk)) (s .pre .3) (s .pre .4) (o .own) (rw (c .before .before .before .past-leaf .ensures) at (w .0)) (c .if1 .taken) (w .1 (c .if1 .taken))) refl), tt)
+    ended (came-to-end (step-ended (a .words .now) (a .pairs .now) (a .text .now) (s .pre .1) (passLevels (a .levels .now)) (passOf (a .walk)) (s .pre .3) (o .own) (rw (c .before .before .before .past-leaf .ensures) at (w .0)) (c .if1 .taken) (w .1 (c .if1 .taken))) refl)
 
 enum-known-next-2 : tie.Need-enum-known-next-2
 enum-known-next-2 c = search needs
@@ -40,12 +39,12 @@ returns-2 c =
     let s = c .before .before .before .before .before .before .before .before .before in
     let a = s .args in
     let o = node-here (a .words .now) (a .pairs .now) (scanned-within (a .words .now) (a .pairs .now) (a .walk .place) (s .pre .0) (c .before .before .before .before .before .scan-own .ensures)) (c .before .before .before .next2 .given .1) in
-    (step-deeper (a .words .now) (a .pairs .now) (a .text .now) (s .pre .1) (passLevels (a .levels .now)) (passOf (a .walk)) (s .pre .3) (s .pre .2) (o .own) (c .if2 .taken), tt)
+    step-deep (a .words .now) (a .pairs .now) (a .text .now) (s .pre .1) (passLevels (a .levels .now)) (passOf (a .walk)) (s .pre .3) (s .pre .2) (o .own) (c .if2 .taken)
 
 enter-requires : tie.Need-enter-requires
 enter-requires c κs =
     let s = c .before .before .before .before .before .before .before .before .before .before in
-    (s .pre .3 .some, s .pre .3 .due, s .pre .4)
+    (s .pre .3 .some, s .pre .3 .due, s .pre .3 .depth)
 
 enum-known-r : tie.Need-enum-known-r
 enum-known-r c = search needs
@@ -56,20 +55,20 @@ returns-3 c =
     let a = s .args in
     let o = leaf-here (a .words .now) (a .pairs .now) (scanned-within (a .words .now) (a .pairs .now) (a .walk .place) (s .pre .0) (c .before .before .before .before .before .before .before .before .scan-own .ensures)) (c .before .before .before .before .before .before .next .given .1) in
     let w = rw (c .before .before .before .past-leaf .ensures) at (c .before .before .settle .ensures .0) in
-    (step-past (a .words .now) (a .pairs .now) (a .text .now) (s .pre .1) (passLevels (a .levels .now)) (passOf (a .walk)) (s .pre .3) (s .pre .4) (o .own) w (omega (arith, c .if1 .left)), omega (arith, w .depth, s .pre .4))
+    step-past (a .words .now) (a .pairs .now) (a .text .now) (s .pre .1) (passLevels (a .levels .now)) (passOf (a .walk)) (s .pre .3) (o .own) w (omega (arith, c .if1 .left))
 
 returns-4 : tie.Need-returns-4
 returns-4 c =
     let s = c .before .before .before .before .before .before .before .before .before .before .before in
     let a = s .args in
     let o = node-here (a .words .now) (a .pairs .now) (scanned-within (a .words .now) (a .pairs .now) (a .walk .place) (s .pre .0) (c .before .before .before .before .before .before .before .scan-own .ensures)) (c .before .before .before .before .before .next2 .given .1) in
-    (step-under (a .words .now) (a .pairs .now) (a .text .now) (s .pre .1) (passLevels (a .levels .now)) (passOf (a .walk)) (s .pre .3) (s .pre .2) (s .pre .4) (o .own) (c .enter .ensures .1) (c .enter .ensures .0), omega (arith, ap (λ q. q .depth) (c .enter .ensures .0), s .pre .4, c .before .before .if2 .left))
+    step-under (a .words .now) (a .pairs .now) (a .text .now) (s .pre .1) (passLevels (a .levels .now)) (passOf (a .walk)) (s .pre .3) (s .pre .2) (o .own) (c .before .before .if2 .left) (c .enter .ensures .1) (c .enter .ensures .0)
 
 returns-5 : tie.Need-returns-5
 returns-5 c =
     let s = c .before .before .before .before .before .before .before in
     let a = s .args in
-    (step-stop (a .words .now) (a .pairs .now) (a .text .now) (s .pre .1) (passLevels (a .levels .now)) (passOf (a .walk)) (s .pre .3) (s .pre .4) (none-here (scanned-within (a .words .now) (a .pairs .now) (a .walk .place) (s .pre .0) (c .before .before .before .scan-own .ensures)) (c .before .r .given .1)), tt)
+    step-stop (a .words .now) (a .pairs .now) (a .text .now) (s .pre .1) (passLevels (a .levels .now)) (passOf (a .walk)) (s .pre .3) (none-here (scanned-within (a .words .now) (a .pairs .now) (a .walk .place) (s .pre .0) (c .before .before .before .scan-own .ensures)) (c .before .r .given .1))
 
 pub advance-spec : {M : Type 1} → statement M
 advance-spec =

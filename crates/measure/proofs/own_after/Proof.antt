@@ -9,9 +9,6 @@ use borrow.Author.Needs.{needs}
 use Rattle.measure.proofs.own_after.Statement.{statement}
 use Rattle.measure.proofs.own_after.Tie as tie
 
-own-name-requires : tie.Need-own-name-requires
-own-name-requires c κs = search needs
-
 own-path-requires : tie.Need-own-path-requires
 own-path-requires c κs = (c .before .before .before .pre .1, c .before .before .before .pre .2)
 
@@ -52,93 +49,85 @@ returns : tie.Need-returns
 unfolding headAfter
 returns c =
     let a = c .before .before .before .before .args in
-    scanned-as (a .words .now) (a .pairs .now) (rw (c .before .match .keys1)) (c .own-name .ensures)
+    scanned-as (a .words .now) (a .pairs .now) (rw (c .before .match .keys1)) (c .own-path .ensures)
 
 returns-2 : tie.Need-returns-2
 unfolding headAfter
 returns-2 c =
     let a = c .before .before .before .before .args in
-    scanned-as (a .words .now) (a .pairs .now) (rw (c .before .match .keys2)) (c .own-path .ensures)
+    scanned-as (a .words .now) (a .pairs .now) (rw (c .before .match .keys2)) (c .own-apply .ensures)
 
 returns-3 : tie.Need-returns-3
-unfolding headAfter
+unfolding headAfter ownLength
 returns-3 c =
     let a = c .before .before .before .before .args in
-    scanned-as (a .words .now) (a .pairs .now) (rw (c .before .match .keys3)) (c .own-apply .ensures)
+    scanned-node (a .words .now) (a .pairs .now) Ref (rw (c .before .match .keys3)) (c .own-node .ensures) refl refl refl (omega arith) (omega arith) (omega arith)
 
 returns-4 : tie.Need-returns-4
 unfolding headAfter ownLength
 returns-4 c =
     let a = c .before .before .before .before .args in
-    scanned-node (a .words .now) (a .pairs .now) Ref (rw (c .before .match .keys4)) (c .own-node .ensures) refl refl refl (omega arith) (omega arith) (omega arith)
+    scanned-node (a .words .now) (a .pairs .now) RefMut (rw (c .before .match .keys4)) (c .own-node2 .ensures) refl refl refl (omega arith) (omega arith) (omega arith)
 
 returns-5 : tie.Need-returns-5
 unfolding headAfter ownLength
 returns-5 c =
     let a = c .before .before .before .before .args in
-    scanned-node (a .words .now) (a .pairs .now) RefMut (rw (c .before .match .keys5)) (c .own-node2 .ensures) refl refl refl (omega arith) (omega arith) (omega arith)
+    scanned-node (a .words .now) (a .pairs .now) Impl (rw (c .before .match .keys5)) (c .own-node3 .ensures) refl refl refl (omega arith) (omega arith) (omega arith)
 
 returns-6 : tie.Need-returns-6
 unfolding headAfter ownLength
 returns-6 c =
     let a = c .before .before .before .before .args in
-    scanned-node (a .words .now) (a .pairs .now) Impl (rw (c .before .match .keys6)) (c .own-node3 .ensures) refl refl refl (omega arith) (omega arith) (omega arith)
+    scanned-node (a .words .now) (a .pairs .now) Dyn (rw (c .before .match .keys6)) (c .own-node4 .ensures) refl refl refl (omega arith) (omega arith) (omega arith)
 
 returns-7 : tie.Need-returns-7
-unfolding headAfter ownLength
+unfolding headAfter
 returns-7 c =
     let a = c .before .before .before .before .args in
-    scanned-node (a .words .now) (a .pairs .now) Dyn (rw (c .before .match .keys7)) (c .own-node4 .ensures) refl refl refl (omega arith) (omega arith) (omega arith)
+    scanned-as (a .words .now) (a .pairs .now) (rw (c .before .match .keys7)) (c .own-tuple .ensures)
 
 returns-8 : tie.Need-returns-8
 unfolding headAfter
 returns-8 c =
     let a = c .before .before .before .before .args in
-    scanned-as (a .words .now) (a .pairs .now) (rw (c .before .match .keys8)) (c .own-tuple .ensures)
+    scanned-as (a .words .now) (a .pairs .now) (rw (c .before .match .keys8)) (c .own-function .ensures)
 
 returns-9 : tie.Need-returns-9
-unfolding headAfter
+unfolding headAfter ownLength
 returns-9 c =
     let a = c .before .before .before .before .args in
-    scanned-as (a .words .now) (a .pairs .now) (rw (c .before .match .keys9)) (c .own-function .ensures)
+    scanned-node (a .words .now) (a .pairs .now) Both (rw (c .before .match .keys9)) (c .own-node5 .ensures) refl refl refl (omega arith) (omega arith) (omega arith)
 
 returns-10 : tie.Need-returns-10
-unfolding headAfter ownLength
+unfolding headAfter
 returns-10 c =
     let a = c .before .before .before .before .args in
-    scanned-node (a .words .now) (a .pairs .now) Both (rw (c .before .match .keys10)) (c .own-node5 .ensures) refl refl refl (omega arith) (omega arith) (omega arith)
+    scanned-as (a .words .now) (a .pairs .now) (rw (c .before .match .keys10)) (c .own-array .ensures)
 
 returns-11 : tie.Need-returns-11
-unfolding headAfter
+unfolding headAfter ownLength
 returns-11 c =
     let a = c .before .before .before .before .args in
-    scanned-as (a .words .now) (a .pairs .now) (rw (c .before .match .keys11)) (c .own-array .ensures)
+    scanned-node (a .words .now) (a .pairs .now) Synonym (rw (c .before .match .keys11)) (c .own-node6 .ensures) refl refl refl (omega arith) (omega arith) (omega arith)
 
 returns-12 : tie.Need-returns-12
-unfolding headAfter ownLength
+unfolding headAfter
 returns-12 c =
     let a = c .before .before .before .before .args in
-    scanned-node (a .words .now) (a .pairs .now) Synonym (rw (c .before .match .keys12)) (c .own-node6 .ensures) refl refl refl (omega arith) (omega arith) (omega arith)
+    scanned-as (a .words .now) (a .pairs .now) (rw (c .before .match .keys12)) (c .own-meta .ensures)
 
 returns-13 : tie.Need-returns-13
-unfolding headAfter
 returns-13 c =
-    let a = c .before .before .before .before .args in
-    scanned-as (a .words .now) (a .pairs .now) (rw (c .before .match .keys13)) (c .own-meta .ensures)
-
-returns-14 : tie.Need-returns-14
-returns-14 c =
     let a = c .before .before .before .args in
-    let six = past-six (a .w) 12 (c .before .before .before .pre .0) (c .match .rest .0 .0 .0 .0 .0 .0 .0 .0 .0 .0 .0 .0 .1) (c .match .rest .0 .0 .0 .0 .0 .0 .0 .0 .0 .0 .0 .1) (c .match .rest .0 .0 .0 .0 .0 .0 .0 .0 .0 .0 .1) (c .match .rest .0 .0 .0 .0 .0 .0 .0 .0 .0 .1) (c .match .rest .0 .0 .0 .0 .0 .0 .0 .0 .1) (c .match .rest .0 .0 .0 .0 .0 .0 .0 .1) in
-    let twelve = past-six (a .w) 18 six (c .match .rest .0 .0 .0 .0 .0 .0 .1) (c .match .rest .0 .0 .0 .0 .0 .1) (c .match .rest .0 .0 .0 .0 .1) (c .match .rest .0 .0 .0 .1) (c .match .rest .0 .0 .1) (c .match .rest .0 .1) in
-    let last = (c .match .rest .1) in
+    let six = past-six (a .w) 13 (c .before .before .before .pre .0) (c .match .rest .0 .0 .0 .0 .0 .0 .0 .0 .0 .0 .0 .1) (c .match .rest .0 .0 .0 .0 .0 .0 .0 .0 .0 .0 .1) (c .match .rest .0 .0 .0 .0 .0 .0 .0 .0 .0 .1) (c .match .rest .0 .0 .0 .0 .0 .0 .0 .0 .1) (c .match .rest .0 .0 .0 .0 .0 .0 .0 .1) (c .match .rest .0 .0 .0 .0 .0 .0 .1) in
+    let twelve = past-six (a .w) 19 six (c .match .rest .0 .0 .0 .0 .0 .1) (c .match .rest .0 .0 .0 .0 .1) (c .match .rest .0 .0 .0 .1) (c .match .rest .0 .0 .1) (c .match .rest .0 .1) (c .match .rest .1) in
     scanned-stop (a .words .now) (a .pairs .now) (head-other (a .bound) (a .words .now) (a .w) (a .at) (omega arith)) refl
 
 pub own-after-spec : {M : Type 1} → statement M
 own-after-spec =
     tie.close
     (tie.spec
-    own-name-requires
     own-path-requires
     own-apply-requires
     own-node-requires
@@ -163,5 +152,4 @@ own-after-spec =
     returns-10
     returns-11
     returns-12
-    returns-13
-    returns-14)
+    returns-13)

@@ -2,6 +2,7 @@ use Prim.Native.Nat.{_+_}
 use mathlib.Core.Path.{refl, _∙_}
 use lib.ListN.{getD}
 use Rattle.encoding.specs.declared.Head.the-variants.{Plain}
+use Rattle.encoding.specs.Heads.{headAfter}
 use Rattle.encoding.proofs.Heads.{head-at, head-end, head-plain}
 use Rattle.measure.specs.Lengths.{ownLength}
 use Rattle.measure.proofs.Scans.{scanned-leaf, scanned-stop, scanned-as}
@@ -38,16 +39,30 @@ returns-2 c =
     (head-at (a .bound) (a .words .now) (a .at) (c .before .before .before .before .if1 .left) ∙ head-plain (a .bound) (a .words .now) (getD (a .words .now) (a .at) 0) (a .at + 1) (c .before .before .if2 .taken))
     (c .own-leaf .ensures) refl (c .before .primitive-length .ensures .0) (omega (arith, c .before .primitive-length .ensures .1))
 
+add-own-name : tie.Need-add-own-name
+add-own-name c = search needs
+
+own-name-requires : tie.Need-own-name-requires
+own-name-requires c κs = search needs
+
+returns-3 : tie.Need-returns-3
+unfolding headAfter
+returns-3 c =
+    let a = c .before .before .before .before .before .before .before .args in
+    scanned-as (a .words .now) (a .pairs .now) (head-at (a .bound) (a .words .now) (a .at) (c .before .before .before .before .if1 .left) ∙ rw (c .before .if3 .taken)) (c .own-name .ensures)
+
 add-own-after : tie.Need-add-own-after
 add-own-after c = search needs
 
 own-after-requires : tie.Need-own-after-requires
-own-after-requires c κs = (c .if2 .left, c .before .before .before .before .before .pre .0, c .before .before .before .before .before .pre .1)
+own-after-requires c κs =
+    let s = c .before .before .before .before .before .before in
+    (omega (arith, c .if3 .left, c .before .if2 .left), s .pre .0, s .pre .1)
 
-returns-3 : tie.Need-returns-3
-returns-3 c =
-    let a = c .before .before .before .before .before .before .args in
-    scanned-as (a .words .now) (a .pairs .now) (head-at (a .bound) (a .words .now) (a .at) (c .before .before .before .if1 .left)) (c .own-after .ensures)
+returns-4 : tie.Need-returns-4
+returns-4 c =
+    let a = c .before .before .before .before .before .before .before .args in
+    scanned-as (a .words .now) (a .pairs .now) (head-at (a .bound) (a .words .now) (a .at) (c .before .before .before .before .if1 .left)) (c .own-after .ensures)
 
 pub scan-own-spec : {M : Type 1} → statement M
 scan-own-spec =
@@ -60,6 +75,9 @@ scan-own-spec =
     primitive-length-requires
     own-leaf-requires
     returns-2
+    add-own-name
+    own-name-requires
+    returns-3
     add-own-after
     own-after-requires
-    returns-3)
+    returns-4)
