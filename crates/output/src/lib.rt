@@ -83,9 +83,10 @@ fn put_long(bytes: &[u8], start: usize, count: usize, out: &mut [u8], pos: usize
         copy_chunk(bytes, start, count, out, pos);
         return pos + count;
     }
+    let all = bytes;
     let front = count - CHUNK;
-    let p = put_long(bytes, start, front, out, pos);
-    copy_chunk(bytes, start + front, CHUNK, out, p);
+    let p = put_long(all, start, front, out, pos);
+    copy_chunk(all, start + front, CHUNK, out, p);
     p + CHUNK
 }
 
