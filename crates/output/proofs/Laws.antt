@@ -81,7 +81,7 @@ pub part-then : (l : List ℕ) (start count n : ℕ) {o o′ o″ : List ℕ} {p
 part-then l start count n h k w e =
     let c : count - n + n ≡ count = omega arith in
     let whole : take (count - n) (drop start l) ++ take n (drop (start + (count - n)) l) ≡ take count (drop start l) =
-        sym (part-split l start (count - n) n) ∙ ap (λ (m : ℕ). take m (drop start l)) c in
+    sym (part-split l start (count - n) n) ∙ ap (λ (m : ℕ). take m (drop start l)) c in
     wrote-as whole (wrote-then w (part-wrote l (start + (count - n)) n (omega arith) e))
 
 -- and where its front ends

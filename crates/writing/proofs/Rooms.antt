@@ -55,8 +55,8 @@ module _ {ws pairs : List ℕ} {text : Bytes} {at : ℕ} {o : List ℕ} {p : ℕ
   abbrev pub PathIn : Type 0
   PathIn = PathThere ws pairs text at (r .there .reads)
 
-  pub path-in : getD ws at 0 < 14 → 12 ≤ getD ws at 0 → (getD ws at 0 ≡ 12 → ⊥) → PathIn
-  path-in few many other = path-type ws pairs text at (r .there .reads) (omega (arith, few, many, other))
+  pub path-in : getD ws at 0 ≡ 13 → PathIn
+  path-in e = path-type ws pairs text at (r .there .reads) e
 
   pub path-leaf : PathIn → Leaf (at + 3 + getD ws (at + 2) 0) (Path·ToString (pathOf ws (nameBytes pairs text) (record { root = getD ws (at + 1) 0; start = at + 3; count = getD ws (at + 2) 0 })))
   unfolding Type·ToString

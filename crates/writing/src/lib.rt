@@ -1,4 +1,5 @@
 // Writing the texts of paths and types that were accepted, into a buffer that has room for them.
+ghost use mathlib.Core.Path.{_≡_};
 ghost use Prim.Native.Nat.{_+_, _<_};
 ghost use lib.ListN.{getD};
 ghost use Rattle.rast.specs.ToString.{Type·ToString, commaText};
@@ -35,6 +36,31 @@ pub fn skip_type(words: &[u32], pairs: &[u32], text: &[u8], at: usize) -> usize
     place
 }
 
+// A type of kind 13, a path.
+fn write_path(
+    words: &[u32],
+    pairs: &[u32],
+    text: &[u8],
+    at: usize,
+    out: &mut [u8],
+    pos: usize,
+) -> Spot
+    requires { ⌜ (getD (now words) at 0 ≡ 13) × Good (now pairs) (now text) × Room (now out) pos Type·ToString (typeAt (now words) (now pairs) (now text) at) ⌝ }
+    ensures { λ r. ⌜ Written (now (out .entry)) pos Type·ToString (typeAt (now (words .entry)) (now (pairs .entry)) (now (text .entry)) at) (now (out .exit)) r ⌝ }
+{
+    let start = at + 3;
+    let count = words[at + 2];
+    let path = PathAt {
+        root: words[at + 1],
+        start,
+        count,
+    };
+    Spot {
+        next: start + count as usize,
+        pos: leaves::put_path(words, pairs, text, path, out, pos),
+    }
+}
+
 // A type of kind 0 to 13: no other type stands in it.
 fn write_leaf(
     words: &[u32],
@@ -60,17 +86,7 @@ fn write_leaf(
             pos: encoding::put_name(pairs, text, words[at + 1], out, pos),
         };
     }
-    let start = at + 3;
-    let count = words[at + 2];
-    let path = PathAt {
-        root: words[at + 1],
-        start,
-        count,
-    };
-    Spot {
-        next: start + count as usize,
-        pos: leaves::put_path(words, pairs, text, path, out, pos),
-    }
+    write_path(words, pairs, text, at, out, pos)
 }
 
 // ---- types, and lists of them
@@ -205,6 +221,24 @@ fn write_list(
     }
 }
 
+// The type that is applied: most are paths, for which `write_type` is not called, since it hands its spot back in memory.
+fn write_base(
+    words: &[u32],
+    pairs: &[u32],
+    text: &[u8],
+    at: usize,
+    out: &mut [u8],
+    pos: usize,
+) -> Spot
+    requires { ⌜ Good (now pairs) (now text) × Room (now out) pos Type·ToString (typeAt (now words) (now pairs) (now text) at) ⌝ }
+    ensures { λ r. ⌜ Written (now (out .entry)) pos Type·ToString (typeAt (now (words .entry)) (now (pairs .entry)) (now (text .entry)) at) (now (out .exit)) r ⌝ }
+{
+    if words[at] == 13 {
+        return write_path(words, pairs, text, at, out, pos);
+    }
+    write_part(words, pairs, text, at, out, pos)
+}
+
 // A base, and its `n` arguments if there are any.
 fn write_apply(
     words: &[u32],
@@ -218,7 +252,7 @@ fn write_apply(
     requires { ⌜ Good (now pairs) (now text) × Room (now out) pos Type·ToString (nodeAt (now words) (now pairs) (now text) (Apply n) at) ⌝ }
     ensures { λ r. ⌜ Written (now (out .entry)) pos Type·ToString (nodeAt (now (words .entry)) (now (pairs .entry)) (now (text .entry)) (Apply n) at) (now (out .exit)) r ⌝ }
 {
-    let base = write_part(words, pairs, text, at, out, pos);
+    let base = write_base(words, pairs, text, at, out, pos);
     if n == 0 {
         return base;
     }

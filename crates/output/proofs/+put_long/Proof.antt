@@ -72,7 +72,7 @@ put-long-returns-2 : (t : ℕ) → put-long-lts.Need-returns-2 (put-long-calls t
 put-long-returns-2 t c =
     let s = c .before .before .before .before .before .before .before .before .before .before .before in
     part-then (s .args .bytes .now) (s .args .start) (s .args .count) 16384 (omega (arith, c .before .before .before .before .before .before .before .before .if1 .left)) (s .pre .1 .0)
-        (c .before .before .before .before .before .before .put-long .ensures) (c .before .before .copy-chunk2 .ensures)
+    (c .before .before .before .before .before .before .put-long .ensures) (c .before .before .copy-chunk2 .ensures)
 
 pub +put-long-spec : {M : Type 1} → statement M
 +put-long-spec = close μ-put-long λ t. put-long-lts.spec (put-long-calls t)

@@ -13,48 +13,55 @@ use borrow.Fn.Kinds.{In}
 use borrow.Fn.PlainCycle.{Measures, is, falls, and}
 use Rattle.writing.proofs.write_apply.Reads as write-apply
 use Rattle.writing.proofs.write_apply.Kinds as write-apply-kinds
-use Rattle.writing.proofs.+write_apply+write_array+write_head+write_inputs+write_left+write_list+write_part+write_synonym+write_tuple+write_type.Lts-write_apply as write-apply-lts
+use Rattle.writing.proofs.+write_apply+write_array+write_base+write_head+write_inputs+write_left+write_list+write_part+write_synonym+write_tuple+write_type.Lts-write_apply as write-apply-lts
 use Rattle.writing.proofs.write_array.Reads as write-array
 use Rattle.writing.proofs.write_array.Kinds as write-array-kinds
-use Rattle.writing.proofs.+write_apply+write_array+write_head+write_inputs+write_left+write_list+write_part+write_synonym+write_tuple+write_type.Lts-write_array as write-array-lts
+use Rattle.writing.proofs.+write_apply+write_array+write_base+write_head+write_inputs+write_left+write_list+write_part+write_synonym+write_tuple+write_type.Lts-write_array as write-array-lts
+use Rattle.writing.proofs.write_base.Reads as write-base
+use Rattle.writing.proofs.write_base.Kinds as write-base-kinds
+use Rattle.writing.proofs.+write_apply+write_array+write_base+write_head+write_inputs+write_left+write_list+write_part+write_synonym+write_tuple+write_type.Lts-write_base as write-base-lts
 use Rattle.writing.proofs.write_head.Reads as write-head
 use Rattle.writing.proofs.write_head.Kinds as write-head-kinds
-use Rattle.writing.proofs.+write_apply+write_array+write_head+write_inputs+write_left+write_list+write_part+write_synonym+write_tuple+write_type.Lts-write_head as write-head-lts
+use Rattle.writing.proofs.+write_apply+write_array+write_base+write_head+write_inputs+write_left+write_list+write_part+write_synonym+write_tuple+write_type.Lts-write_head as write-head-lts
 use Rattle.writing.proofs.write_inputs.Reads as write-inputs
 use Rattle.writing.proofs.write_inputs.Kinds as write-inputs-kinds
-use Rattle.writing.proofs.+write_apply+write_array+write_head+write_inputs+write_left+write_list+write_part+write_synonym+write_tuple+write_type.Lts-write_inputs as write-inputs-lts
+use Rattle.writing.proofs.+write_apply+write_array+write_base+write_head+write_inputs+write_left+write_list+write_part+write_synonym+write_tuple+write_type.Lts-write_inputs as write-inputs-lts
 use Rattle.writing.proofs.write_left.Reads as write-left
 use Rattle.writing.proofs.write_left.Kinds as write-left-kinds
-use Rattle.writing.proofs.+write_apply+write_array+write_head+write_inputs+write_left+write_list+write_part+write_synonym+write_tuple+write_type.Lts-write_left as write-left-lts
+use Rattle.writing.proofs.+write_apply+write_array+write_base+write_head+write_inputs+write_left+write_list+write_part+write_synonym+write_tuple+write_type.Lts-write_left as write-left-lts
 use Rattle.writing.proofs.write_list.Reads as write-list
 use Rattle.writing.proofs.write_list.Kinds as write-list-kinds
-use Rattle.writing.proofs.+write_apply+write_array+write_head+write_inputs+write_left+write_list+write_part+write_synonym+write_tuple+write_type.Lts-write_list as write-list-lts
+use Rattle.writing.proofs.+write_apply+write_array+write_base+write_head+write_inputs+write_left+write_list+write_part+write_synonym+write_tuple+write_type.Lts-write_list as write-list-lts
 use Rattle.writing.proofs.write_part.Reads as write-part
 use Rattle.writing.proofs.write_part.Kinds as write-part-kinds
-use Rattle.writing.proofs.+write_apply+write_array+write_head+write_inputs+write_left+write_list+write_part+write_synonym+write_tuple+write_type.Lts-write_part as write-part-lts
+use Rattle.writing.proofs.+write_apply+write_array+write_base+write_head+write_inputs+write_left+write_list+write_part+write_synonym+write_tuple+write_type.Lts-write_part as write-part-lts
 use Rattle.writing.proofs.write_synonym.Reads as write-synonym
 use Rattle.writing.proofs.write_synonym.Kinds as write-synonym-kinds
-use Rattle.writing.proofs.+write_apply+write_array+write_head+write_inputs+write_left+write_list+write_part+write_synonym+write_tuple+write_type.Lts-write_synonym as write-synonym-lts
+use Rattle.writing.proofs.+write_apply+write_array+write_base+write_head+write_inputs+write_left+write_list+write_part+write_synonym+write_tuple+write_type.Lts-write_synonym as write-synonym-lts
 use Rattle.writing.proofs.write_tuple.Reads as write-tuple
 use Rattle.writing.proofs.write_tuple.Kinds as write-tuple-kinds
-use Rattle.writing.proofs.+write_apply+write_array+write_head+write_inputs+write_left+write_list+write_part+write_synonym+write_tuple+write_type.Lts-write_tuple as write-tuple-lts
+use Rattle.writing.proofs.+write_apply+write_array+write_base+write_head+write_inputs+write_left+write_list+write_part+write_synonym+write_tuple+write_type.Lts-write_tuple as write-tuple-lts
 use Rattle.writing.proofs.write_type.Reads as write-type
 use Rattle.writing.proofs.write_type.Kinds as write-type-kinds
-use Rattle.writing.proofs.+write_apply+write_array+write_head+write_inputs+write_left+write_list+write_part+write_synonym+write_tuple+write_type.Lts-write_type as write-type-lts
+use Rattle.writing.proofs.+write_apply+write_array+write_base+write_head+write_inputs+write_left+write_list+write_part+write_synonym+write_tuple+write_type.Lts-write_type as write-type-lts
 use Rattle.encoding.proofs.put_name.Reads as put-name-reads
 use Rattle.output.proofs.put.Reads as put-reads
 use Rattle.leaves.proofs.put_primitive.Reads as put-primitive-reads
 use Rattle.leaves.proofs.put_size.Reads as put-size-reads
 use Rattle.writing.proofs.skip_type.Reads as skip-type-reads
 use Rattle.writing.proofs.write_leaf.Reads as write-leaf-reads
-use Rattle.writing.proofs.+write_apply+write_array+write_head+write_inputs+write_left+write_list+write_part+write_synonym+write_tuple+write_type.{statement}
-use Rattle.writing.proofs.+write_apply+write_array+write_head+write_inputs+write_left+write_list+write_part+write_synonym+write_tuple+write_type.Tie.{close}
+use Rattle.writing.proofs.write_path.Reads as write-path-reads
+use Rattle.writing.proofs.+write_apply+write_array+write_base+write_head+write_inputs+write_left+write_list+write_part+write_synonym+write_tuple+write_type.{statement}
+use Rattle.writing.proofs.+write_apply+write_array+write_base+write_head+write_inputs+write_left+write_list+write_part+write_synonym+write_tuple+write_type.Tie.{close}
 
 abbrev μ-write-apply : Measures 4 write-apply-kinds.ps ℕ
 μ-write-apply κs a = 5 * (length (a .0 .now) - a .1 .1 .1 .0) + 4
 
 abbrev μ-write-array : Measures 4 write-array-kinds.ps ℕ
 μ-write-array κs a = 5 * (length (a .0 .now) - a .1 .1 .1 .0) + 4
+
+abbrev μ-write-base : Measures 4 write-base-kinds.ps ℕ
+μ-write-base κs a = 5 * (length (a .0 .now) - a .1 .1 .1 .0) + 3
 
 abbrev μ-write-head : Measures 4 write-head-kinds.ps ℕ
 μ-write-head κs a = 5 * (length (a .0 .now) - a .1 .1 .1 .0) + 0
@@ -91,6 +98,12 @@ write-array-at t = and 4 write-array-kinds.ps (is 4 write-array-kinds.ps μ-writ
 
 abbrev write-array-below : ℕ → In 4 write-array-kinds.ps
 write-array-below t = and 4 write-array-kinds.ps (falls 4 write-array-kinds.ps _<_ μ-write-array t) write-array.Pre
+
+abbrev write-base-at : ℕ → In 4 write-base-kinds.ps
+write-base-at t = and 4 write-base-kinds.ps (is 4 write-base-kinds.ps μ-write-base t) write-base.Pre
+
+abbrev write-base-below : ℕ → In 4 write-base-kinds.ps
+write-base-below t = and 4 write-base-kinds.ps (falls 4 write-base-kinds.ps _<_ μ-write-base t) write-base.Pre
 
 abbrev write-head-at : ℕ → In 4 write-head-kinds.ps
 write-head-at t = and 4 write-head-kinds.ps (is 4 write-head-kinds.ps μ-write-head t) write-head.Pre
@@ -141,10 +154,13 @@ abbrev write-type-below : ℕ → In 4 write-type-kinds.ps
 write-type-below t = and 4 write-type-kinds.ps (falls 4 write-type-kinds.ps _<_ μ-write-type t) write-type.Pre
 
 abbrev write-apply-calls : ℕ → write-apply-lts.Claims
-write-apply-calls t = (write-part-below t, write-part.Post, put-reads.Asked, put-reads.Learnt, write-list-below t, write-list.Post)
+write-apply-calls t = (write-base-below t, write-base.Post, put-reads.Asked, put-reads.Learnt, write-list-below t, write-list.Post)
 
 abbrev write-array-calls : ℕ → write-array-lts.Claims
 write-array-calls t = (put-reads.Asked, put-reads.Learnt, write-part-below t, write-part.Post, put-size-reads.Asked, put-size-reads.Learnt)
+
+abbrev write-base-calls : ℕ → write-base-lts.Claims
+write-base-calls t = (write-path-reads.Asked, write-path-reads.Learnt, write-part-below t, write-part.Post)
 
 abbrev write-head-calls : ℕ → write-head-lts.Claims
 write-head-calls t = (write-leaf-reads.Asked, write-leaf-reads.Learnt, write-apply-below t, write-apply.Post, put-reads.Asked, put-reads.Learnt, write-tuple-below t, write-tuple.Post, write-inputs-below t, write-inputs.Post, write-left-below t, write-left.Post, write-array-below t, write-array.Post, write-synonym-below t, write-synonym.Post)
@@ -173,8 +189,8 @@ write-type-calls t = (write-head-below t, write-head.Post)
 write-apply-room : (t : ℕ) (s : write-apply-lts.Start (write-apply-calls t) (write-apply-at t) write-apply.Post) → NodeRoom (s .args .words .now) (s .args .pairs .now) (s .args .text .now) (Apply (s .args .n)) (s .args .at) (s .args .out .now) (s .args .pos)
 write-apply-room t s = record { there = s .pre .1 .1 }
 
-write-apply-write-part-requires : (t : ℕ) → write-apply-lts.Need-write-part-requires (write-apply-calls t) (write-apply-at t) write-apply.Post
-write-apply-write-part-requires t c κs =
+write-apply-write-base-requires : (t : ℕ) → write-apply-lts.Need-write-base-requires (write-apply-calls t) (write-apply-at t) write-apply.Post
+write-apply-write-base-requires t c κs =
     let s = c .before .before .before .before .before in
     (omega (arith, s .pre .0), (s .pre .1 .0, apply-base (write-apply-room t s)))
 
@@ -182,21 +198,21 @@ write-apply-same-length : (t : ℕ) → write-apply-lts.Need-same-length (write-
 write-apply-same-length t c = search needs
 
 write-apply-returns : (t : ℕ) → write-apply-lts.Need-returns (write-apply-calls t) (write-apply-at t) write-apply.Post
-write-apply-returns t c = apply-none (write-apply-room t (c .before .before .before .before .before .before .before .before .before)) (c .before .before .before .write-part .ensures) (c .if1 .taken)
+write-apply-returns t c = apply-none (write-apply-room t (c .before .before .before .before .before .before .before .before .before)) (c .before .before .before .write-base .ensures) (c .if1 .taken)
 
 write-apply-slice-aggregate-put : (t : ℕ) → write-apply-lts.Need-slice-aggregate-put (write-apply-calls t) (write-apply-at t) write-apply.Post
 write-apply-slice-aggregate-put t c = search needs
 
 write-apply-put-requires : (t : ℕ) → write-apply-lts.Need-put-requires (write-apply-calls t) (write-apply-at t) write-apply.Post
 unfolding ascii
-write-apply-put-requires t c κs = apply-open (write-apply-room t (c .before .before .before .before .before .before .before .before .before .before .before)) (c .before .before .before .before .before .write-part .ensures) (c .before .before .if1 .left)
+write-apply-put-requires t c κs = apply-open (write-apply-room t (c .before .before .before .before .before .before .before .before .before .before .before)) (c .before .before .before .before .before .write-base .ensures) (c .before .before .if1 .left)
 
 write-apply-write-list-requires : (t : ℕ) → write-apply-lts.Need-write-list-requires (write-apply-calls t) (write-apply-at t) write-apply.Post
 unfolding ascii
 write-apply-write-list-requires t c κs =
     let s = c .before .before .before .before .before .before .before .before .before .before .before .before .before .before .before in
     let r = write-apply-room t s in
-    let base = c .before .before .before .before .before .before .before .before .before .write-part .ensures in
+    let base = c .before .before .before .before .before .before .before .before .before .write-base .ensures in
     let some = c .before .before .before .before .before .before .if1 .left in
     (omega (arith, s .pre .0, apply-later r base), (omega (arith, some), s .pre .1 .0, apply-list r base some (c .before .before .before .put .ensures)))
 
@@ -205,14 +221,14 @@ write-apply-slice-aggregate-put-2 t c = search needs
 
 write-apply-put-requires-2 : (t : ℕ) → write-apply-lts.Need-put-requires-2 (write-apply-calls t) (write-apply-at t) write-apply.Post
 unfolding ascii
-write-apply-put-requires-2 t c κs = apply-close (write-apply-room t (c .before .before .before .before .before .before .before .before .before .before .before .before .before .before .before .before .before .before .before .before)) (c .before .before .before .before .before .before .before .before .before .before .before .before .before .before .write-part .ensures) (c .before .before .before .before .before .before .before .before .before .before .before .if1 .left) (c .before .before .before .before .before .before .before .before .put .ensures) (c .before .before .before .before .write-list .ensures)
+write-apply-put-requires-2 t c κs = apply-close (write-apply-room t (c .before .before .before .before .before .before .before .before .before .before .before .before .before .before .before .before .before .before .before .before)) (c .before .before .before .before .before .before .before .before .before .before .before .before .before .before .write-base .ensures) (c .before .before .before .before .before .before .before .before .before .before .before .if1 .left) (c .before .before .before .before .before .before .before .before .put .ensures) (c .before .before .before .before .write-list .ensures)
 
 write-apply-same-length-2 : (t : ℕ) → write-apply-lts.Need-same-length-2 (write-apply-calls t) (write-apply-at t) write-apply.Post
 write-apply-same-length-2 t c = search needs
 
 write-apply-returns-2 : (t : ℕ) → write-apply-lts.Need-returns-2 (write-apply-calls t) (write-apply-at t) write-apply.Post
 unfolding ascii
-write-apply-returns-2 t c = apply-done (write-apply-room t (c .before .before .before .before .before .before .before .before .before .before .before .before .before .before .before .before .before .before .before .before .before .before .before)) (c .before .before .before .before .before .before .before .before .before .before .before .before .before .before .before .before .before .write-part .ensures) (c .before .before .before .before .before .before .before .before .before .before .before .before .before .before .if1 .left) (c .before .before .before .before .before .before .before .before .before .before .before .put .ensures) (c .before .before .before .before .before .before .before .write-list .ensures) (c .before .before .put2 .ensures)
+write-apply-returns-2 t c = apply-done (write-apply-room t (c .before .before .before .before .before .before .before .before .before .before .before .before .before .before .before .before .before .before .before .before .before .before .before)) (c .before .before .before .before .before .before .before .before .before .before .before .before .before .before .before .before .before .write-base .ensures) (c .before .before .before .before .before .before .before .before .before .before .before .before .before .before .if1 .left) (c .before .before .before .before .before .before .before .before .before .before .before .put .ensures) (c .before .before .before .before .before .before .before .write-list .ensures) (c .before .before .put2 .ensures)
 
 write-array-room : (t : ℕ) (s : write-array-lts.Start (write-array-calls t) (write-array-at t) write-array.Post) → NodeRoom (s .args .words .now) (s .args .pairs .now) (s .args .text .now) (ArrayOf (s .args .size)) (s .args .at) (s .args .out .now) (s .args .pos)
 write-array-room t s = record { there = s .pre .1 .2 }
@@ -242,6 +258,33 @@ write-array-same-length t c = search needs
 write-array-returns : (t : ℕ) → write-array-lts.Need-returns (write-array-calls t) (write-array-at t) write-array.Post
 unfolding ascii
 write-array-returns t c = array-done (write-array-room t (c .before .before .before .before .before .before .before .before .before .before .before .before .before .before .before .before .before)) (c .before .before .before .before .before .before .before .before .before .before .put .ensures) (c .before .before .before .before .before .before .write-part .ensures) (c .before .before .put-size .ensures)
+
+write-base-room : (t : ℕ) (s : write-base-lts.Start (write-base-calls t) (write-base-at t) write-base.Post) → TypeRoom (s .args .words .now) (s .args .pairs .now) (s .args .text .now) (s .args .at) (s .args .out .now) (s .args .pos)
+write-base-room t s = record { there = s .pre .1 .1 }
+
+write-base-mul-if1 : (t : ℕ) → write-base-lts.Need-mul-if1 (write-base-calls t) (write-base-at t) write-base.Post
+write-base-mul-if1 t c = omega (arith, room-here (write-base-room t (c .before .before .before .before)))
+
+write-base-shared-slice-read-if1 : (t : ℕ) → write-base-lts.Need-shared-slice-read-if1 (write-base-calls t) (write-base-at t) write-base.Post
+write-base-shared-slice-read-if1 t c = omega (arith, room-here (write-base-room t (c .before .before .before .before .before)))
+
+write-base-write-path-requires : (t : ℕ) → write-base-lts.Need-write-path-requires (write-base-calls t) (write-base-at t) write-base.Post
+write-base-write-path-requires t c κs = let s = c .before .before .before .before .before .before .before in (c .before .if1 .taken, s .pre .1 .0, s .pre .1 .1)
+
+write-base-same-length : (t : ℕ) → write-base-lts.Need-same-length (write-base-calls t) (write-base-at t) write-base.Post
+write-base-same-length t c = search needs
+
+write-base-returns : (t : ℕ) → write-base-lts.Need-returns (write-base-calls t) (write-base-at t) write-base.Post
+write-base-returns t c = c .before .before .write-path .ensures
+
+write-base-write-part-requires : (t : ℕ) → write-base-lts.Need-write-part-requires (write-base-calls t) (write-base-at t) write-base.Post
+write-base-write-part-requires t c κs = let s = c .before .before .before .before .before .before .before in (omega (arith, s .pre .0), (s .pre .1 .0, s .pre .1 .1))
+
+write-base-same-length-2 : (t : ℕ) → write-base-lts.Need-same-length-2 (write-base-calls t) (write-base-at t) write-base.Post
+write-base-same-length-2 t c = search needs
+
+write-base-returns-2 : (t : ℕ) → write-base-lts.Need-returns-2 (write-base-calls t) (write-base-at t) write-base.Post
+write-base-returns-2 t c = c .before .before .write-part .ensures
 
 write-head-room : (t : ℕ) (s : write-head-lts.Start (write-head-calls t) (write-head-at t) write-head.Post) → TypeRoom (s .args .words .now) (s .args .pairs .now) (s .args .text .now) (s .args .at) (s .args .out .now) (s .args .pos)
 write-head-room t s = record { there = s .pre .1 .1 }
@@ -736,12 +779,13 @@ write-type-same-length t c =
 write-type-returns : (t : ℕ) → write-type-lts.Need-returns (write-type-calls t) (write-type-at t) write-type.Post write-type-Inv-loop write-type-μ-loop
 write-type-returns t c = turn-last (c .before .before .before .before .before .before .before .loop .inv) (part-done (c .before .before .before .before .before .write-head .ensures) (c .before .spot2 .given .1))
 
-pub +write-apply+write-array+write-head+write-inputs+write-left+write-list+write-part+write-synonym+write-tuple+write-type-spec :
+pub +write-apply+write-array+write-base+write-head+write-inputs+write-left+write-list+write-part+write-synonym+write-tuple+write-type-spec :
     {M : Type 1} → statement M
-+write-apply+write-array+write-head+write-inputs+write-left+write-list+write-part+write-synonym+write-tuple+write-type-spec =
++write-apply+write-array+write-base+write-head+write-inputs+write-left+write-list+write-part+write-synonym+write-tuple+write-type-spec =
     close
     μ-write-apply
     μ-write-array
+    μ-write-base
     μ-write-head
     μ-write-inputs
     μ-write-left
@@ -753,7 +797,7 @@ pub +write-apply+write-array+write-head+write-inputs+write-left+write-list+write
     (λ t. write-apply-lts.spec (write-apply-calls t)
     (write-apply-at t)
     write-apply.Post
-    (write-apply-write-part-requires t)
+    (write-apply-write-base-requires t)
     (write-apply-same-length t)
     (write-apply-returns t)
     (write-apply-slice-aggregate-put t)
@@ -772,6 +816,17 @@ pub +write-apply+write-array+write-head+write-inputs+write-left+write-list+write
     (write-array-put-size-requires t)
     (write-array-same-length t)
     (write-array-returns t))
+    (λ t. write-base-lts.spec (write-base-calls t)
+    (write-base-at t)
+    write-base.Post
+    (write-base-mul-if1 t)
+    (write-base-shared-slice-read-if1 t)
+    (write-base-write-path-requires t)
+    (write-base-same-length t)
+    (write-base-returns t)
+    (write-base-write-part-requires t)
+    (write-base-same-length-2 t)
+    (write-base-returns-2 t))
     (λ t. write-head-lts.spec (write-head-calls t)
     (write-head-at t)
     write-head.Post
