@@ -246,6 +246,23 @@ pub fn part(bytes: &[u8], start: usize, end: usize) -> &[u8]
     &bytes[start..end]
 }
 
+// The same slice, made again from its start and length. A slice that is only handed on is copied as a whole, and waits
+// for the two stores that made it.
+pub fn all_numbers(s: &[u32]) -> &[u32]
+    ensures { λ r. ⌜ now r ≡ now (s .entry) ⌝ }
+{
+    let n = s.len();
+    &s[..n]
+}
+
+// The same for bytes.
+pub fn all_bytes(s: &[u8]) -> &[u8]
+    ensures { λ r. ⌜ now r ≡ now (s .entry) ⌝ }
+{
+    let n = s.len();
+    &s[..n]
+}
+
 // The bytes of a name that stands in the text.
 pub fn pair_bytes<'a>(pairs: &[u32], text: &'a [u8], name: u32) -> &'a [u8]
     requires { ⌜ (16 ≤ name) × (name < nameCount (now pairs)) × Good (now pairs) (now text) ⌝ }

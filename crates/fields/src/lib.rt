@@ -409,5 +409,8 @@ pub fn write_list(
             pos: write_none(is_named(entry), out, pos),
         };
     }
+    // Both were only handed on so far: `all_numbers` says why they are made again.
+    let pairs = encoding::all_numbers(pairs);
+    let text = encoding::all_bytes(text);
     write_some(words, pairs, text, entry, level, n, at + 1, out, pos)
 }
