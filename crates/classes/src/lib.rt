@@ -167,11 +167,16 @@ fn is_counted(words: &[u32], pairs: &[u32], text: &[u8], path: PathAt) -> bool
     is_in_std(words, pairs, text, path, 4, b"sync", 5, b"Arc")
 }
 
-// Whether a path is of the class.
+// Whether a path is of the class. It is made again from its parts: as a whole it would be copied at once, and wait for the stores that made it.
 fn is_in_class(words: &[u32], pairs: &[u32], text: &[u8], class: Class, path: PathAt) -> bool
     requires { ⌜ InsidePath (nameCount (now pairs)) (now words) path × Good (now pairs) (now text) ⌝ }
     ensures { λ r. ⌜ r ≡ inClass class (pathOf (now (words .entry)) (nameBytes (now (pairs .entry)) (now (text .entry))) path) ⌝ }
 {
+    let path = PathAt {
+        root: path.root,
+        start: path.start,
+        count: path.count,
+    };
     match class {
         Class::Counted => is_counted(words, pairs, text, path),
         Class::Boxed => is_in_std(words, pairs, text, path, 6, b"boxed", 7, b"Box"),

@@ -20,12 +20,12 @@ use Rattle.encoding.specs.Reading.{Reading, got, stop, mapReading, readWord}
 use Rattle.encoding.specs.Tables.{nameBytes, nameCount}
 use Rattle.encoding.specs.Types.{typeAt}
 use Rattle.encoding.specs.Declarations.{readList, readVisibility, readFormal, readField, readNamelessField}
-use Rattle.encoding.proofs.Tables.{impossible}
-use Rattle.encoding.proofs.Inside.{word-there}
+use Rattle.encoding.proofs.Reading.{word-in}
 use Rattle.laying.specs.declared.Place.the-variants.{At}
 use Rattle.laying.specs.Passes.{last, _then_, run, Ready, Came, came, Along}
 use Rattle.laying.specs.Texts.{visibilityAt}
 use Rattle.laying.proofs.Passes.{Runs, came-to}
+use Rattle.laying.proofs.Leaves.{word-of}
 use Rattle.laying.proofs.Splits.{split₂, listed-read, listed-same, around, counted-got, counted-none, counted-stop, within-same}
 use Rattle.fields.specs.declared.Entry.{Entry}
 use Rattle.fields.specs.declared.Entry.the-variants.{Named, Inline, Lined}
@@ -161,11 +161,7 @@ module _ (ws pairs : List ℕ) (text : Bytes) where
 
   -- the count of a list that was accepted
   pub list-there : (entry : Entry) (level at : ℕ) {o : List ℕ} {p : ℕ} → Ready true o p (listAt ws pairs text entry level at) → readWord ws at ≡ got (getD ws at 0) (at + 1)
-  list-there entry level at r = go (readWord ws at) refl (r .room refl .reads)
-    where
-      go : {v : Bytes} {n : ℕ} (y : Reading ℕ) → readWord ws at ≡ y → listAt ws pairs text entry level at ≡ got v n → readWord ws at ≡ got (getD ws at 0) (at + 1)
-      go (got w m) e d = let t = word-there ws at e in e ∙ cc (t .same, t .next)
-      go (stop k) e d = impossible (let c = list-stop entry level at e in cc)
+  list-there entry level at r = word-in ws at (word-of ws at _ (λ k e. list-stop entry level at e) r)
 
   -- ---- a list that is not empty, as a chain
 

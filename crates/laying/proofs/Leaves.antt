@@ -21,7 +21,7 @@ use Rattle.encoding.specs.declared.Refusal.the-variants.{EndsEarly}
 use Rattle.encoding.specs.declared.Head.the-variants.{Name, Ref}
 use Rattle.encoding.specs.declared.WordScan.{WordScan}
 use Rattle.encoding.specs.declared.WordScan.the-variants.{Word, NoWord}
-use Rattle.encoding.specs.Reading.{Reading, got, stop, _>>=_, mapReading, readBelow}
+use Rattle.encoding.specs.Reading.{Reading, got, stop, _>>=_, mapReading, readWord, readBelow}
 use Rattle.encoding.specs.Scans.{wordScan}
 use Rattle.encoding.specs.Tables.{fixedNames, nameBytes, nameCount}
 use Rattle.encoding.specs.Heads.{headAfter, readHead}
@@ -30,7 +30,7 @@ use Rattle.encoding.specs.Declarations.{visibilityOf, readVisibility, readName}
 use Rattle.encoding.proofs.Tables.{impossible, everyBelow, every-at, name-fixed}
 use Rattle.encoding.proofs.Heads.{head-at, head-end, head-plain}
 use Rattle.encoding.proofs.Types.{node-of}
-use Rattle.encoding.proofs.Inside.{below-there}
+use Rattle.encoding.proofs.Inside.{word-there, below-there}
 use Rattle.encoding.proofs.Reading.{word-got, word-stop}
 use Rattle.measure.specs.declared.Measure.{Measure}
 use Rattle.measure.specs.declared.Measure.the-variants.{Measured, Stopped as Refused}
@@ -86,6 +86,14 @@ below-of b ws at x stops r = go (readBelow b ws at) refl (r .room refl .reads)
     go (got w m) e d =
         let t = below-there b ws at e in
         record { here = t .here; below = subst (λ (z : ℕ). z < b) (t .same) (t .below); reads = e ∙ ap (λ (z : ℕ). got z m) (t .same) ∙ ap (got (getD ws at 0)) (t .next) }
+    go (stop k) e d = impossible (let c = stops k e in cc)
+
+-- and any word
+pub word-of : (ws : List ℕ) (at : ℕ) {o : List ℕ} {p : ℕ} (x : Reading Bytes) → ((k : Refusal) → readWord ws at ≡ stop k → x ≡ stop k) → Ready true o p x → at < length ws
+word-of ws at x stops r = go (readWord ws at) refl (r .room refl .reads)
+  where
+    go : {v : Bytes} {n : ℕ} (y : Reading ℕ) → readWord ws at ≡ y → x ≡ got v n → at < length ws
+    go (got w m) e d = word-there ws at e .here
     go (stop k) e d = impossible (let c = stops k e in cc)
 
 module _ (ws pairs : List ℕ) (text : Bytes) (at : ℕ) {o : List ℕ} {p : ℕ} where

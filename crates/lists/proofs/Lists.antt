@@ -1,12 +1,10 @@
 -- Attributes and parameters, and lists of them, from the texts of their parts.
-use Prim.Native.Nat.{ℕ, zero, suc, _+_, _-_, _*_, _≤_, _<_}
+use Prim.Native.Nat.{ℕ, zero, suc, _+_, _-_, _*_, _<_}
 use mathlib.Core.Path.{_≡_, refl, ap, sym, _∙_}
 use mathlib.Core.Bool.{Bool, true, false}
 use mathlib.Core.List.{List, [], _∷_, _++_, append-assoc, append-nil}
 use native.Mathlib.Omega.{arith}
 use native.Mathlib.Numerals.{sub-one}
-use borrow.Author.Tests.{ltb-true, ltb-false}
-use lib.Dec.{ltb}
 use lib.ListN.{length}
 use Rattle.rast.specs.Bytes.{Bytes, ascii}
 use Rattle.rast.specs.ToString.{Type·ToString}
@@ -20,12 +18,11 @@ use Rattle.encoding.specs.Reading.{Reading, got, stop, _>>=_, mapReading, readW
 use Rattle.encoding.specs.Tables.{nameBytes, nameCount}
 use Rattle.encoding.specs.Types.{typeAt}
 use Rattle.encoding.specs.Declarations.{readList, readCounted, readAttribute, readParameter}
-use Rattle.encoding.proofs.Tables.{impossible}
-use Rattle.encoding.proofs.Reading.{word-end}
 use Rattle.laying.specs.declared.Place.the-variants.{At}
 use Rattle.laying.specs.Passes.{last, _then_, run, listed, Ready, Came, Went, came, Along}
 use Rattle.laying.specs.Texts.{nameAt}
 use Rattle.laying.proofs.Passes.{Runs, ready-runs, ready-last, ready-next, went-runs, went-then, went-last, went-as, came-nothing, counts-bytes}
+use Rattle.laying.proofs.Leaves.{word-of}
 use Rattle.laying.proofs.Splits.{map-same, nothing-behind, runs-as, split₂, listed-read, listed-same, around, counted-got, counted-none, counted-stop, within-same}
 use Rattle.lists.specs.Texts.{someArguments, derivedAt, attributeAt, someAttributes, attributesAt, someConstraints, constraintsAt, parameterAt, someParameters, parametersAt}
 
@@ -49,11 +46,7 @@ counts-line level {p} e =
 
 -- a count that was accepted stands in the words
 count-there : {A : Type 0} (f : List A → Bytes) (ws : List ℕ) (item : ℕ → Reading A) (at : ℕ) {o : List ℕ} {p : ℕ} → Ready true o p (mapReading f (readCounted ws item at)) → at < length ws
-count-there f ws item at r = go (ltb at (length ws)) (ltb-true at (length ws)) (ltb-false at (length ws))
-  where
-    go : (t : Bool) → (t ≡ true → at < length ws) → (t ≡ false → length ws ≤ at) → at < length ws
-    go true h k = h refl
-    go false h k = impossible (let e = r .room refl .reads in let d = counted-stop f ws item at (word-end ws at (k refl)) in cc)
+count-there f ws item at r = word-of ws at _ (λ k e. counted-stop f ws item at e) r
 
 -- ---- a list with nothing between its items
 
