@@ -1,6 +1,6 @@
 -- Laws of words, of the words that are no names, and of names and sizes.
 use Prim.Native.Nat.{ℕ, zero, suc, _+_, _-_, _%_, _≤_, _<_}
-use mathlib.Core.Path.{_≡_, refl, sym, _∙_, subst}
+use mathlib.Core.Path.{_≡_, refl, ap, sym, _∙_, subst}
 use mathlib.Core.Bool.{Bool, true, false, not, Bool·beq}
 use mathlib.Core.List.{List, [], _∷_}
 use mathlib.Core.Option.{some}
@@ -15,9 +15,10 @@ use Rattle.rast.specs.Sound.{within, isLetter, isWordStart, isWordByte, isWord,
 use Rattle.encoding.specs.Refusals.{pick}
 use Rattle.encoding.specs.Tables.{fixedNames, nameBytes, nameCount}
 use Rattle.encoding.specs.Types.{sizeOf}
+use Rattle.output.proofs.Laws.{part-length}
 use Rattle.soundness.specs.declared.NameCheck.{NameCheck}
 use Rattle.soundness.specs.declared.NameCheck.the-variants.{Fine, Poor, NoName}
-use Rattle.soundness.specs.Judging.{beginsExcluded, WordBytes, Known, unlessJudged, Checked, fine, poor, no-name}
+use Rattle.soundness.specs.Judging.{letters, beginsExcluded, WordBytes, Known, unlessJudged, Checked, fine, poor, no-name}
 use Rattle.encoding.proofs.Tables.{impossible, everyBelow, every-at, same-eq, name-fixed}
 use Rattle.encoding.proofs.Names.{beq-eq, and-yes}
 
@@ -142,9 +143,6 @@ starts = 0 ∷ 2 ∷ 5 ∷ 8 ∷ 11 ∷ 15 ∷ 17 ∷ 20 ∷ 23 ∷ 26 ∷ 30 �
 unfoldable pub lengths : List ℕ
 lengths = 2 ∷ 3 ∷ 3 ∷ 3 ∷ 4 ∷ 2 ∷ 3 ∷ 3 ∷ 3 ∷ 4 ∷ 5 ∷ 4 ∷ 3 ∷ 4 ∷ 3 ∷ 5 ∷ 4 ∷ []
 
-unfoldable pub letters : Bytes
-letters = ascii "u8u16u32u64u128i8i16i32i64i128usizeboolmutimpldyncrateSelf"
-
 pub excluded-part : (k : ℕ) → k < 17 → take (getD lengths k 0) (drop (getD starts k 0) letters) ≡ getD excluded k []
 unfolding everyBelow same starts lengths letters excluded ascii _and_
 excluded-part k h =
@@ -157,6 +155,10 @@ unfolding everyBelow starts lengths _and_
 excluded-inside k h =
     leb-true (getD starts k 0 + getD lengths k 0) 58
     (every-at (λ i. leb (getD starts i 0 + getD lengths i 0) 58) 17 refl k h)
+
+pub excluded-length : (k : ℕ) → k < 17 → length (getD excluded k []) ≡ getD lengths k 0
+unfolding letters ascii
+excluded-length k h = sym (ap length (excluded-part k h)) ∙ part-length letters (getD starts k 0) (getD lengths k 0) (excluded-inside k h)
 
 -- what lacks something that all of some words have is none of them
 among-none : (f : Bytes → Bool) (x : Bytes) (l : List Bytes) → ((k : ℕ) → k < length l → f (getD l k []) ≡ true) → f x ≡ false → among x l ≡ false
@@ -210,7 +212,15 @@ unfolding soundSize each
 size-some [] h = absurd (let z : ⊥ = omega arith in z)
 size-some (x ∷ l) h = refl
 
--- ---- names that were found sound
+-- ---- what is judged, and what is not
+
+pub judged-nothing : {ask : ℕ} (s : Bool) → ask ≡ 0 → unlessJudged ask s ≡ true
+unfolding unlessJudged
+judged-nothing s e = rw e
+
+pub judged-all : {ask : ℕ} {s : Bool} → 0 < ask → unlessJudged ask s ≡ s
+unfolding unlessJudged
+judged-all {ask} h = rw (ne-eqb ask 0 (omega arith))
 
 pub judged-sound : (ask : ℕ) {s : Bool} → s ≡ true → unlessJudged ask s ≡ true
 unfolding unlessJudged
@@ -219,6 +229,8 @@ judged-sound ask e = rw e (go (eqb ask 0))
     go : (b : Bool) → pick b true true ≡ true
     go true = refl
     go false = refl
+
+-- ---- names that were found sound
 
 module _ (pairs : List ℕ) (text : Bytes) where
   -- at the start the first place holds a name that belongs elsewhere, so that it does not hold the empty name
@@ -272,35 +284,24 @@ known-fixed pairs text k i h l =
 
 -- ---- a name, as it was found
 
-module _ {pairs : List ℕ} {text : Bytes} {x ask : ℕ} where
-  pub checked-sound : x < nameCount pairs → soundName (nameBytes pairs text x) ≡ true → Checked pairs text x ask Fine
-  checked-sound h s = fine h (judged-sound ask s)
-
-  pub checked-unjudged : x < nameCount pairs → ask ≡ 0 → Checked pairs text x ask Fine
-  unfolding unlessJudged
-  checked-unjudged h e = fine h (rw e)
-
-  pub checked-poor : (ask ≡ 0 → ⊥) → soundName (nameBytes pairs text x) ≡ false → Checked pairs text x ask Poor
-  unfolding unlessJudged
-  checked-poor h s = poor (rw (ne-eqb ask 0 h, s))
-
-  pub was-fine : {r : NameCheck} → Checked pairs text x ask r → r ≡ Fine → (x < nameCount pairs) × (unlessJudged ask (soundName (nameBytes pairs text x)) ≡ true)
+module _ {pairs : List ℕ} {text : Bytes} {x : ℕ} where
+  pub was-fine : {r : NameCheck} → Checked pairs text x r → r ≡ Fine → (x < nameCount pairs) × (soundName (nameBytes pairs text x) ≡ true)
   was-fine (fine h s) d = (h, s)
   was-fine (poor s) d = impossible (cc)
   was-fine (no-name h) d = impossible (cc)
 
-  pub was-poor : {r : NameCheck} → Checked pairs text x ask r → r ≡ Poor → unlessJudged ask (soundName (nameBytes pairs text x)) ≡ false
+  pub was-poor : {r : NameCheck} → Checked pairs text x r → r ≡ Poor → soundName (nameBytes pairs text x) ≡ false
   was-poor (fine h s) d = impossible (cc)
   was-poor (poor s) d = s
   was-poor (no-name h) d = impossible (cc)
 
-  pub was-no-name : {r : NameCheck} → Checked pairs text x ask r → r ≡ NoName → nameCount pairs ≤ x
+  pub was-no-name : {r : NameCheck} → Checked pairs text x r → r ≡ NoName → nameCount pairs ≤ x
   was-no-name (fine h s) d = impossible (cc)
   was-no-name (poor s) d = impossible (cc)
   was-no-name (no-name h) d = h
 
 -- a sound name is a sound size
-pub size-of-name : (l : Bytes) → soundName l ≡ true → soundSize (some l) ≡ true
+size-of-name : (l : Bytes) → soundName l ≡ true → soundSize (some l) ≡ true
 unfolding soundName isWord soundSize _and_
 size-of-name [] e = impossible (cc)
 size-of-name (x ∷ l) e = go (isWordStart x) refl (each isWordByte l) e
@@ -309,3 +310,6 @@ size-of-name (x ∷ l) e = go (isWordStart x) refl (each isWordByte l) e
     go true i true d = rw (word-start x i)
     go true i false d = impossible (cc)
     go false i b d = impossible (cc)
+
+pub judged-size : (name : ℕ → Bytes) (s ask : ℕ) → 0 < s → soundName (name (s - 1)) ≡ true → unlessJudged ask (soundSize (sizeOf name s)) ≡ true
+judged-size name s ask h e = judged-sound ask (ap soundSize (size-named name s h) ∙ size-of-name _ e)

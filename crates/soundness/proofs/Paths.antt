@@ -12,6 +12,7 @@ use Rattle.rast.specs.Bytes.{Bytes, _and_}
 use Rattle.rast.specs.Tree.{Path, Global, Crate, Self, PMemberSelect, MSels}
 use Rattle.rast.specs.Sound.{soundName, soundNames, isGlobal, soundPath}
 use Rattle.encoding.specs.declared.Refusal.{Refusal}
+use Rattle.encoding.specs.declared.Refusal.the-variants.{UnknownWord}
 use Rattle.encoding.specs.declared.PathAt.{PathAt}
 use Rattle.encoding.specs.Refusals.{pick}
 use Rattle.encoding.specs.declared.Head.the-variants.{Name, FromPath}
@@ -21,7 +22,7 @@ use Rattle.encoding.specs.Types.{rootOf, pathOf}
 use Rattle.encoding.proofs.Tables.{impossible}
 use Rattle.encoding.proofs.Types.{bind-got, made-got}
 use Rattle.encoding.proofs.Inside.{Holds, Names, names-hold, below-there}
-use Rattle.encoding.proofs.Reading.{below-in, names-more as reads-more, names-stop as reads-stop, names-none as reads-none}
+use Rattle.encoding.proofs.Reading.{below-in, below-out, names-more as reads-more, names-stop as reads-stop, names-none as reads-none}
 use Rattle.measure.specs.Lengths.{worded, namesPath, headOfPath}
 use Rattle.output.proofs.Laws.{part-length}
 use Rattle.soundness.specs.declared.OwnScan.{OwnScan}
@@ -209,11 +210,21 @@ path-root ws pairs text ask p e d = rw d (go (eqb (p .root) 0) (eqb ask 0) refl 
 
 -- ---- the head of a name
 
-pub name-poor : (ws pairs : List ℕ) (text : Bytes) (ask at : ℕ) → at < length ws → unlessJudged ask (soundName (nameBytes pairs text (getD ws at 0))) ≡ false
-    → {r : OwnScan} → r ≡ NotSound → Scanned ws pairs text ask (worded Name (readBelow (nameCount pairs) ws at)) r
-unfolding headSound wordsSound _and_
-name-poor ws pairs text ask at h s d =
-    rw d (not-sound (λ g n e.
-    let t = made-got (readBelow (nameCount pairs) ws at) Name e in
-    let lies = below-there (nameCount pairs) ws at (t .reads) in
-    rw (t .made, lies .same) s))
+module _ (ws pairs : List ℕ) (text : Bytes) (ask at : ℕ) (here : at < length ws) where
+  pub name-leaf : getD ws at 0 < nameCount pairs → unlessJudged ask (soundName (nameBytes pairs text (getD ws at 0))) ≡ true
+      → {r : OwnScan} → r ≡ Leaf (at + 1) → Scanned ws pairs text ask (worded Name (readBelow (nameCount pairs) ws at)) r
+  unfolding headSound wordsSound _and_
+  name-leaf b s d = scanned-leaf ws pairs text ask (Name _) (ap (worded Name) (below-in (nameCount pairs) ws at here b)) d refl s
+
+  pub name-poor : unlessJudged ask (soundName (nameBytes pairs text (getD ws at 0))) ≡ false
+      → {r : OwnScan} → r ≡ NotSound → Scanned ws pairs text ask (worded Name (readBelow (nameCount pairs) ws at)) r
+  unfolding headSound wordsSound _and_
+  name-poor s d =
+      rw d (not-sound (λ g n e.
+      let t = made-got (readBelow (nameCount pairs) ws at) Name e in
+      let lies = below-there (nameCount pairs) ws at (t .reads) in
+      rw (t .made, lies .same) s))
+
+  pub name-unknown : nameCount pairs ≤ getD ws at 0
+      → {r : OwnScan} → r ≡ NoNode UnknownWord → Scanned ws pairs text ask (worded Name (readBelow (nameCount pairs) ws at)) r
+  name-unknown b d = scanned-stop ws pairs text ask (ap (worded Name) (below-out (nameCount pairs) ws at here b)) d

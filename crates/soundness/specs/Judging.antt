@@ -5,7 +5,7 @@ use mathlib.Core.Bool.{Bool, true, false, not}
 use mathlib.Core.List.{List, [], _∷_}
 use lib.Dec.{ltb, eqb}
 use lib.ListN.{length, getD, take, drop, set}
-use Rattle.rast.specs.Bytes.{Bytes, _and_, _or_}
+use Rattle.rast.specs.Bytes.{Bytes, ascii, _and_, _or_}
 use Rattle.rast.specs.Tree.{Ty, Tys, nil, cons}
 use Rattle.rast.specs.Sound.{isWordByte, soundName, soundSize, soundPath, isNamed, isIntersection, sound}
 use Rattle.encoding.specs.declared.Refusal.{Refusal}
@@ -32,6 +32,10 @@ Ready pairs text = Good pairs text × (length pairs / 2 ≤ 1024)
 
 -- ---- names
 
+-- the words that are no names, one behind the other
+unfoldable pub letters : Bytes
+letters = ascii "u8u16u32u64u128i8i16i32i64i128usizeboolmutimpldyncrateSelf"
+
 -- what a word that is no name may begin with
 unfoldable pub beginsExcluded : ℕ → Bool
 beginsExcluded x = eqb x 83 or eqb x 98 or eqb x 99 or eqb x 100 or eqb x 105 or eqb x 109 or eqb x 117
@@ -56,10 +60,10 @@ unfoldable pub unlessJudged : ℕ → Bool → Bool
 unlessJudged ask s = pick (eqb ask 0) true s
 
 -- a name, as it was found
-pub data Checked (pairs : List ℕ) (text : Bytes) (x ask : ℕ) : NameCheck → Type 0 where
-  fine : x < nameCount pairs → unlessJudged ask (soundName (nameBytes pairs text x)) ≡ true → Checked pairs text x ask Fine
-  poor : unlessJudged ask (soundName (nameBytes pairs text x)) ≡ false → Checked pairs text x ask Poor
-  no-name : nameCount pairs ≤ x → Checked pairs text x ask NoName
+pub data Checked (pairs : List ℕ) (text : Bytes) (x : ℕ) : NameCheck → Type 0 where
+  fine : x < nameCount pairs → soundName (nameBytes pairs text x) ≡ true → Checked pairs text x Fine
+  poor : soundName (nameBytes pairs text x) ≡ false → Checked pairs text x Poor
+  no-name : nameCount pairs ≤ x → Checked pairs text x NoName
 
 -- the names from `start` to i are as they are asked to be, so those from i on decide
 pub record Onward (bound : ℕ) (ws : List ℕ) (name : ℕ → Bytes) (ask start end i : ℕ) : Type 0 where

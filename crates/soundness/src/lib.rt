@@ -14,7 +14,7 @@ ghost use Rattle.encoding.specs.Heads.{pathHead, headAfter, readHead};
 ghost use Rattle.encoding.specs.Types.{sizeOf, typeAt};
 ghost use Rattle.encoding.specs.declared.Head.the-variants.{Name, Apply, Tuple, Function, ArrayOf, Meta};
 ghost use Rattle.measure.specs.Lengths.{worded, namesPath, headOfPath};
-ghost use Rattle.soundness.specs.Judging.{beginsExcluded, WordBytes, Ready, Known, Checked, Onward, OnwardAlways, unlessJudged, rootScan, nodeScan, bareScan, leafScan, bothScan, Scanned, askNext, nextType, under, pushed, leaving, Outward, Kept, Stepped};
+ghost use Rattle.soundness.specs.Judging.{letters, beginsExcluded, WordBytes, Ready, Known, Checked, Onward, OnwardAlways, unlessJudged, rootScan, nodeScan, bareScan, leafScan, bothScan, Scanned, askNext, nextType, under, pushed, leaving, Outward, Kept, Stepped};
 ghost use Rattle.soundness.specs.Calls.{typeIsSound, soundAnswer};
 use encoding::Check;
 use encoding::PathAt;
@@ -38,7 +38,7 @@ enum OwnScan {
     NoNode(Refusal),
 }
 
-// A name: as it is asked to be, or not, or no name at all.
+// A name: sound, or not, or no name at all.
 enum NameCheck {
     Fine,
     Poor,
@@ -179,7 +179,7 @@ fn is_word(text: &[u8], start: usize, end: usize) -> bool
     false
 }
 
-// The words that are no names stand one behind the other in `is_excluded_word`: where each starts, and how long it is.
+// The words that are no names stand one behind the other in `stands_at`: where each starts, and how long it is.
 const STARTS: [u8; 17] = [
     0,
     2,
@@ -202,15 +202,24 @@ const STARTS: [u8; 17] = [
 
 const LENGTHS: [u8; 17] = [2, 3, 3, 3, 4, 2, 3, 3, 3, 4, 5, 4, 3, 4, 3, 5, 4];
 
-// `bytes` is excluded word `k`.
+// `bytes` stands at `start` among the letters of these words.
+fn stands_at(bytes: &[u8], start: usize) -> bool
+    requires { ⌜ start + length (now bytes) ≤ 58 ⌝ }
+    ensures { λ r. ⌜ r ≡ same (now (bytes .entry)) (take (length (now (bytes .entry))) (drop start letters)) ⌝ }
+{
+    let all = b"u8u16u32u64u128i8i16i32i64i128usizeboolmutimpldyncrateSelf";
+    encoding::same_bytes(bytes, encoding::part(all, start, start + bytes.len()))
+}
+
+// `bytes` is excluded word `k`. The letters are laid out only where the lengths agree.
 fn is_excluded_word(bytes: &[u8], k: usize) -> bool
     requires { ⌜ k < 17 ⌝ }
     ensures { λ r. ⌜ r ≡ same (now (bytes .entry)) (getD excluded k []) ⌝ }
 {
-    let all = b"u8u16u32u64u128i8i16i32i64i128usizeboolmutimpldyncrateSelf";
-    let start = STARTS[k] as usize;
-    let end = start + LENGTHS[k] as usize;
-    encoding::same_bytes(bytes, encoding::part(all, start, end))
+    if bytes.len() != LENGTHS[k] as usize {
+        return false;
+    }
+    stands_at(bytes, STARTS[k] as usize)
 }
 
 // `bytes` is one of the words that are no names, found by comparing with each.
@@ -306,19 +315,16 @@ fn is_known(known: &[u16; 64], name: u32) -> bool
     wide(known[at]) == name as u64
 }
 
-// A name that `ask` may ask to be sound. One that is found sound is kept.
-fn check_new(pairs: &[u32], text: &[u8], known: &mut [u16; 64], name: u32, ask: u64) -> NameCheck
+// A name that is asked to be sound. One that is found so is kept.
+fn check_new(pairs: &[u32], text: &[u8], known: &mut [u16; 64], name: u32) -> NameCheck
     requires { ⌜ Ready (now pairs) (now text) × Known (now pairs) (now text) (now known) ⌝ }
-    ensures { λ r. ⌜ Checked (now (pairs .entry)) (now (text .entry)) name ask r × Known (now (pairs .entry)) (now (text .entry)) (now (known .exit)) ⌝ }
+    ensures { λ r. ⌜ Checked (now (pairs .entry)) (now (text .entry)) name r × Known (now (pairs .entry)) (now (text .entry)) (now (known .exit)) ⌝ }
 {
     if is_known(known, name) {
         return NameCheck::Fine;
     }
     if encoding::name_count(pairs) <= name as usize {
         return NameCheck::NoName;
-    }
-    if ask == 0 {
-        return NameCheck::Fine;
     }
     if sound_name(pairs, text, name) {
         let at = (name % 64) as usize;
@@ -328,7 +334,7 @@ fn check_new(pairs: &[u32], text: &[u8], known: &mut [u16; 64], name: u32, ask: 
     NameCheck::Poor
 }
 
-// A name's head, from the words behind its kind; the heads below likewise.
+// A name's head, from the words behind its kind; the heads below likewise. Where nothing is asked, it need only be a name.
 fn own_name(
     words: &[u32],
     pairs: &[u32],
@@ -349,7 +355,13 @@ fn own_name(
     if is_known(known, name) {
         return OwnScan::Leaf(at + 1);
     }
-    match check_new(pairs, text, known, name, ask) {
+    if ask == 0 {
+        if encoding::name_count(pairs) <= name as usize {
+            return OwnScan::NoNode(Refusal::UnknownWord);
+        }
+        return OwnScan::Leaf(at + 1);
+    }
+    match check_new(pairs, text, known, name) {
         NameCheck::Fine => OwnScan::Leaf(at + 1),
         NameCheck::Poor => OwnScan::NotSound,
         NameCheck::NoName => OwnScan::NoNode(Refusal::UnknownWord),
@@ -385,7 +397,7 @@ fn known_to(
     i
 }
 
-// A path's head, from its names: those before `start` are known.
+// A path's head, from its names, which are judged: those before `start` are known.
 fn new_names(
     words: &[u32],
     pairs: &[u32],
@@ -397,7 +409,7 @@ fn new_names(
 ) -> OwnScan
     requires { ⌜ Ready (now pairs) (now text) × Known (now pairs) (now text) (now known)
         × Onward (nameCount (now pairs)) (now words) (nameBytes (now pairs) (now text)) ask (path .start) (path .start + path .count) start
-        × (0 < path .count) × (length (now words) ≤ 8192) ⌝ }
+        × (0 < path .count) × (length (now words) ≤ 8192) × (0 < ask) ⌝ }
     ensures { λ r. ⌜ Scanned (now (words .entry)) (now (pairs .entry)) (now (text .entry)) ask
         (headOfPath (namesPath (nameCount (now (pairs .entry))) (now (words .entry)) path)) r
         × Known (now (pairs .entry)) (now (text .entry)) (now (known .exit)) ⌝ }
@@ -408,7 +420,7 @@ fn new_names(
         if words.len() <= i {
             return OwnScan::NoNode(Refusal::EndsEarly);
         }
-        match check_new(pairs, text, known, words[i], ask) {
+        match check_new(pairs, text, known, words[i]) {
             NameCheck::Fine => {
                 i += 1;
             }
@@ -417,6 +429,28 @@ fn new_names(
             }
             NameCheck::NoName => {
                 return OwnScan::NoNode(Refusal::UnknownWord);
+            }
+        }
+    }
+    OwnScan::Leaf(end)
+}
+
+// A path's head, from its names, of which nothing is asked: they need only be names.
+fn unjudged_names(words: &[u32], pairs: &[u32], text: &[u8], path: PathAt) -> OwnScan
+    requires { ⌜ (path .start ≤ length (now words)) × (0 < path .count) × (length (now words) ≤ 8192) ⌝ }
+    ensures { λ r. ⌜ Scanned (now (words .entry)) (now (pairs .entry)) (now (text .entry)) 0
+        (headOfPath (namesPath (nameCount (now (pairs .entry))) (now (words .entry)) path)) r ⌝ }
+{
+    let bound = encoding::name_count(pairs);
+    let end = path.start + path.count as usize;
+    let mut i = path.start;
+    while i < end {
+        match encoding::scan_below(words, bound, i) {
+            WordScan::Word { value: _, next } => {
+                i = next;
+            }
+            WordScan::NoWord(r) => {
+                return OwnScan::NoNode(r);
             }
         }
     }
@@ -438,6 +472,9 @@ fn own_names(
         (headOfPath (namesPath (nameCount (now (pairs .entry))) (now (words .entry)) path)) r
         × Known (now (pairs .entry)) (now (text .entry)) (now (known .exit)) ⌝ }
 {
+    if ask == 0 {
+        return unjudged_names(words, pairs, text, path);
+    }
     let start = path.start;
     let end = start + path.count as usize;
     let i = known_to(words, pairs, text, known, start, end);
@@ -598,10 +635,12 @@ fn own_both(at: usize, ask: u64) -> OwnScan
     own_node(at, ask, 3, 5)
 }
 
-// An array's size, as `ask` asks it to be. A name that is sound is a sound size.
-fn size_fits(pairs: &[u32], text: &[u8], known: &[u16; 64], size: u32, ask: u64) -> bool
+// An array's size, as `ask` asks it to be. A name that is sound is a sound size, so it is first tried as a name, which keeps it; that there is no such
+// name cannot come, since the size was read below the bound.
+fn size_fits(pairs: &[u32], text: &[u8], known: &mut [u16; 64], size: u32, ask: u64) -> bool
     requires { ⌜ (size < nameCount (now pairs) + 1) × Ready (now pairs) (now text) × Known (now pairs) (now text) (now known) ⌝ }
-    ensures { λ r. ⌜ r ≡ unlessJudged ask (soundSize (sizeOf (nameBytes (now (pairs .entry)) (now (text .entry))) size)) ⌝ }
+    ensures { λ r. ⌜ (r ≡ unlessJudged ask (soundSize (sizeOf (nameBytes (now (pairs .entry)) (now (text .entry))) size)))
+        × Known (now (pairs .entry)) (now (text .entry)) (now (known .exit)) ⌝ }
 {
     if ask == 0 {
         return true;
@@ -612,7 +651,11 @@ fn size_fits(pairs: &[u32], text: &[u8], known: &[u16; 64], size: u32, ask: u64)
     if is_known(known, size - 1) {
         return true;
     }
-    sound_size(pairs, text, size)
+    match check_new(pairs, text, known, size - 1) {
+        NameCheck::Fine => true,
+        NameCheck::Poor => sound_size(pairs, text, size),
+        NameCheck::NoName => false,
+    }
 }
 
 // An array's head.
@@ -620,14 +663,15 @@ fn own_array(
     words: &[u32],
     pairs: &[u32],
     text: &[u8],
-    known: &[u16; 64],
+    known: &mut [u16; 64],
     bound: usize,
     at: usize,
     ask: u64,
 ) -> OwnScan
     requires { ⌜ (bound ≡ nameCount (now pairs)) × Ready (now pairs) (now text) × Known (now pairs) (now text) (now known) ⌝ }
     ensures { λ r. ⌜ Scanned (now (words .entry)) (now (pairs .entry)) (now (text .entry)) ask
-        (worded ArrayOf (readBelow (bound + 1) (now (words .entry)) at)) r ⌝ }
+        (worded ArrayOf (readBelow (bound + 1) (now (words .entry)) at)) r
+        × Known (now (pairs .entry)) (now (text .entry)) (now (known .exit)) ⌝ }
 {
     match encoding::scan_below(words, bound + 1, at) {
         WordScan::Word { value, next } => {

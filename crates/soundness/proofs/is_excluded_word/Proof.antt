@@ -1,56 +1,50 @@
-use mathlib.Core.Path.{ap, _∙_}
-use lib.ListN.{getD}
-use Rattle.rast.specs.Bytes.{ascii, same}
-use Rattle.encoding.proofs.Names.{part-to}
-use Rattle.soundness.proofs.Names.{starts, lengths, letters, excluded-inside, excluded-part}
+use mathlib.Core.Path.{ap, sym, _∙_}
+use lib.ListN.{getD, take, drop}
+use Rattle.rast.specs.Bytes.{same}
+use Rattle.soundness.specs.Judging.{letters}
+use Rattle.encoding.proofs.Names.{same-apart}
+use Rattle.soundness.proofs.Names.{starts, lengths, excluded-inside, excluded-length, excluded-part}
 use native.Mathlib.Omega.{arith}
 use borrow.Author.Needs.{needs}
 use Rattle.soundness.proofs.is_excluded_word.Statement.{statement}
 use Rattle.soundness.proofs.is_excluded_word.Tie as tie
 
-array-read-start : tie.Need-array-read-start
-array-read-start c = search needs
+array-read-if1 : tie.Need-array-read-if1
+array-read-if1 c = search needs
 
-cast-start : tie.Need-cast-start
+cast-if1 : tie.Need-cast-if1
 unfolding starts lengths
-cast-start c = let h = excluded-inside (c .before .before .args .k) (search needs) in omega arith
-
-array-read-end : tie.Need-array-read-end
-array-read-end c = search needs
-
-cast-end : tie.Need-cast-end
-unfolding starts lengths
-cast-end c = let h = excluded-inside (c .before .before .args .k) (search needs) in omega arith
-
-add-end : tie.Need-add-end
-unfolding starts lengths
-add-end c = let h = excluded-inside (c .before .before .args .k) (search needs) in omega arith
-
-part-requires : tie.Need-part-requires
-unfolding starts lengths
-part-requires c κs =
-    let h = excluded-inside (c .before .before .before .args .k) (search needs) in
-    (omega arith, omega arith)
-
-same-bytes-requires : tie.Need-same-bytes-requires
-same-bytes-requires c κs = search needs
+cast-if1 c = let h = excluded-inside (c .before .args .k) (search needs) in omega arith
 
 returns : tie.Need-returns
-unfolding starts lengths letters ascii
-returns c =
-    let a = c .before .before .before .before .before .args in
-    let cut = c .before .part .ensures ∙ part-to letters (getD starts (a .k) 0) (getD lengths (a .k) 0) ∙ excluded-part (a .k) (search needs) in
-    c .same-bytes .ensures ∙ ap (same (a .bytes .now)) cut
+unfolding lengths
+returns c = sym (same-apart _ _ (λ e. c .if1 .taken (e ∙ excluded-length (c .before .before .args .k) (search needs))))
+
+array-read-stands-at : tie.Need-array-read-stands-at
+array-read-stands-at c = search needs
+
+cast-stands-at : tie.Need-cast-stands-at
+unfolding starts lengths
+cast-stands-at c = let h = excluded-inside (c .before .before .args .k) (search needs) in omega arith
+
+stands-at-requires : tie.Need-stands-at-requires
+unfolding starts lengths
+stands-at-requires c κs = let h = excluded-inside (c .before .before .args .k) (search needs) in omega arith
+
+returns-2 : tie.Need-returns-2
+unfolding starts lengths
+returns-2 c =
+    let a = c .before .before .before .args in
+    c .stands-at .ensures ∙ ap (same (a .bytes .now)) (ap (λ n. take n (drop (getD starts (a .k) 0) letters)) (c .before .if1 .left) ∙ excluded-part (a .k) (search needs))
 
 pub is-excluded-word-spec : {M : Type 1} → statement M
 is-excluded-word-spec =
     tie.close
     (tie.spec
-    array-read-start
-    cast-start
-    array-read-end
-    cast-end
-    add-end
-    part-requires
-    same-bytes-requires
-    returns)
+    array-read-if1
+    cast-if1
+    returns
+    array-read-stands-at
+    cast-stands-at
+    stands-at-requires
+    returns-2)

@@ -1,11 +1,11 @@
 use borrow.Author.Needs.{needs}
 use native.Mathlib.Omega.{arith}
 use Prim.Native.Nat.{_+_, _-_}
-use mathlib.Core.Path.{refl}
+use mathlib.Core.Path.{refl, _∙_}
 use Rattle.encoding.specs.Tables.{nameBytes, nameCount}
 use Rattle.encoding.proofs.Reading.{below-out, below-end}
 use Rattle.soundness.specs.Judging.{Known, Onward}
-use Rattle.soundness.proofs.Names.{was-fine, was-poor, was-no-name}
+use Rattle.soundness.proofs.Names.{judged-all, judged-sound, was-fine, was-poor, was-no-name}
 use Rattle.soundness.proofs.Paths.{onward-here, onward-then, onward-more, path-leaf, path-poor, path-stop}
 use Rattle.soundness.proofs.new_names.Statement.{statement}
 use Rattle.soundness.proofs.new_names.Tie as tie
@@ -57,7 +57,7 @@ loop-again : tie.Need-loop-again Inv-loop μ-loop
 loop-again c =
     let a = c .before .before .before .before .before .before .before .before .before .before .before .before .before .args in
     let f = was-fine (c .before .before .check-new .ensures .0) (c .enum-told .given .1) in
-    (onward-more (nameCount (a .pairs .now)) (a .words .now) (nameBytes (a .pairs .now) (a .text .now)) (a .ask) (a .start) (a .path .start + a .path .count) (c .before .before .before .before .before .before .before .loop .inv .0) (search needs) (search needs) (f .0) (f .1), c .before .before .check-new .ensures .1)
+    (onward-more (nameCount (a .pairs .now)) (a .words .now) (nameBytes (a .pairs .now) (a .text .now)) (a .ask) (a .start) (a .path .start + a .path .count) (c .before .before .before .before .before .before .before .loop .inv .0) (search needs) (search needs) (f .0) (judged-sound (a .ask) (f .1)), c .before .before .check-new .ensures .1)
 
 enum-told-2 : tie.Need-enum-told-2 Inv-loop μ-loop
 enum-told-2 c = search needs
@@ -66,7 +66,7 @@ returns-2 : tie.Need-returns-2 Inv-loop μ-loop
 returns-2 c =
     let a = c .before .before .before .before .before .before .before .before .before .before .before .before .before .args in
     let o = onward-then (nameCount (a .pairs .now)) (a .words .now) (nameBytes (a .pairs .now) (a .text .now)) (a .ask) (a .path .start) (a .path .start + a .path .count) (c .before .before .before .before .before .before .before .before .before .before .before .before .before .pre .2) (c .before .before .before .before .before .before .before .loop .inv .0) in
-    (path-poor (a .words .now) (a .pairs .now) (a .text .now) (a .ask) (a .path) (c .before .before .before .before .before .before .before .before .before .before .before .before .before .pre .3) o (search needs) (search needs) (was-poor (c .before .before .check-new .ensures .0) (c .enum-told2 .given .1)) refl, c .before .before .check-new .ensures .1)
+    (path-poor (a .words .now) (a .pairs .now) (a .text .now) (a .ask) (a .path) (c .before .before .before .before .before .before .before .before .before .before .before .before .before .pre .3) o (search needs) (search needs) (judged-all (c .before .before .before .before .before .before .before .before .before .before .before .before .before .pre .5) ∙ was-poor (c .before .before .check-new .ensures .0) (c .enum-told2 .given .1)) refl, c .before .before .check-new .ensures .1)
 
 enum-told-3 : tie.Need-enum-told-3 Inv-loop μ-loop
 enum-told-3 c = search needs

@@ -110,7 +110,7 @@ returns-11 : tie.Need-returns-11
 unfolding headAfter
 returns-11 c =
     let a = c .before .before .before .before .before .before .args in
-    (scanned-as (a .words .now) (a .pairs .now) (a .text .now) (a .ask) (rw (c .before .before .match .keys11)) (c .own-array .ensures), c .before .before .before .before .before .before .pre .4)
+    (scanned-as (a .words .now) (a .pairs .now) (a .text .now) (a .ask) (rw (c .before .before .match .keys11)) (c .own-array .ensures .0), c .own-array .ensures .1)
 
 returns-12 : tie.Need-returns-12
 unfolding headAfter wordsSound
