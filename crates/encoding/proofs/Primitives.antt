@@ -1,4 +1,4 @@
--- Laws of the plain types' texts, which stand one behind the other in one byte string, each found by a computed test.
+-- Laws of the plain types' texts, which stand in one byte string, each found by a computed test.
 use Prim.Native.Nat.{ℕ, _+_, _≤_, _<_}
 use mathlib.Core.Path.{_≡_, refl}
 use mathlib.Core.List.{List, [], _∷_}
@@ -11,15 +11,15 @@ use Rattle.rast.specs.ToString.{Primitive·ToString}
 use Rattle.encoding.specs.Types.{primitives}
 use Rattle.encoding.proofs.Tables.{everyBelow, every-at, same-eq}
 
--- by their kinds, and where the last one ends
+-- by their kinds
 unfoldable pub plainStarts : List ℕ
-plainStarts = 0 ∷ 2 ∷ 5 ∷ 8 ∷ 11 ∷ 15 ∷ 17 ∷ 20 ∷ 23 ∷ 26 ∷ 30 ∷ 35 ∷ 39 ∷ []
+plainStarts = 9 ∷ 13 ∷ 16 ∷ 19 ∷ 36 ∷ 11 ∷ 22 ∷ 25 ∷ 28 ∷ 5 ∷ 0 ∷ 32 ∷ []
 
 unfoldable pub plainLengths : List ℕ
 plainLengths = 2 ∷ 3 ∷ 3 ∷ 3 ∷ 4 ∷ 2 ∷ 3 ∷ 3 ∷ 3 ∷ 4 ∷ 5 ∷ 4 ∷ []
 
 unfoldable pub plainLetters : Bytes
-plainLetters = ascii "u8u16u32u64u128i8i16i32i64i128usizebool"
+plainLetters = ascii "usizei128u8i8u16u32u64i16i32i64 boolu128"
 
 pub plain-length : (w : ℕ) → w < 12 → getD plainLengths w 0 ≡ length (Primitive·ToString (getD primitives w U8))
 unfolding everyBelow plainLengths primitives Primitive·ToString ascii _and_
@@ -31,18 +31,12 @@ pub plain-short : (w : ℕ) → w < 12 → getD plainLengths w 0 ≤ 5
 unfolding everyBelow plainLengths _and_
 plain-short w h = leb-true (getD plainLengths w 0) 5 (every-at (λ i. leb (getD plainLengths i 0) 5) 12 refl w h)
 
--- each ends where the next one starts
-pub plain-next : (w : ℕ) → w < 12 → getD plainStarts (w + 1) 0 ≡ getD plainStarts w 0 + length (Primitive·ToString (getD primitives w U8))
-unfolding everyBelow plainStarts primitives Primitive·ToString ascii _and_
-plain-next w h =
-    eqb-true (getD plainStarts (w + 1) 0) (getD plainStarts w 0 + length (Primitive·ToString (getD primitives w U8)))
-    (every-at (λ i. eqb (getD plainStarts (i + 1) 0) (getD plainStarts i 0 + length (Primitive·ToString (getD primitives i U8)))) 12 refl w h)
-
-pub plain-inside : (w : ℕ) → w < 12 → getD plainStarts w 0 + length (Primitive·ToString (getD primitives w U8)) ≤ 39
+-- each lies within the letters
+pub plain-inside : (w : ℕ) → w < 12 → getD plainStarts w 0 + length (Primitive·ToString (getD primitives w U8)) ≤ 40
 unfolding everyBelow plainStarts primitives Primitive·ToString ascii _and_
 plain-inside w h =
-    leb-true (getD plainStarts w 0 + length (Primitive·ToString (getD primitives w U8))) 39
-    (every-at (λ i. leb (getD plainStarts i 0 + length (Primitive·ToString (getD primitives i U8))) 39) 12 refl w h)
+    leb-true (getD plainStarts w 0 + length (Primitive·ToString (getD primitives w U8))) 40
+    (every-at (λ i. leb (getD plainStarts i 0 + length (Primitive·ToString (getD primitives i U8))) 40) 12 refl w h)
 
 pub plain-part : (w : ℕ) → w < 12
     → take (length (Primitive·ToString (getD primitives w U8))) (drop (getD plainStarts w 0) plainLetters) ≡ Primitive·ToString (getD primitives w U8)

@@ -57,13 +57,13 @@ every-at f (suc n) e k h = go (ℕ-discrete k n) (every-at f n (and-right (f n) 
     go (no p) below = below (omega arith)
 
 unfoldable pub starts : List ℕ
-starts = 0 ∷ 0 ∷ 3 ∷ 5 ∷ 7 ∷ 11 ∷ 14 ∷ 19 ∷ 22 ∷ 25 ∷ 36 ∷ 49 ∷ 55 ∷ 58 ∷ 70 ∷ 71 ∷ []
+starts = 0 ∷ 48 ∷ 72 ∷ 70 ∷ 12 ∷ 51 ∷ 43 ∷ 54 ∷ 57 ∷ 32 ∷ 16 ∷ 64 ∷ 29 ∷ 0 ∷ 74 ∷ 60 ∷ []
 
 unfoldable pub lengths : List ℕ
 lengths = 0 ∷ 3 ∷ 2 ∷ 2 ∷ 4 ∷ 3 ∷ 5 ∷ 3 ∷ 3 ∷ 11 ∷ 13 ∷ 6 ∷ 3 ∷ 12 ∷ 1 ∷ 4 ∷ []
 
 unfoldable pub letters : Bytes
-letters = ascii "stdrcRcsyncArcboxedBoxmemMaybeUninitdafny_runtimeObjectPtrMaybePlacebo_self"
+letters = ascii "MaybePlacebosyncdafny_runtimePtrMaybeUninitboxedstdArcBoxmemselfObjectRcrc_"
 
 pub fixed-part : (k : ℕ) → k < 16 → take (getD lengths k 0) (drop (getD starts k 0) letters) ≡ getD fixedNames k []
 unfolding everyBelow same starts lengths letters fixedNames ascii _and_

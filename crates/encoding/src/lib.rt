@@ -116,8 +116,9 @@ pub fn check_call(words: &[u32], pairs: &[u32], text: &[u8], level: u32) -> Chec
     }
 }
 
-// The sixteen fixed names stand one behind the other in `fixed_names`: where each starts, and how long it is.
-const STARTS: [u8; 16] = [0, 0, 3, 5, 7, 11, 14, 19, 22, 25, 36, 49, 55, 58, 70, 71];
+// The sixteen fixed names stand one behind the other in `fixed_names`: where each starts, and how long it is. The string is laid out in pieces of 16, 8, 2 and 1
+// bytes, and their order is such that each name lies in one piece: a load over two pieces that were just stored would wait for both.
+const STARTS: [u8; 16] = [0, 48, 72, 70, 12, 51, 43, 54, 57, 32, 16, 64, 29, 0, 74, 60];
 
 const LENGTHS: [u8; 16] = [0, 3, 2, 2, 4, 3, 5, 3, 3, 11, 13, 6, 3, 12, 1, 4];
 
@@ -151,7 +152,7 @@ pub fn fixed_names() -> FixedNames
     ensures { λ r. ⌜ HoldsNames (r .letters) (r .starts) (r .lengths) ⌝ }
 {
     FixedNames {
-        letters: *b"stdrcRcsyncArcboxedBoxmemMaybeUninitdafny_runtimeObjectPtrMaybePlacebo_self",
+        letters: *b"MaybePlacebosyncdafny_runtimePtrMaybeUninitboxedstdArcBoxmemselfObjectRcrc_",
         starts: STARTS,
         lengths: LENGTHS,
     }

@@ -1,8 +1,9 @@
 -- The text of a field's name and type, by the case that the code takes.
-use Prim.Native.Nat.{ℕ, _+_}
+use Prim.Native.Nat.{ℕ, _+_, _<_}
 use mathlib.Core.Path.{_≡_, refl, ap, sym, _∙_, subst}
 use mathlib.Core.Bool.{Bool, true, false}
 use mathlib.Core.List.{List, [], _++_, append-assoc}
+use native.Mathlib.Omega.{arith}
 use lib.ListN.{length, getD}
 use Rattle.rast.specs.Bytes.{Bytes, ascii, same, _and_}
 use Rattle.rast.specs.Tree.{Ty, TIdentifier}
@@ -11,14 +12,14 @@ use Rattle.rast.specs.Declaration.{Formal}
 use Rattle.rast.specs.DeclarationToString.{Expand, isSelfOwned, isSelfBorrowed, isSelfBorrowedMut, isUnderscore, Formal·ToString}
 use Rattle.output.specs.Wrote.{Wrote}
 use Rattle.output.specs.Laid.{Laid, clamp}
-use Rattle.output.proofs.Passes.{laid-wrote}
+use Rattle.output.proofs.Passes.{laid-wrote, laid-counted}
 use Rattle.encoding.specs.declared.Refusal.{Refusal}
 use Rattle.encoding.specs.Refusals.{pick}
 use Rattle.encoding.specs.Reading.{Reading, got, stop, _>>=_, mapReading, readBelow}
-use Rattle.encoding.specs.Tables.{nameBytes, nameCount}
+use Rattle.encoding.specs.Tables.{Good, nameBytes, nameCount, nameLength}
 use Rattle.encoding.specs.Types.{typeAt}
 use Rattle.encoding.specs.Declarations.{readName, readFormal}
-use Rattle.encoding.proofs.Tables.{impossible}
+use Rattle.encoding.proofs.Tables.{impossible, name-length}
 use Rattle.encoding.proofs.Types.{bind-got}
 use Rattle.encoding.proofs.Inside.{below-there}
 use Rattle.writing.specs.declared.Spot.{Spot}
@@ -27,7 +28,7 @@ use Rattle.writing.specs.declared.Part.the-variants.{Rest, Done}
 use Rattle.writing.specs.Written.{Readable}
 use Rattle.laying.specs.Passes.{last, _then_, run, Ready, Came, Along}
 use Rattle.laying.specs.Texts.{typeTextAt}
-use Rattle.laying.proofs.Passes.{Runs, ReadyChain, came-bytes, counts-bytes, ready-runs, ready-last, ready-next, went-runs, went-last, went-then}
+use Rattle.laying.proofs.Passes.{Runs, ReadyChain, came-bytes, counts-bytes, ready-count, ready-runs, ready-last, ready-next, went-runs, went-last, went-then}
 use Rattle.laying.proofs.Splits.{map-got, map-made}
 use Rattle.formal.specs.declared.Label.{Label}
 use Rattle.formal.specs.declared.Label.the-variants.{Open, Whole, NoLabel}
@@ -166,6 +167,17 @@ module _ (ws pairs : List ℕ) (text : Bytes) (x at : ℕ) where
     ready = ready-last (ready-next (ready-next (typed-chain r) (came-bytes at k)) (came-bytes at l));
     ends = λ o″ a w. went-runs typed-runs (went-then (came-bytes at k) (went-then (came-bytes at l) (went-last w)));
   }
+
+  -- both are counted at once, by the name's length
+  pub typed-counted : {l pos q : ℕ} → Good pairs text → x < nameCount pairs → l ≡ nameLength pairs x → clamp q ≡ clamp (pos + (l + 2))
+      → Along false [] pos (typedAt ws pairs text x at) [] q (typeTextAt ws pairs text at)
+  unfolding ascii
+  typed-counted {l} {pos} {q} good h n c =
+      let name = nameBytes pairs text x in
+      let m : l ≡ length name = n ∙ sym (name-length pairs text x good h) in
+      let e : pos + (l + 2) ≡ pos + length name + 2 = omega (arith, m) in
+      let first : Laid false [] pos name [] (pos + length name) = laid-counted refl refl in
+      typed-along ready-count first (laid-counted refl (c ∙ ap clamp e))
 
 -- ---- a field that was accepted
 

@@ -3,7 +3,9 @@
 ghost use Rattle.rast.specs.DeclarationToString.{isSelfOwned};
 ghost use Rattle.encoding.specs.Tables.{Good, nameBytes, nameCount};
 ghost use Rattle.encoding.specs.Types.{typeAt};
-ghost use Rattle.writing.specs.Written.{Readable, EndsAt};
+ghost use Rattle.measure.specs.declared.Measure.the-variants.{Measured};
+ghost use Rattle.measure.specs.Lengths.{measureOf};
+ghost use Rattle.writing.specs.Written.{Readable};
 ghost use Rattle.wrappers.specs.Asked.{Judges};
 ghost use mathlib.Core.Path.{_≡_};
 ghost use mathlib.Core.Bool.{true, false};
@@ -135,17 +137,39 @@ fn count_typed(words: &[u32], pairs: &[u32], text: &[u8], name: u32, at: usize, 
     count_open(words, pairs, text, name, at, pos)
 }
 
-// A field named `self`, whose type was accepted and ends at `end`.
+// A name and the type behind it, which was measured: it ends at `end`, and its text has `bytes` bytes.
+fn count_measured(
+    words: &[u32],
+    pairs: &[u32],
+    text: &[u8],
+    name: u32,
+    end: usize,
+    bytes: usize,
+    at: usize,
+    pos: usize,
+) -> Label
+    requires { ⌜ Checked (now words) (now pairs) (now text) × (name < nameCount (now pairs)) × (Measured end bytes ≡ measureOf (typeAt (now words) (now pairs) (now text) at)) ⌝ }
+    ensures { λ r. ⌜ Labelled (typeTextAt (now (words .entry)) (now (pairs .entry)) (now (text .entry))) pos (typedAt (now (words .entry)) (now (pairs .entry)) (now (text .entry)) name at) r ⌝ }
+{
+    let open = output::count_few(pos, encoding::name_length(pairs, name) + 2);
+    Label::Whole {
+        next: end,
+        pos: output::count_on(open, bytes),
+    }
+}
+
+// A field named `self`, whose type was measured.
 fn count_receiver(
     words: &[u32],
     pairs: &[u32],
     text: &[u8],
     name: u32,
     end: usize,
+    bytes: usize,
     at: usize,
     pos: usize,
 ) -> Label
-    requires { ⌜ Checked (now words) (now pairs) (now text) × (name < nameCount (now pairs)) × (same (nameBytes (now pairs) (now text) name) (ascii "self") ≡ true) × EndsAt (typeAt (now words) (now pairs) (now text) at) end ⌝ }
+    requires { ⌜ Checked (now words) (now pairs) (now text) × (name < nameCount (now pairs)) × (same (nameBytes (now pairs) (now text) name) (ascii "self") ≡ true) × (Measured end bytes ≡ measureOf (typeAt (now words) (now pairs) (now text) at)) ⌝ }
     ensures { λ r. ⌜ Labelled (typeTextAt (now (words .entry)) (now (pairs .entry)) (now (text .entry))) pos (formalOf (now (words .entry)) (now (pairs .entry)) (now (text .entry)) name at) r ⌝ }
 {
     match self_form(words, pairs, text, at) {
@@ -161,22 +185,23 @@ fn count_receiver(
             next: end,
             pos: output::count_few(pos, encoding::name_length(pairs, name) + 5),
         },
-        Receiver::Typed => count_open(words, pairs, text, name, at, pos),
+        Receiver::Typed => count_measured(words, pairs, text, name, end, bytes, at, pos),
     }
 }
 
-// A field named `self`. Its type is read before it is looked at.
+// A field named `self`. Its type is measured before it is looked at, and not again where it shows.
 fn count_self(words: &[u32], pairs: &[u32], text: &[u8], name: u32, at: usize, pos: usize) -> Label
     requires { ⌜ Checked (now words) (now pairs) (now text) × (name < nameCount (now pairs)) × (same (nameBytes (now pairs) (now text) name) (ascii "self") ≡ true) ⌝ }
     ensures { λ r. ⌜ Labelled (typeTextAt (now (words .entry)) (now (pairs .entry)) (now (text .entry))) pos (formalOf (now (words .entry)) (now (pairs .entry)) (now (text .entry)) name at) r ⌝ }
 {
     match measure::measure_type(words, pairs, text, at) {
-        Measure::Measured { next, bytes: _ } => count_receiver(
+        Measure::Measured { next, bytes } => count_receiver(
             words,
             pairs,
             text,
             name,
             next,
+            bytes,
             at,
             pos,
         ),

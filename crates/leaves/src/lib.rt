@@ -13,18 +13,18 @@ ghost use Rattle.leaves.specs.Texts.{memberText, endText, twoBytes, HasE
 use encoding::FixedNames;
 use encoding::PathAt;
 
-// Where the plain types' texts stand in the byte string below, by their kinds; each ends where the next one starts.
-const STARTS: [u8; 13] = [0, 2, 5, 8, 11, 15, 17, 20, 23, 26, 30, 35, 39];
+// Where the plain types' texts stand in the byte string below, by their kinds. It is laid out in pieces of 16, 16 and 8 bytes, and each text lies in one of them,
+// as with the fixed names (`encoding`).
+const STARTS: [u8; 12] = [9, 13, 16, 19, 36, 11, 22, 25, 28, 5, 0, 32];
 
 // No jump to one of twelve strings: which of them comes next is hard to foresee.
 pub fn put_primitive(kind: u32, out: &mut [u8], pos: usize) -> usize
     requires { ⌜ (kind < 12) × (pos + length (Primitive·ToString (getD primitives kind U8)) ≤ length (now out)) ⌝ }
     ensures { λ r. ⌜ Wrote (now (out .entry)) pos (Primitive·ToString (getD primitives kind U8)) (now (out .exit)) r ⌝ }
 {
-    let all = b"u8u16u32u64u128i8i16i32i64i128usizebool";
+    let all = b"usizei128u8i8u16u32u64i16i32i64 boolu128";
     let start = STARTS[kind as usize] as usize;
-    let end = STARTS[kind as usize + 1] as usize;
-    output::put_few(all, start, end - start, out, pos)
+    output::put_few(all, start, encoding::primitive_length(kind), out, pos)
 }
 
 // A text of two to four letters: their number, the first two and the last two, each two as one number with the first letter low.

@@ -75,18 +75,14 @@ part-wrote l start count h e = record { bytes = e; next = rw (part-length l star
 part-split : (l : List ℕ) (start a b : ℕ) → take (a + b) (drop start l) ≡ take a (drop start l) ++ take b (drop (start + a) l)
 part-split l start a b = take-add a b (drop start l) ∙ rw (drop-drop a start l)
 
--- a part whose front was written, and then its last n bytes
-pub part-then : (l : List ℕ) (start count n : ℕ) {o o′ o″ : List ℕ} {p p′ : ℕ} → n ≤ count → start + count ≤ length l
-    → Wrote o p (take (count - n) (drop start l)) o′ p′ → o″ ≡ sets o′ p′ (take n (drop (start + (count - n)) l)) → Wrote o p (take count (drop start l)) o″ (p′ + n)
-part-then l start count n h k w e =
-    let c : count - n + n ≡ count = omega arith in
-    let whole : take (count - n) (drop start l) ++ take n (drop (start + (count - n)) l) ≡ take count (drop start l) =
-    sym (part-split l start (count - n) n) ∙ ap (λ (m : ℕ). take m (drop start l)) c in
-    wrote-as whole (wrote-then w (part-wrote l (start + (count - n)) n (omega arith) e))
-
--- and where its front ends
-pub part-end : (l : List ℕ) (start count : ℕ) {o o′ : List ℕ} {p p′ : ℕ} → start + count ≤ length l → Wrote o p (take count (drop start l)) o′ p′ → p′ ≡ p + count
-part-end l start count {p = p} h w = w .next ∙ ap (_+_ p) (part-length l start count h)
+-- a part whose first n bytes were copied, and then the rest
+pub part-rest : (l : List ℕ) (start count n : ℕ) {o o′ o″ : List ℕ} {p p″ : ℕ} → n ≤ count → start + count ≤ length l
+    → o′ ≡ sets o p (take n (drop start l)) → Wrote o′ (p + n) (take (count - n) (drop (start + n) l)) o″ p″ → Wrote o p (take count (drop start l)) o″ p″
+part-rest l start count n h k e w =
+    let c : n + (count - n) ≡ count = omega arith in
+    let whole : take n (drop start l) ++ take (count - n) (drop (start + n) l) ≡ take count (drop start l) =
+    sym (part-split l start n (count - n)) ∙ ap (λ (m : ℕ). take m (drop start l)) c in
+    wrote-as whole (wrote-then (part-wrote l start n (omega arith) e) w)
 
 -- ---- bytes that are written twice
 

@@ -73,21 +73,20 @@ pub fn put_few(bytes: &[u8], start: usize, count: usize, out: &mut [u8], pos: us
     pos + count
 }
 
-// The same, for a long run: more than a chunk as all but the last chunk, and that. What calls itself is not inlined, so that a caller with a short run
-// saves no registers for a long one.
+// The same, for a long run: one of more than a chunk as its first chunk, and the rest. What calls itself is not inlined, so that a caller with a short run
+// saves no registers for a long one. The call stands last, so that only the end is kept while a chunk is moved.
 fn put_long(bytes: &[u8], start: usize, count: usize, out: &mut [u8], pos: usize) -> usize
     requires { ⌜ (start + count ≤ length (now bytes)) × (pos + count ≤ length (now out)) ⌝ }
     ensures { λ r. ⌜ Wrote (now (out .entry)) pos (take count (drop start (now (bytes .entry)))) (now (out .exit)) r ⌝ }
 {
     if count <= CHUNK {
+        let end = pos + count;
         copy_chunk(bytes, start, count, out, pos);
-        return pos + count;
+        return end;
     }
     let all = bytes;
-    let front = count - CHUNK;
-    let p = put_long(all, start, front, out, pos);
-    copy_chunk(all, start + front, CHUNK, out, p);
-    p + CHUNK
+    copy(all, start, CHUNK, out, pos);
+    put_long(all, start + CHUNK, count - CHUNK, out, pos + CHUNK)
 }
 
 // The same, for any count. Most runs are names, and short. The slice is copied for a long run alone.

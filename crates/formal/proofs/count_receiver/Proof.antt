@@ -1,20 +1,25 @@
 use Prim.Native.Nat.{ℕ, _+_}
 use Rattle.encoding.proofs.Tables.{name-length}
 use Rattle.encoding.specs.Tables.{nameBytes}
+use Rattle.encoding.specs.Types.{typeAt}
 use Rattle.formal.proofs.Texts.{label-bytes, labelled-as, receiver-text, receiverText, self-and-type}
 use Rattle.measure.proofs.Lengths.{name-fits}
+use Rattle.measure.proofs.Measured.{measured-got}
 use Rattle.output.specs.Laid.{clamp}
 use Rattle.rast.specs.Bytes.{ascii}
 use lib.ListN.{length}
 use mathlib.Core.List.{_++_}
-use mathlib.Core.Path.{_∙_, _≡_, ap, sym}
+use mathlib.Core.Path.{_∙_, _≡_, ap, refl, sym}
 use native.Mathlib.Omega.{arith}
 use borrow.Author.Needs.{needs}
 use Rattle.formal.proofs.count_receiver.Statement.{statement}
 use Rattle.formal.proofs.count_receiver.Tie as tie
 
 self-form-requires : tie.Need-self-form-requires
-self-form-requires c κs = search needs
+self-form-requires c κs =
+    let start = c .before .before .before in
+    let m = measured-got (typeAt (start .args .words .now) (start .args .pairs .now) (start .args .text .now) (start .args .at)) (start .pre .3) refl in
+    (start .pre .0 .good, record { value = m .value; end = start .args .end; reads = m .reads })
 
 enum-told : tie.Need-enum-told
 enum-told c = search needs
@@ -62,42 +67,46 @@ count-few-requires-3 c κs =
 enum-told-4 : tie.Need-enum-told-4
 enum-told-4 c = search needs
 
-count-open-requires : tie.Need-count-open-requires
-count-open-requires c κs = search needs
+count-measured-requires : tie.Need-count-measured-requires
+count-measured-requires c κs = search needs
 
 returns : tie.Need-returns
 unfolding receiverText
 returns c =
     let start = c .before .before .before .before .before .before .before .before in
+    let m = measured-got (typeAt (start .args .words .now) (start .args .pairs .now) (start .args .text .now) (start .args .at)) (start .pre .3) refl in
     let n = c .before .name-length .ensures ∙ sym (name-length (start .args .pairs .now) (start .args .text .now) (start .args .name) (start .pre .0 .good) (start .pre .1)) in
-    let e = receiver-text (start .args .words .now) (start .args .pairs .now) (start .args .text .now) (start .args .name) (start .args .at) (start .pre .2) (start .pre .3 .reads) (sym (c .before .before .enum-told .given .1) ∙ c .before .before .before .before .self-form .ensures .says _ _ (start .pre .3 .reads)) in
+    let e = receiver-text (start .args .words .now) (start .args .pairs .now) (start .args .text .now) (start .args .name) (start .args .at) (start .pre .2) (m .reads) (sym (c .before .before .enum-told .given .1) ∙ c .before .before .before .before .self-form .ensures .says _ _ (m .reads)) in
     label-bytes e (c .count-few .ensures ∙ ap (λ (x : ℕ). clamp (start .args .pos + x)) n)
 
 returns-2 : tie.Need-returns-2
 unfolding receiverText ascii
 returns-2 c =
     let start = c .before .before .before .before .before .before .before .before in
+    let m = measured-got (typeAt (start .args .words .now) (start .args .pairs .now) (start .args .text .now) (start .args .at)) (start .pre .3) refl in
     let n = c .before .name-length2 .ensures ∙ sym (name-length (start .args .pairs .now) (start .args .text .now) (start .args .name) (start .pre .0 .good) (start .pre .1)) in
-    let e = receiver-text (start .args .words .now) (start .args .pairs .now) (start .args .text .now) (start .args .name) (start .args .at) (start .pre .2) (start .pre .3 .reads) (sym (c .before .before .enum-told2 .given .1) ∙ c .before .before .before .before .self-form .ensures .says _ _ (start .pre .3 .reads)) in
+    let e = receiver-text (start .args .words .now) (start .args .pairs .now) (start .args .text .now) (start .args .name) (start .args .at) (start .pre .2) (m .reads) (sym (c .before .before .enum-told2 .given .1) ∙ c .before .before .before .before .self-form .ensures .says _ _ (m .reads)) in
     let b = nameBytes (start .args .pairs .now) (start .args .text .now) (start .args .name) in
-    let m : c .before .name-length2 .result + 1 ≡ length (ascii "&" ++ b) = omega (arith, n) in
-    label-bytes e (c .count-few2 .ensures ∙ ap (λ (x : ℕ). clamp (start .args .pos + x)) m)
+    let l : c .before .name-length2 .result + 1 ≡ length (ascii "&" ++ b) = omega (arith, n) in
+    label-bytes e (c .count-few2 .ensures ∙ ap (λ (x : ℕ). clamp (start .args .pos + x)) l)
 
 returns-3 : tie.Need-returns-3
 unfolding receiverText ascii
 returns-3 c =
     let start = c .before .before .before .before .before .before .before .before in
+    let m = measured-got (typeAt (start .args .words .now) (start .args .pairs .now) (start .args .text .now) (start .args .at)) (start .pre .3) refl in
     let n = c .before .name-length3 .ensures ∙ sym (name-length (start .args .pairs .now) (start .args .text .now) (start .args .name) (start .pre .0 .good) (start .pre .1)) in
-    let e = receiver-text (start .args .words .now) (start .args .pairs .now) (start .args .text .now) (start .args .name) (start .args .at) (start .pre .2) (start .pre .3 .reads) (sym (c .before .before .enum-told3 .given .1) ∙ c .before .before .before .before .self-form .ensures .says _ _ (start .pre .3 .reads)) in
+    let e = receiver-text (start .args .words .now) (start .args .pairs .now) (start .args .text .now) (start .args .name) (start .args .at) (start .pre .2) (m .reads) (sym (c .before .before .enum-told3 .given .1) ∙ c .before .before .before .before .self-form .ensures .says _ _ (m .reads)) in
     let b = nameBytes (start .args .pairs .now) (start .args .text .now) (start .args .name) in
-    let m : c .before .name-length3 .result + 5 ≡ length (ascii "&mut " ++ b) = omega (arith, n) in
-    label-bytes e (c .count-few3 .ensures ∙ ap (λ (x : ℕ). clamp (start .args .pos + x)) m)
+    let l : c .before .name-length3 .result + 5 ≡ length (ascii "&mut " ++ b) = omega (arith, n) in
+    label-bytes e (c .count-few3 .ensures ∙ ap (λ (x : ℕ). clamp (start .args .pos + x)) l)
 
 returns-4 : tie.Need-returns-4
 returns-4 c =
     let start = c .before .before .before .before .before .before .before in
-    let e = self-and-type (start .args .words .now) (start .args .pairs .now) (start .args .text .now) (start .args .name) (start .args .at) (start .pre .2) (start .pre .3 .reads) (sym (c .before .enum-told4 .given .1) ∙ c .before .before .before .self-form .ensures .says _ _ (start .pre .3 .reads)) in
-    labelled-as (sym e) (c .count-open .ensures)
+    let m = measured-got (typeAt (start .args .words .now) (start .args .pairs .now) (start .args .text .now) (start .args .at)) (start .pre .3) refl in
+    let e = self-and-type (start .args .words .now) (start .args .pairs .now) (start .args .text .now) (start .args .name) (start .args .at) (start .pre .2) (m .reads) (sym (c .before .enum-told4 .given .1) ∙ c .before .before .before .self-form .ensures .says _ _ (m .reads)) in
+    labelled-as (sym e) (c .count-measured .ensures)
 
 pub count-receiver-spec : {M : Type 1} → statement M
 count-receiver-spec =
@@ -116,7 +125,7 @@ count-receiver-spec =
     add-count-few-2
     count-few-requires-3
     enum-told-4
-    count-open-requires
+    count-measured-requires
     returns
     returns-2
     returns-3

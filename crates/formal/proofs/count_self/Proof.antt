@@ -1,7 +1,8 @@
 use Rattle.encoding.specs.Types.{typeAt}
 use Rattle.formal.specs.Labels.{unread}
 use Rattle.laying.proofs.Splits.{map-stop}
-use Rattle.measure.proofs.Measured.{measured-got, measured-stop}
+use Rattle.measure.proofs.Measured.{measured-stop}
+use mathlib.Core.Path.{sym, _∙_}
 use borrow.Author.Needs.{needs}
 use Rattle.formal.proofs.count_self.Statement.{statement}
 use Rattle.formal.proofs.count_self.Tie as tie
@@ -15,8 +16,7 @@ enum-known-next c = search needs
 count-receiver-requires : tie.Need-count-receiver-requires
 count-receiver-requires c κs =
     let start = c .before .before .before .before .before .before .before in
-    let m = measured-got (typeAt (start .args .words .now) (start .args .pairs .now) (start .args .text .now) (start .args .at)) (c .before .before .before .measure-type .ensures) (c .before .next .given .1) in
-    (start .pre .0, start .pre .1, start .pre .2, record { value = m .value; reads = m .reads })
+    (start .pre .0, start .pre .1, start .pre .2, sym (c .before .next .given .1) ∙ c .before .before .before .measure-type .ensures)
 
 enum-known-r : tie.Need-enum-known-r
 enum-known-r c = search needs
