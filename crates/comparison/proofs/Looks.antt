@@ -9,9 +9,9 @@ use lib.Dec.{eqb, ltb}
 use borrow.Author.Tests.{eq-eqb, ne-eqb, lt-ltb, le-ltb}
 use lib.ListN.{length, getD, take, drop}
 use Rattle.rast.specs.Bytes.{Bytes, same, _and_}
+use Rattle.rast.proofs.BytesLaws.{and-false, and-no, and-yes, same-self}
 use Rattle.encoding.specs.Refusals.{pick}
 use Rattle.encoding.specs.Tables.{nameBytes}
-use Rattle.encoding.proofs.Names.{and-false, and-no, and-yes}
 use Rattle.encoding.proofs.Tables.{impossible}
 use Rattle.comparison.specs.declared.Due.{Due}
 use Rattle.comparison.specs.declared.Due.the-variants.{Kind, Exact, Sized, Root, Count, Names}
@@ -19,7 +19,7 @@ use Rattle.comparison.specs.declared.Look.{Look}
 use Rattle.comparison.specs.declared.Look.the-variants.{Same, Apart, Unclear}
 use Rattle.comparison.specs.Runs.{after, afterKind, agrees, sameRuns}
 use Rattle.comparison.specs.Looks.{apart, alike, looks, toldApart, mayAgree}
-use Rattle.comparison.proofs.Steps.{same-self, fixed-apart, take-word}
+use Rattle.comparison.proofs.Steps.{fixed-apart, take-word}
 
 -- ---- two words
 

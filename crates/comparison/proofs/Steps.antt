@@ -7,22 +7,18 @@ use native.Mathlib.Omega.{arith}
 use native.Mathlib.Numerals.{add-one}
 use native.Mathlib.Decide.{ℕ-discrete}
 use lib.Dec.{eqb, leb}
-use borrow.Author.Tests.{eq-eqb, ne-eqb, leb-true}
+use borrow.Author.Tests.{ne-eqb, leb-true}
 use lib.ListN.{length, getD, take, drop}
 use lib.Seq.{drop-cons}
 use Rattle.rast.specs.Bytes.{Bytes, ascii, same, _and_}
+use Rattle.rast.proofs.BytesLaws.{and-false, and-no, and-yes}
 use Rattle.output.specs.Wrote.{Wrote}
 use Rattle.output.proofs.Laws.{wrote-front}
 use Rattle.encoding.specs.Tables.{fixedNames, nameBytes, nameCount, pairBytes}
 use Rattle.encoding.proofs.Tables.{name-fixed, name-pair, everyBelow, every-at}
-use Rattle.encoding.proofs.Names.{and-false, and-no, and-yes, fixed-same}
+use Rattle.encoding.proofs.Names.{fixed-same}
 use Rattle.comparison.specs.declared.Due.{Due}
 use Rattle.comparison.specs.Runs.{after, agrees, sameRuns}
-
-pub same-self : (a : Bytes) → same a a ≡ true
-unfolding same _and_
-same-self [] = refl
-same-self (x ∷ a) = rw (eq-eqb x x refl) (same-self a)
 
 pub same-swap : (a b : Bytes) → same a b ≡ same b a
 unfolding same

@@ -12,31 +12,17 @@ use lib.ListN.{length, getD, take, drop, replicate, length-drop, drop-of-length-
 use lib.Seq.{drop-cons}
 use Rattle.rast.specs.Bytes.{Bytes, ascii, _and_, _or_, same, begins}
 use Rattle.rast.specs.Doc.{isEmptyText, GatherSimpleQuotes}
+use Rattle.rast.proofs.BytesLaws.{and-left, and-right, and-true}
 use Rattle.doc.specs.Steps.{runOf, lineLength, Passed, Nearest, Fence, NoFence}
 
 pub impossible : {A : Type 0} → _≡_ {A = Bool} true false → A
 impossible e = absurd (let z : _≡_ {A = ℕ} 0 1 = cc in let y : ⊥ = omega arith in y)
-
-pub and-left : (a b : Bool) → a and b ≡ true → a ≡ true
-unfolding _and_
-and-left true b e = refl
-and-left false b e = e
-
-pub and-right : (a b : Bool) → a and b ≡ true → b ≡ true
-unfolding _and_
-and-right true b e = e
-and-right false b e = impossible (sym e)
 
 and-swap : (a b c : Bool) → (a and (b and c)) ≡ (b and (a and c))
 unfolding _and_
 and-swap true b c = refl
 and-swap false true c = refl
 and-swap false false c = refl
-
-and-true : (a : Bool) → (a and true) ≡ a
-unfolding _and_
-and-true true = refl
-and-true false = refl
 
 -- ---- what a text begins with
 
@@ -266,10 +252,6 @@ rust-test l i b h =
     regroup true true = refl
     regroup true false = refl
     regroup false y = refl
-
-pub rust-no-r : (a b : Bool) → a ≡ false → (a and b) ≡ false
-unfolding _and_
-rust-no-r a b e = rw e
 
 pub rust-no-s : (a b c : Bool) → b ≡ false → (a and (b and c)) ≡ false
 unfolding _and_
