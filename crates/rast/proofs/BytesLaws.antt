@@ -1,10 +1,16 @@
 -- Laws of the tests in specs/Bytes: a conjunction is taken apart, and put together; equal bytes.
+use Prim.Native.Nat.{ℕ}
 use mathlib.Core.Path.{_≡_, refl}
 use mathlib.Core.Bool.{Bool, true, false}
 use mathlib.Core.List.{[], _∷_}
+use native.Mathlib.Omega.{arith}
 use borrow.Author.Tests.{eq-eqb}
 use lib.Dec.{T}
 use Rattle.rast.specs.Bytes.{Bytes, _and_, same}
+
+-- yes is not no
+pub never : {A : Type 0} → true ≡ false → A
+never e = absurd (let z : _≡_ {A = ℕ} 0 1 = cc in let y : ⊥ = omega arith in y)
 
 pub and-both : (a b : Bool) → T (a and b) → T a × T b
 unfolding _and_
