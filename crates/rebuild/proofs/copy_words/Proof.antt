@@ -1,5 +1,4 @@
 use Prim.Native.Nat.{_+_, _-_, _<_, _≤_}
-use Rattle.measure.proofs.Steps.{start}
 use Rattle.rebuild.proofs.Growing.{copy-more}
 use Rattle.trees.specs.Encode.{count}
 use lib.ListN.{drop, length, length-set, take}
