@@ -1,6 +1,6 @@
 // One flat pass over the words of a type that accepts or refuses it, for those who ask for no text: the measuring pass without lengths.
 ghost use mathlib.Core.Path.{_≡_};
-ghost use Prim.Native.Nat.{_+_, _-_, _^_, _≤_, _<_};
+ghost use Prim.Native.Nat.{_-_, _^_, _≤_, _<_};
 ghost use lib.ListN.{length};
 ghost use Rattle.encoding.specs.Reading.{readWord, readBelow};
 ghost use Rattle.encoding.specs.Tables.{Good, nameBytes, nameCount};

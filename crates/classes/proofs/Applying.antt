@@ -8,8 +8,8 @@ use borrow.Author.Tests.{eq-eqb, ne-eqb, eqb-true}
 use lib.Dec.{eqb}
 use Rattle.rast.specs.Bytes.{Bytes, _and_}
 use Rattle.rast.specs.Tree.{Path, Ty, Tys, Primitive, TIdentifier, TypeFromPath, TypeApp, Borrowed, BorrowedMut, ImplType, DynType, TupleType, FnType, IntersectionType, Array, TSynonym, TMetaData, nil, cons}
-use Rattle.encoding.proofs.Tables.{impossible, and-right}
-use Rattle.encoding.proofs.Names.{and-no, and-false}
+use Rattle.rast.proofs.BytesLaws.{and-right, and-no, and-false, and-true}
+use Rattle.encoding.proofs.Tables.{impossible}
 use Rattle.encoding.proofs.TypeKinds.{kind}
 use Rattle.trees.specs.Encode.{count, words}
 use Rattle.trees.specs.Places.{Place, place}
@@ -125,11 +125,6 @@ module _ (class : Class) where
     pub of-base : (kind b ≡ 13 → ⊥) → isOf class (TypeApp b ts) ≡ false
     unfolding isOf applied
     of-base h = base-other _ b h
-
-  and-true : (a : Bool) → (a and true) ≡ a
-  unfolding _and_
-  and-true true = refl
-  and-true false = refl
 
   pub of-path : (p : Path Bytes) (ts : Tys Bytes) → count ts ≡ arity class → inClass class p ≡ isOf class (TypeApp (TypeFromPath p) ts)
   unfolding isOf applied onPath

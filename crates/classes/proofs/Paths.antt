@@ -9,12 +9,13 @@ use lib.ListN.{length, getD, take, drop, length-take, length-drop, length-append
 use lib.Seq.{drop-cons}
 use Rattle.rast.specs.Bytes.{Bytes, ascii, same, begins, _and_, among}
 use Rattle.rast.specs.Tree.{Path, Global, Crate, Self, PMemberSelect, MSels}
+use Rattle.rast.proofs.BytesLaws.{and-left, and-right, and-no, and-yes, and-false}
 use Rattle.encoding.specs.declared.PathAt.{PathAt}
 use Rattle.encoding.specs.Tables.{fixedNames, nameBytes, nameCount}
 use Rattle.encoding.specs.Heads.{InsidePath}
 use Rattle.encoding.specs.Types.{rootOf, pathOf}
-use Rattle.encoding.proofs.Tables.{impossible, and-left, and-right, same-eq, everyBelow, every-at, name-fixed}
-use Rattle.encoding.proofs.Names.{and-no, and-yes, and-false, beq-eq}
+use Rattle.encoding.proofs.Tables.{impossible, same-eq, everyBelow, every-at, name-fixed}
+use Rattle.encoding.proofs.Names.{beq-eq}
 use Rattle.trees.specs.Encode.{rootWord, names}
 use Rattle.trees.proofs.Spans.{root-known, path-names, path-root}
 use Rattle.classes.specs.declared.Class.{Class}

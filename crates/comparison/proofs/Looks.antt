@@ -9,9 +9,10 @@ use lib.Dec.{eqb, ltb}
 use borrow.Author.Tests.{eq-eqb, ne-eqb, lt-ltb, le-ltb}
 use lib.ListN.{length, getD, take, drop}
 use Rattle.rast.specs.Bytes.{Bytes, same, _and_}
+use Rattle.rast.proofs.BytesLaws.{and-false, and-no, and-yes, same-self}
+use Rattle.output.proofs.Laws.{part-more}
 use Rattle.encoding.specs.Refusals.{pick}
 use Rattle.encoding.specs.Tables.{nameBytes}
-use Rattle.encoding.proofs.Names.{and-false, and-no, and-yes}
 use Rattle.encoding.proofs.Tables.{impossible}
 use Rattle.comparison.specs.declared.Due.{Due}
 use Rattle.comparison.specs.declared.Due.the-variants.{Kind, Exact, Sized, Root, Count, Names}
@@ -19,7 +20,7 @@ use Rattle.comparison.specs.declared.Look.{Look}
 use Rattle.comparison.specs.declared.Look.the-variants.{Same, Apart, Unclear}
 use Rattle.comparison.specs.Runs.{after, afterKind, agrees, sameRuns}
 use Rattle.comparison.specs.Looks.{apart, alike, looks, toldApart, mayAgree}
-use Rattle.comparison.proofs.Steps.{same-self, fixed-apart, take-word}
+use Rattle.comparison.proofs.Steps.{fixed-apart}
 
 -- ---- two words
 
@@ -204,7 +205,7 @@ module _ (equal : Bool) (a b : List ℕ) (i j left : ℕ) (h : i < length a) (k 
   looks-more : looks equal (take left (drop i a)) (take left (drop j b))
       ≡ pick (apart (getD a i 0) (getD b j 0)) Apart (looks (alike equal (getD a i 0) (getD b j 0)) (take (left - 1) (drop (i + 1) a)) (take (left - 1) (drop (j + 1) b)))
   unfolding looks
-  looks-more = rw (take-word a i left h l, take-word b j left k l) refl
+  looks-more = rw (part-more a i left h l, part-more b j left k l) refl
 
   pub looks-stop : apart (getD a i 0) (getD b j 0) ≡ true → looks equal (take left (drop i a)) (take left (drop j b)) ≡ Apart
   looks-stop e = looks-more ∙ rw e refl

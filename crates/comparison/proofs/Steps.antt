@@ -4,25 +4,19 @@ use mathlib.Core.Path.{_≡_, refl, ap, sym, _∙_}
 use mathlib.Core.Bool.{true, false}
 use mathlib.Core.List.{List, [], _∷_}
 use native.Mathlib.Omega.{arith}
-use native.Mathlib.Numerals.{add-one}
 use native.Mathlib.Decide.{ℕ-discrete}
 use lib.Dec.{eqb, leb}
-use borrow.Author.Tests.{eq-eqb, ne-eqb, leb-true}
+use borrow.Author.Tests.{ne-eqb, leb-true}
 use lib.ListN.{length, getD, take, drop}
-use lib.Seq.{drop-cons}
 use Rattle.rast.specs.Bytes.{Bytes, ascii, same, _and_}
+use Rattle.rast.proofs.BytesLaws.{and-false, and-no, and-yes}
 use Rattle.output.specs.Wrote.{Wrote}
-use Rattle.output.proofs.Laws.{wrote-front}
+use Rattle.output.proofs.Laws.{wrote-front, part-more}
 use Rattle.encoding.specs.Tables.{fixedNames, nameBytes, nameCount, pairBytes}
 use Rattle.encoding.proofs.Tables.{name-fixed, name-pair, everyBelow, every-at}
-use Rattle.encoding.proofs.Names.{and-false, and-no, and-yes, fixed-same}
+use Rattle.encoding.proofs.Names.{fixed-same}
 use Rattle.comparison.specs.declared.Due.{Due}
 use Rattle.comparison.specs.Runs.{after, agrees, sameRuns}
-
-pub same-self : (a : Bytes) → same a a ≡ true
-unfolding same _and_
-same-self [] = refl
-same-self (x ∷ a) = rw (eq-eqb x x refl) (same-self a)
 
 pub same-swap : (a b : Bytes) → same a b ≡ same b a
 unfolding same
@@ -67,15 +61,11 @@ no-name pairs text x h =
 
 -- ---- the front words of two runs
 
-pub take-word : (l : List ℕ) (i left : ℕ) → i < length l → 0 < left → take left (drop i l) ≡ getD l i 0 ∷ take (left - 1) (drop (i + 1) l)
-take-word l i zero h k = absurd (let z : ⊥ = omega arith in z)
-take-word l i (suc n) h k = let z : suc n - 1 ≡ n = omega arith in rw (drop-cons l i 0 h, add-one i, z) refl
-
 module _ (name : ℕ → Bytes) (due : Due) (a b : List ℕ) (i j left : ℕ) (h : i < length a) (k : j < length b) (l : 0 < left) where
   runs-more : sameRuns name due (take left (drop i a)) (take left (drop j b))
       ≡ (agrees name due (getD a i 0) (getD b j 0) and sameRuns name (after due (getD a i 0)) (take (left - 1) (drop (i + 1) a)) (take (left - 1) (drop (j + 1) b)))
   unfolding sameRuns
-  runs-more = rw (take-word a i left h l, take-word b j left k l) refl
+  runs-more = rw (part-more a i left h l, part-more b j left k l) refl
 
   pub runs-stop : agrees name due (getD a i 0) (getD b j 0) ≡ false → sameRuns name due (take left (drop i a)) (take left (drop j b)) ≡ false
   runs-stop e = runs-more ∙ and-no _ e

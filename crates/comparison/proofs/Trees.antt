@@ -7,12 +7,12 @@ use mathlib.Core.Option.{some, none}
 use native.Mathlib.Omega.{arith}
 use borrow.Author.Tests.{eqb-true, ne-eqb, lt-ltb}
 use lib.Dec.{ltb}
-use lib.ListN.{length, length-map}
+use lib.ListN.{length}
 use Rattle.rast.specs.Bytes.{Bytes, _and_}
-use Rattle.rast.specs.Tree.{Path, Global, Crate, Self, PMemberSelect, PrimitiveTy, U8, U16, U32, U64, U128, I8, I16, I32, I64, I128, USIZE, Bool·, Ty, Tys, Primitive, TIdentifier, TypeFromPath, TypeApp, Borrowed, BorrowedMut, ImplType, DynType, TupleType, FnType, IntersectionType, Array, TSynonym, TMetaData, nil, cons}
-use Rattle.trees.specs.Renamed.{renamedPath, renamedSize, renamed, renamedAll}
+use Rattle.rast.specs.Tree.{Path, PrimitiveTy, U8, U16, U32, U64, U128, I8, I16, I32, I64, I128, USIZE, Bool·, Ty, Tys, Primitive, TIdentifier, TypeFromPath, TypeApp, Borrowed, BorrowedMut, ImplType, DynType, TupleType, FnType, IntersectionType, Array, TSynonym, TMetaData, nil, cons}
+use Rattle.trees.specs.Renamed.{renamedSize, renamed}
 use Rattle.trees.specs.Encode.{Token, word, name, size, tokenWord, renamedToken, primitiveWord, flagsWord, rootWord, names, pathTokens, count, tokens, tokensAll, encode}
-use Rattle.trees.proofs.Renaming.{names-renamed}
+use Rattle.trees.proofs.Renaming.{tokens-renamed}
 use Rattle.replace.specs.Same.{sameSize, sameToken, sameTokens, sameType, sameBy}
 use Rattle.comparison.specs.declared.Due.{Due}
 use Rattle.comparison.specs.declared.Due.the-variants.{Kind, Exact, Sized, Root, Count, Names}
@@ -159,61 +159,6 @@ mutual
 tokens-read : (t : Ty ℕ) → tokensFrom Kind (encode t) ≡ tokens t
 unfolding Back encode tokensFrom
 tokens-read t = ap (tokensFrom Kind) (sym (append-nil (map tokenWord (tokens t)))) ∙ tokens-back t [] ∙ append-nil (tokens t)
-
--- ---- other names
-
-module _ {M N : Type 0} (f : M → N) where
-  count-renamed : (ts : Tys M) → count (renamedAll f ts) ≡ count ts
-  unfolding count renamedAll
-  count-renamed nil = refl
-  count-renamed (cons t ts) = ap suc (count-renamed ts)
-
-  root-renamed : (p : Path M) → rootWord (renamedPath f p) ≡ rootWord p
-  unfolding rootWord renamedPath
-  root-renamed Global = refl
-  root-renamed Crate = refl
-  root-renamed Self = refl
-  root-renamed (PMemberSelect p x) = root-renamed p
-
-  path-names : (p : Path M) → names (renamedPath f p) ≡ map f (names p)
-  unfolding names renamedPath
-  path-names Global = refl
-  path-names Crate = refl
-  path-names Self = refl
-  path-names (PMemberSelect p x) = ap (λ l. l ++ (f x ∷ [])) (path-names p) ∙ sym (map-append f (names p) (x ∷ []))
-
-  path-renamed : (p : Path M) → pathTokens (renamedPath f p) ≡ map (renamedToken f) (pathTokens p)
-  unfolding pathTokens renamedToken
-  path-renamed p =
-      let e = path-names p in
-      let l : length (names (renamedPath f p)) ≡ length (names p) = ap length e ∙ length-map (names p) f in
-      rw (root-renamed p, l, e) (ap (λ l. word (rootWord p) ∷ word (length (names p)) ∷ l) (sym (names-renamed f (names p))))
-
-  two-renamed : {xs ys : List (Token N)} (us vs : List (Token M)) → xs ≡ map (renamedToken f) us → ys ≡ map (renamedToken f) vs → xs ++ ys ≡ map (renamedToken f) (us ++ vs)
-  two-renamed us vs e d = rw (e, d) (sym (map-append (renamedToken f) us vs))
-
-  mutual
-    unfolding tokens tokensAll renamed renamedAll renamedToken
-
-    tokens-renamed : (t : Ty M) → tokens (renamed f t) ≡ map (renamedToken f) (tokens t)
-    tokens-renamed (Primitive p) = refl
-    tokens-renamed (TIdentifier x) = refl
-    tokens-renamed (TypeFromPath p) = ap (λ l. word 13 ∷ l) (path-renamed p)
-    tokens-renamed (TypeApp b ts) = rw (count-renamed ts) (ap (λ l. word 14 ∷ word (count ts) ∷ l) (two-renamed (tokens b) (tokensAll ts) (tokens-renamed b) (tokensAll-renamed ts)))
-    tokens-renamed (Borrowed t) = ap (λ l. word 15 ∷ l) (tokens-renamed t)
-    tokens-renamed (BorrowedMut t) = ap (λ l. word 16 ∷ l) (tokens-renamed t)
-    tokens-renamed (ImplType t) = ap (λ l. word 17 ∷ l) (tokens-renamed t)
-    tokens-renamed (DynType t) = ap (λ l. word 18 ∷ l) (tokens-renamed t)
-    tokens-renamed (TupleType ts) = rw (count-renamed ts) (ap (λ l. word 19 ∷ word (count ts) ∷ l) (tokensAll-renamed ts))
-    tokens-renamed (FnType ts t) = rw (count-renamed ts) (ap (λ l. word 20 ∷ word (count ts) ∷ l) (two-renamed (tokensAll ts) (tokens t) (tokensAll-renamed ts) (tokens-renamed t)))
-    tokens-renamed (IntersectionType l r) = ap (λ l. word 21 ∷ l) (two-renamed (tokens l) (tokens r) (tokens-renamed l) (tokens-renamed r))
-    tokens-renamed (Array t s) = ap (λ l. word 22 ∷ size (renamedSize f s) ∷ l) (tokens-renamed t)
-    tokens-renamed (TSynonym d b) = ap (λ l. word 23 ∷ l) (two-renamed (tokens d) (tokens b) (tokens-renamed d) (tokens-renamed b))
-    tokens-renamed (TMetaData d c o) = ap (λ l. word 24 ∷ word (flagsWord c o) ∷ l) (tokens-renamed d)
-
-    tokensAll-renamed : (ts : Tys M) → tokensAll (renamedAll f ts) ≡ map (renamedToken f) (tokensAll ts)
-    tokensAll-renamed nil = refl
-    tokensAll-renamed (cons t ts) = two-renamed (tokens t) (tokensAll ts) (tokens-renamed t) (tokensAll-renamed ts)
 
 -- ---- on words as on trees
 

@@ -21,11 +21,12 @@ use Rattle.encoding.specs.Tables.{nameBytes, nameCount}
 use Rattle.encoding.specs.Heads.{readPath}
 use Rattle.encoding.specs.Types.{pathOf, typeAt}
 use Rattle.encoding.specs.Declarations.{readCounted, readVisibility, readAttribute, readParameter, readField, readNamelessField, readFields, readCase, readStruct, readEnum, readTypeSynonym, readUse, declarationAfter, readDeclaration}
+use Rattle.encoding.proofs.Reading.{map-same}
 use Rattle.laying.specs.Passes.{Chain, last, _then_, run, Ready}
 use Rattle.laying.specs.Texts.{nameAt, typeTextAt, pathTextAt, visibilityAt, docAt}
 use Rattle.laying.proofs.Passes.{Runs}
 use Rattle.laying.proofs.Leaves.{BelowThere, below-of}
-use Rattle.laying.proofs.Splits.{map-same, map-made, nothing-behind, runs-as, split₃, split-front, text-before, text-behind, listed-read, counted-got, counted-none, counted-stop}
+use Rattle.laying.proofs.Splits.{map-made, nothing-behind, runs-as, split₃, split-front, text-before, text-behind, listed-read, counted-got, counted-none, counted-stop}
 use Rattle.lists.specs.Texts.{attributesAt, parametersAt}
 use Rattle.fields.specs.declared.Entry.{Entry}
 use Rattle.fields.specs.declared.Entry.the-variants.{Named}

@@ -1,7 +1,7 @@
 // A pass over the words of a declaration that lays its text, at a level: it writes the bytes, or only counts them.
 ghost use mathlib.Core.Path.{_≡_};
 ghost use mathlib.Core.Bool.{true, false};
-ghost use Prim.Native.Nat.{_+_, _^_, _<_};
+ghost use Prim.Native.Nat.{_^_, _<_};
 ghost use Rattle.output.specs.Laid.{Laid, Fits};
 ghost use Rattle.laying.specs.Passes.{Checked, Ready, Came, Went, Counts};
 ghost use Rattle.lists.specs.Texts.{attributesAt};

@@ -9,6 +9,7 @@ use lib.Dec.{ltb}
 use lib.ListN.{length}
 use lib.Seq.{sets}
 use Rattle.rast.specs.Bytes.{Bytes}
+use Rattle.rast.proofs.BytesLaws.{never}
 use Rattle.output.specs.Laid.{clamp}
 use Rattle.output.proofs.Passes.{Clamped, small, large, clamped}
 use Rattle.encoding.specs.declared.Refusal.{Refusal}
@@ -113,9 +114,6 @@ module _ {A : Type 0} (f : A → Bytes) (x : Reading A) {o o′ : List ℕ} {n b
 
 -- ---- the two turns: one counts, and if all is well the next one writes
 
-differ : {A : Type 0} → true ≡ false → A
-differ e = impossible (let z : _≡_ {A = ℕ} 0 1 = cc in z)
-
 -- how many turns come behind this one
 unfoldable pub turns : Bool → ℕ
 turns true = 0
@@ -134,7 +132,7 @@ pub record Turn {A : Type 0} (f : A → Bytes) (x : Reading A) (size : ℕ) (o :
 
 module _ {A : Type 0} (f : A → Bytes) (x : Reading A) (size : ℕ) (o : List ℕ) where
   pub turn-start : Turn f x size o false o
-  turn-start = record { kept = λ e. refl; bytes = 0; counts = λ e. differ (sym e); fits = λ e. differ (sym e) }
+  turn-start = record { kept = λ e. refl; bytes = 0; counts = λ e. never (sym e); fits = λ e. never (sym e) }
 
   module _ (small : length o < 2 ^ 63) {write : Bool} {o′ : List ℕ} (t : Turn f x size o write o′) where
     pub turn-ready : Ready write o′ 0 (mapReading f x)
@@ -153,7 +151,7 @@ module _ {A : Type 0} (f : A → Bytes) (x : Reading A) (size : ℕ) (o : List �
 
       pub turn-next : {n bytes : ℕ} → write ≡ false → r ≡ At n bytes → n ≡ size → bytes ≤ length o → Turn f x size o true o″
       turn-next {n} {bytes} e d q l = record {
-        kept = λ k. differ k;
+        kept = λ k. never k;
         bytes = bytes;
         counts = λ k. subst (λ (m : ℕ). Counts f x o o″ m bytes) q (turn-counted e d);
         fits = λ k. l;

@@ -12,31 +12,14 @@ use lib.ListN.{length, getD, take, drop, replicate, length-drop, drop-of-length-
 use lib.Seq.{drop-cons}
 use Rattle.rast.specs.Bytes.{Bytes, ascii, _and_, _or_, same, begins}
 use Rattle.rast.specs.Doc.{isEmptyText, GatherSimpleQuotes}
+use Rattle.rast.proofs.BytesLaws.{and-left, and-right, and-true, never}
 use Rattle.doc.specs.Steps.{runOf, lineLength, Passed, Nearest, Fence, NoFence}
-
-pub impossible : {A : Type 0} → _≡_ {A = Bool} true false → A
-impossible e = absurd (let z : _≡_ {A = ℕ} 0 1 = cc in let y : ⊥ = omega arith in y)
-
-pub and-left : (a b : Bool) → a and b ≡ true → a ≡ true
-unfolding _and_
-and-left true b e = refl
-and-left false b e = e
-
-pub and-right : (a b : Bool) → a and b ≡ true → b ≡ true
-unfolding _and_
-and-right true b e = e
-and-right false b e = impossible (sym e)
 
 and-swap : (a b c : Bool) → (a and (b and c)) ≡ (b and (a and c))
 unfolding _and_
 and-swap true b c = refl
 and-swap false true c = refl
 and-swap false false c = refl
-
-and-true : (a : Bool) → (a and true) ≡ a
-unfolding _and_
-and-true true = refl
-and-true false = refl
 
 -- ---- what a text begins with
 
@@ -57,7 +40,7 @@ begins-one x c s = begins-cons x c [] s ∙ rw (begins-none s) (and-true (eqb c 
 
 pub begins-front : (a b d : Bytes) → begins (a ++ b) d ≡ true → begins a d ≡ true
 begins-front [] b d e = begins-none d
-begins-front (x ∷ a) b [] e = impossible (sym e ∙ begins-nothing x (a ++ b))
+begins-front (x ∷ a) b [] e = never (sym e ∙ begins-nothing x (a ++ b))
 begins-front (x ∷ a) b (c ∷ s) e =
     let k = sym (begins-cons x c (a ++ b) s) ∙ e in
     let l = and-left (eqb c x) (begins (a ++ b) s) k in
@@ -105,7 +88,7 @@ pub begins-some : (x : ℕ) (l : Bytes) (i : ℕ) → begins (x ∷ []) (drop i 
 begins-some x l i e = go (drop i l) (length-drop i l) e
   where
     go : (d : Bytes) → length d ≡ length l - i → begins (x ∷ []) d ≡ true → i < length l
-    go [] k e = impossible (sym e ∙ begins-nothing x [])
+    go [] k e = never (sym e ∙ begins-nothing x [])
     go (c ∷ s) k e = omega arith
 
 pub begins-run : (x k : ℕ) (d : Bytes) → begins (replicate k x) d ≡ leb k (runOf x d)
@@ -266,10 +249,6 @@ rust-test l i b h =
     regroup true true = refl
     regroup true false = refl
     regroup false y = refl
-
-pub rust-no-r : (a b : Bool) → a ≡ false → (a and b) ≡ false
-unfolding _and_
-rust-no-r a b e = rw e
 
 pub rust-no-s : (a b c : Bool) → b ≡ false → (a and (b and c)) ≡ false
 unfolding _and_

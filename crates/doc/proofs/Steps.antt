@@ -12,8 +12,9 @@ use Rattle.rast.specs.Bytes.{Bytes, ascii, _and_, _or_, same, begins}
 use Rattle.rast.specs.Doc.{isEmptyText, GatherSimpleQuotes, ConvertDocstring}
 use Rattle.rast.proofs.DocBranches.{in-code-space, four-spaces, other-space, inside-line}
 use Rattle.rast.proofs.DocBranches.{code-ends-line, code-ends, in-code, too-short, no-fence, unnamed-fence, rust-fence, other-fence}
+use Rattle.rast.proofs.BytesLaws.{never}
 use Rattle.doc.specs.Steps.{runOf, lineLength, marker}
-use Rattle.doc.proofs.Runs.{impossible, begins-one, begins-front, begins-run, run-on, run-ends, take-run, gather, line-on, line-ends}
+use Rattle.doc.proofs.Runs.{begins-one, begins-front, begins-run, run-on, run-ends, take-run, gather, line-on, line-ends}
 
 pub marker-none : (n : ℕ) → n ≡ 0 → marker n ≡ none
 unfolding marker
@@ -150,7 +151,7 @@ module _ (ind : Bytes) where
           short = begins-run 96 k d ∙ lt-leb k (runOf 96 d) h
 
           longer : (t : Bool) → begins (m ++ ascii "\n") d ≡ t → begins (m ++ ascii "\n") d ≡ false
-          longer true e = impossible (sym (begins-front m (ascii "\n") d e) ∙ short)
+          longer true e = never (sym (begins-front m (ascii "\n") d e) ∙ short)
           longer false e = e
 
       pub fence-closes : (k : ℕ) → k ≤ runOf 96 d → C d true (some (replicate k 96)) ≡ take k d ++ C (drop k d) false none

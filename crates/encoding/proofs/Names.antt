@@ -9,22 +9,9 @@ use lib.Dec.{eqb}
 use lib.ListN.{length, getD, take, drop, drop-of-length-le}
 use lib.Seq.{drop-cons}
 use Rattle.rast.specs.Bytes.{Bytes, ascii, same, _and_}
+use Rattle.rast.proofs.BytesLaws.{and-false}
 use Rattle.encoding.specs.Tables.{fixedNames, nameBytes}
 use Rattle.encoding.proofs.Tables.{impossible, everyBelow, every-at, name-fixed}
-
-pub and-false : (a : Bool) → (a and false) ≡ false
-unfolding _and_
-and-false true = refl
-and-false false = refl
-
--- a conjunction, by what its first part is
-pub and-no : {a : Bool} (b : Bool) → a ≡ false → (a and b) ≡ false
-unfolding _and_
-and-no b e = rw e
-
-pub and-yes : {a : Bool} (b : Bool) → a ≡ true → (a and b) ≡ b
-unfolding _and_
-and-yes b e = rw e
 
 -- the part from s to s + n
 pub part-to : (l : Bytes) (s n : ℕ) → take (s + n - s) (drop s l) ≡ take n (drop s l)

@@ -1,6 +1,6 @@
 -- Laws of reading at a position, and from the code's answers back to the readings.
 use Prim.Native.Nat.{ℕ, zero, suc, _+_, _-_, _≤_, _<_}
-use mathlib.Core.Path.{_≡_, ap}
+use mathlib.Core.Path.{_≡_, refl, ap}
 use mathlib.Core.List.{List}
 use native.Mathlib.Omega.{arith}
 use native.Mathlib.Numerals.{sub-one}
@@ -18,7 +18,7 @@ use Rattle.encoding.specs.declared.PathScan.the-variants.{OwnPath, NoPat
 use Rattle.encoding.specs.declared.Head.{Head}
 use Rattle.encoding.specs.declared.HeadScan.{HeadScan}
 use Rattle.encoding.specs.declared.HeadScan.the-variants.{Own, NoHead}
-use Rattle.encoding.specs.Reading.{Reading, got, stop, readWord, readBelow, readNames}
+use Rattle.encoding.specs.Reading.{Reading, got, stop, readWord, readBelow, readNames, mapReading}
 use Rattle.encoding.specs.Scans.{wordScan, ended, pathScan, headScan}
 use Rattle.encoding.proofs.Tables.{impossible}
 
@@ -64,6 +64,21 @@ scan-got (stop k) e d = impossible (cc)
 pub scan-stop : {A : Type 0} (x : Reading A) {r : Scan} {k : Refusal} → r ≡ ended x → r ≡ Refused k → x ≡ stop k
 scan-stop (got a m) e d = impossible (cc)
 scan-stop (stop k) e d = cc
+
+-- ---- a reading, mapped
+
+pub map-got : {A B : Type 0} (f : A → B) {x : Reading A} {a : A} {n : ℕ} → x ≡ got a n → mapReading f x ≡ got (f a) n
+unfolding mapReading
+map-got f e = rw e
+
+pub map-stop : {A B : Type 0} (f : A → B) {x : Reading A} {k : Refusal} → x ≡ stop k → mapReading f x ≡ stop k
+unfolding mapReading
+map-stop f e = rw e
+
+pub map-same : {A : Type 0} (x : Reading A) → mapReading (λ a. a) x ≡ x
+unfolding mapReading
+map-same (got a n) = refl
+map-same (stop k) = refl
 
 -- ---- words and names
 

@@ -11,6 +11,7 @@ use lib.Dec.{eqb, leb, ltb}
 use lib.ListN.{length, getD, take, drop, drop-of-length-le, length-take, length-drop}
 use lib.Seq.{drop-cons}
 use Rattle.rast.specs.Bytes.{Bytes, ascii, same, _and_, _or_}
+use Rattle.rast.proofs.BytesLaws.{and-left, and-right, and-false}
 use Rattle.encoding.specs.declared.Refusal.the-variants.{Overlong, BadPair}
 use Rattle.encoding.specs.declared.Check.the-variants.{Passed, Failed}
 use Rattle.encoding.specs.Refusals.{pick}
@@ -19,16 +20,6 @@ use Rattle.encoding.specs.Tables.{overlong, checkTables, goodPairs, Good
 -- nothing holds where two numbers are one
 pub impossible : {A : Type 0} → _≡_ {A = ℕ} 0 1 → A
 impossible e = absurd (let z : ⊥ = omega arith in z)
-
-pub and-left : (a b : Bool) → a and b ≡ true → a ≡ true
-unfolding _and_
-and-left true b e = refl
-and-left false b e = e
-
-pub and-right : (a b : Bool) → a and b ≡ true → b ≡ true
-unfolding _and_
-and-right true b e = e
-and-right false b e = impossible (cc)
 
 pub same-eq : (x y : Bytes) → same x y ≡ true → x ≡ y
 unfolding same
@@ -96,10 +87,6 @@ unfolding goodPairs _and_
 pairs-odd [] end size h = absurd (h refl)
 pairs-odd (x ∷ []) end size h = refl
 pairs-odd (x ∷ y ∷ l) end size h = rw (pairs-odd l (x + y) size (λ e. h (omega (arith, e)))) (and-false (leb end x and leb (x + y) size))
-  where
-    and-false : (b : Bool) → (b and false) ≡ false
-    and-false true = refl
-    and-false false = refl
 
 pairs-more : (l : List ℕ) (i end size : ℕ) → i + 1 < length l
     → goodPairs (drop i l) end size

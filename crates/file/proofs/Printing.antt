@@ -20,6 +20,7 @@ use Rattle.text.specs.declared.TextAnswer.{TextAnswer}
 use Rattle.text.specs.declared.TextAnswer.the-variants.{Length, Refused}
 use Rattle.text.specs.Calls.{filled}
 use Rattle.encoding.specs.Filled.{filledBy}
+use Rattle.text.proofs.Calls.{answer-of, buffer-of}
 use Rattle.file.specs.File.{decimal, refusalLine, printed, atFront}
 
 -- ---- numbers and refusals
@@ -88,12 +89,6 @@ newline-written o b h w =
     let e : length (b ++ (10 ∷ [])) ≡ suc (length b) = simp length-append (omega arith) in
     let f : length b + 1 ≡ suc (length b) = omega arith in
     rw (w .next, w .bytes, e, f, drop-cons o (length b) 0 h, set-append-seam, append-snoc)
-
-answer-of : TextAnswer × List ℕ → TextAnswer
-answer-of p = p .0
-
-buffer-of : TextAnswer × List ℕ → List ℕ
-buffer-of p = p .1
 
 module _ (o after : List ℕ) (r : TextAnswer) (full : 65537 ≡ length o) where
   answered : (fits : Bool) (b : Bytes) → leb (length b) (length (take 65536 o)) ≡ fits

@@ -22,6 +22,7 @@ use Rattle.encoding.specs.Declarations.{readName, readFormal}
 use Rattle.encoding.proofs.Tables.{impossible, name-length}
 use Rattle.encoding.proofs.Types.{bind-got}
 use Rattle.encoding.proofs.Inside.{below-there}
+use Rattle.encoding.proofs.Reading.{map-got}
 use Rattle.writing.specs.declared.Spot.{Spot}
 use Rattle.writing.specs.declared.Part.{Part}
 use Rattle.writing.specs.declared.Part.the-variants.{Rest, Done}
@@ -29,7 +30,7 @@ use Rattle.writing.specs.Written.{Readable}
 use Rattle.laying.specs.Passes.{last, _then_, run, Ready, Came, Along}
 use Rattle.laying.specs.Texts.{typeTextAt}
 use Rattle.laying.proofs.Passes.{Runs, ReadyChain, came-bytes, counts-bytes, ready-count, ready-runs, ready-last, ready-next, went-runs, went-last, went-then}
-use Rattle.laying.proofs.Splits.{map-got, map-made}
+use Rattle.laying.proofs.Splits.{map-made}
 use Rattle.formal.specs.declared.Label.{Label}
 use Rattle.formal.specs.declared.Label.the-variants.{Open, Whole, NoLabel}
 use Rattle.formal.specs.declared.Receiver.{Receiver}

@@ -11,6 +11,7 @@ use lib.ListN.{length, getD, take, drop}
 use Rattle.rast.specs.Bytes.{Bytes, _and_, _or_}
 use Rattle.rast.specs.Tree.{Path, Global, PMemberSelect, Ty, Tys, Primitive, TIdentifier, TypeFromPath, TypeApp, Borrowed, BorrowedMut, ImplType, DynType, TupleType, FnType, IntersectionType, Array, TSynonym, TMetaData, nil, cons}
 use Rattle.rast.specs.DeclarationToString.{Expand}
+use Rattle.rast.proofs.BytesLaws.{and-right}
 use Rattle.encoding.specs.Reading.{got, mapReading}
 use Rattle.encoding.specs.Tables.{nameBytes}
 use Rattle.encoding.specs.Types.{sizeOf, typeAt}
@@ -169,11 +170,6 @@ module _ (f : ℕ → Bytes) where
   new-behind : (t : Ty ℕ) {p : Path ℕ} {a : Ty ℕ} → IsObjectOrPointer (renamed f t) ≡ true → Expand t ≡ TypeApp (TypeFromPath p) (cons a nil) → newArray f t ≡ newUnderlying f a
   unfolding newArray when andThen argument typeIn
   new-behind t y e = rw (y, e) refl
-
-and-right : (a b : Bool) → (a and b) ≡ true → b ≡ true
-unfolding _and_
-and-right true b e = e
-and-right false b e = impossible (cc)
 
 one-counted : (a : Bool) (ts : Tys Bytes) → (a and eqb (count ts) 1) ≡ true → count ts ≡ 1
 one-counted a ts e = eqb-true (count ts) 1 (and-right a (eqb (count ts) 1) e)

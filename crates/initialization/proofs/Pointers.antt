@@ -10,6 +10,7 @@ use lib.ListN.{getD}
 use Rattle.rast.specs.Bytes.{Bytes, ascii, same, _and_, _or_}
 use Rattle.rast.specs.Tree.{Ty, Tys, Primitive, TIdentifier, TypeFromPath, TypeApp, Borrowed, BorrowedMut, ImplType, DynType, TupleType, FnType, IntersectionType, Array, TSynonym, TMetaData, nil, cons}
 use Rattle.rast.specs.DeclarationToString.{Expand}
+use Rattle.rast.proofs.BytesLaws.{and-false, and-true}
 use Rattle.encoding.specs.declared.PathAt.{PathAt}
 use Rattle.encoding.specs.Heads.{InsidePath}
 use Rattle.encoding.specs.Refusals.{pick}
@@ -17,7 +18,6 @@ use Rattle.encoding.specs.Reading.{got}
 use Rattle.encoding.specs.Tables.{nameBytes, nameCount}
 use Rattle.encoding.specs.Types.{pathOf, typeAt}
 use Rattle.encoding.proofs.Tables.{impossible}
-use Rattle.encoding.proofs.Names.{and-false}
 use Rattle.writing.specs.Written.{Readable}
 use Rattle.trees.specs.Encode.{count, words}
 use Rattle.trees.specs.Numbered.{treeAt}
@@ -120,11 +120,6 @@ behind p (IntersectionType l r) = omega arith
 behind p (Array t s) = omega arith
 behind p (TSynonym d b) = let h = behind (p + 1 + words d) b in omega (arith, h)
 behind p (TMetaData d c o) = let h = behind (p + 2) d in omega (arith, h)
-
-and-true : (a : Bool) → (a and true) ≡ a
-unfolding _and_
-and-true true = refl
-and-true false = refl
 
 -- a type in wrappers is no application itself
 bare-only : (t : Ty Bytes) → isOf ObjectClass t ≡ (isOf ObjectClass (Expand t) and eqb (expandedAt 0 t .at) 0)

@@ -31,7 +31,7 @@ use Rattle.encoding.proofs.Tables.{impossible, everyBelow, every-at, name-fixed
 use Rattle.encoding.proofs.Heads.{head-at, head-end, head-plain}
 use Rattle.encoding.proofs.Types.{node-of}
 use Rattle.encoding.proofs.Inside.{word-there, below-there}
-use Rattle.encoding.proofs.Reading.{word-got, word-stop}
+use Rattle.encoding.proofs.Reading.{word-got, word-stop, map-got, map-stop}
 use Rattle.measure.specs.declared.Measure.{Measure}
 use Rattle.measure.specs.declared.Measure.the-variants.{Measured, Stopped as Refused}
 use Rattle.measure.specs.Lengths.{measureOf}
@@ -43,7 +43,7 @@ use Rattle.laying.specs.declared.Place.the-variants.{At, Stopped}
 use Rattle.laying.specs.Passes.{last, _then_, Ready, Came, Went, Counts, came}
 use Rattle.laying.specs.Texts.{visibilityAt, nameAt, typeTextAt, docAt}
 use Rattle.laying.proofs.Passes.{Runs, ReadyChain, came-as, came-at, came-bytes, came-to, counts-bytes, ready-as, ready-bytes, ready-first, ready-last, ready-next, ready-runs, stops-here, went-last, went-runs, went-then}
-use Rattle.laying.proofs.Splits.{map-got, map-made, map-stop, text-before}
+use Rattle.laying.proofs.Splits.{map-made, text-before}
 
 -- ---- what a scan says
 

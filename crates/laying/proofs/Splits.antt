@@ -13,19 +13,6 @@ use Rattle.laying.proofs.Passes.{Runs}
 
 -- ---- a reading, mapped
 
-pub map-got : {A : Type 0} (f : A → Bytes) {x : Reading A} {a : A} {n : ℕ} → x ≡ got a n → mapReading f x ≡ got (f a) n
-unfolding mapReading
-map-got f e = rw e
-
-pub map-stop : {A : Type 0} (f : A → Bytes) {x : Reading A} {k : Refusal} → x ≡ stop k → mapReading f x ≡ stop k
-unfolding mapReading
-map-stop f e = rw e
-
-pub map-same : (x : Reading Bytes) → mapReading (λ b. b) x ≡ x
-unfolding mapReading
-map-same (got b n) = refl
-map-same (stop k) = refl
-
 -- something is made of what was read
 pub map-made : {A B : Type 0} (f : B → Bytes) (make : A → B) (x : Reading A) → mapReading f (x >>= λ a n. got (make a) n) ≡ mapReading (λ a. f (make a)) x
 unfolding mapReading

@@ -1,7 +1,7 @@
 -- Laws of a path's text, name by name.
 use Prim.Native.Nat.{ℕ, suc, _+_, _-_, _≤_, _<_}
-use mathlib.Core.Path.{_≡_, refl}
-use mathlib.Core.List.{List, [], _++_, map, flatten, append-assoc}
+use mathlib.Core.Path.{_≡_}
+use mathlib.Core.List.{List, _++_, map, flatten, append-assoc}
 use native.Mathlib.Omega.{arith}
 use native.Mathlib.Numerals.{add-one}
 use borrow.Author.Tests.{ne-eqb}
@@ -27,10 +27,6 @@ members-from name ws i end h k =
     let h′ : i < length ws = omega arith in
     let e : end - i ≡ suc (end - suc i) = omega arith in
     rw (e, drop-cons ws i 0 h′, add-one i)
-
-pub root-global : Path·ToString (rootOf 0) ≡ []
-unfolding rootOf Path·ToString ascii
-root-global = refl
 
 pub root-self : (r : ℕ) → (r ≡ 0 → ⊥) → (r ≡ 1 → ⊥) → Path·ToString (rootOf r) ≡ ascii "Self"
 unfolding rootOf Path·ToString

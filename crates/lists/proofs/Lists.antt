@@ -18,12 +18,13 @@ use Rattle.encoding.specs.Reading.{Reading, got, stop, _>>=_, mapReading, readW
 use Rattle.encoding.specs.Tables.{nameBytes, nameCount}
 use Rattle.encoding.specs.Types.{typeAt}
 use Rattle.encoding.specs.Declarations.{readList, readCounted, readAttribute, readParameter}
+use Rattle.encoding.proofs.Reading.{map-same}
 use Rattle.laying.specs.declared.Place.the-variants.{At}
 use Rattle.laying.specs.Passes.{last, _then_, run, listed, Ready, Came, Went, came, Along}
 use Rattle.laying.specs.Texts.{nameAt}
 use Rattle.laying.proofs.Passes.{Runs, ready-runs, ready-last, ready-next, went-runs, went-then, went-last, went-as, came-nothing, counts-bytes}
 use Rattle.laying.proofs.Leaves.{word-of}
-use Rattle.laying.proofs.Splits.{map-same, nothing-behind, runs-as, split₂, listed-read, listed-same, around, counted-got, counted-none, counted-stop, within-same}
+use Rattle.laying.proofs.Splits.{nothing-behind, runs-as, split₂, listed-read, listed-same, around, counted-got, counted-none, counted-stop, within-same}
 use Rattle.lists.specs.Texts.{someArguments, derivedAt, attributeAt, someAttributes, attributesAt, someConstraints, constraintsAt, parameterAt, someParameters, parametersAt}
 
 -- ---- any readings

@@ -45,7 +45,7 @@ unfoldable count : Tys Bytes → ℕ
 count nil = 0
 count (cons t ts) = suc (count ts)
 
-unfoldable snoc : Tys Bytes → Ty Bytes → Tys Bytes
+unfoldable pub snoc : Tys Bytes → Ty Bytes → Tys Bytes
 snoc nil t = cons t nil
 snoc (cons u us) t = cons u (snoc us t)
 
@@ -69,14 +69,14 @@ snoc-over again t (got ts q) = bind-assoc (again q) _ _
 snoc-over again t (stop r) = refl
 
 -- one more is read behind the others
-types-snoc : (again : ℕ → Reading (Ty Bytes)) (k p : ℕ) → readTypes again (suc k) p ≡ (readTypes again k p >>= λ ts q. again q >>= λ t r. got (snoc ts t) r)
+pub types-snoc : (again : ℕ → Reading (Ty Bytes)) (k p : ℕ) → readTypes again (suc k) p ≡ (readTypes again k p >>= λ ts q. again q >>= λ t r. got (snoc ts t) r)
 unfolding readTypes snoc
 types-snoc again zero p = refl
 types-snoc again (suc k) p =
     bind-same (again p) _ _ (λ t q e. ap (λ x. x >>= λ ts r. got (cons t ts) r) (types-snoc again k q) ∙ snoc-over again t (readTypes again k q))
     ∙ sym (bind-assoc (again p) _ _)
 
-types-two : (again : ℕ → Reading (Ty Bytes)) (p : ℕ) → readTypes again 2 p ≡ (again p >>= λ t q. again q >>= λ u r. got (cons t (cons u nil)) r)
+pub types-two : (again : ℕ → Reading (Ty Bytes)) (p : ℕ) → readTypes again 2 p ≡ (again p >>= λ t q. again q >>= λ u r. got (cons t (cons u nil)) r)
 unfolding readTypes
 types-two again p = bind-same (again p) _ _ (λ t q e. bind-assoc (again q) _ _)
 

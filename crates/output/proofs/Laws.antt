@@ -6,10 +6,10 @@ use native.Mathlib.Omega.{arith}
 use native.Mathlib.Nat.{add-zero}
 use native.Mathlib.Numerals.{add-one, sub-one}
 use lib.ListN.{length, set, getD, take, drop, length-append, length-take, length-drop}
-use lib.Seq.{sets, length-sets, drop-cons, drop-drop, set-comm, set-set, take-add}
+use lib.Seq.{sets, length-sets, drop-cons, drop-drop, set-comm, set-set, take-add, take-append-seam}
 use Rattle.output.specs.Wrote.{Wrote}
 
-sets-append : (b c o : List ℕ) (p : ℕ) → sets (sets o p b) (p + length b) c ≡ sets o p (b ++ c)
+pub sets-append : (b c o : List ℕ) (p : ℕ) → sets (sets o p b) (p + length b) c ≡ sets o p (b ++ c)
 sets-append [] c o p = rw add-zero
 sets-append (x ∷ b) c o p =
     let e : p + suc (length b) ≡ suc p + length b = omega arith in
@@ -47,7 +47,7 @@ room-last {whole = whole} {front = front} next room w e =
     omega (arith, w .next, wrote-kept w)
 
 -- one more of a part
-part-more : (l : List ℕ) (i left : ℕ) → i < length l → 0 < left → take left (drop i l) ≡ getD l i 0 ∷ take (left - 1) (drop (i + 1) l)
+pub part-more : (l : List ℕ) (i left : ℕ) → i < length l → 0 < left → take left (drop i l) ≡ getD l i 0 ∷ take (left - 1) (drop (i + 1) l)
 part-more l i zero h k = absurd (let z : ⊥ = omega arith in z)
 part-more l i (suc n) h k = rw (drop-cons l i 0 h, sub-one (suc n), add-one i)
 
@@ -135,20 +135,16 @@ sets-front [] o h = refl
 sets-front (x ∷ b) [] h = absurd (let z : ⊥ = omega arith in z)
 sets-front (x ∷ b) (y ∷ o) h = sets-cons b o x 0 ∙ ap (_∷_ x) (sets-front b o (omega arith))
 
-take-front : (b o : List ℕ) → take (length b) (b ++ o) ≡ b
-take-front [] o = refl
-take-front (x ∷ b) o = ap (_∷_ x) (take-front b o)
-
 -- what was copied to the front of a buffer is read there
 pub read-back : (l o : List ℕ) (start count : ℕ) → start + count ≤ length l → count ≤ length o
     → take count (sets o 0 (take count (drop start l))) ≡ take count (drop start l)
 read-back l o start count h k =
     let part = take count (drop start l) in
     let n : length part ≡ count = part-length l start count h in
-    rw (sets-front part o (omega arith)) (ap (λ (m : ℕ). take m (part ++ drop (length part) o)) (sym n) ∙ take-front part (drop (length part) o))
+    rw (sets-front part o (omega arith)) (ap (λ (m : ℕ). take m (part ++ drop (length part) o)) (sym n) ∙ take-append-seam part (drop (length part) o))
 
 -- what is written from the front on stands in the front
 pub wrote-front : {o o′ b : List ℕ} {p : ℕ} → length b ≤ length o → Wrote o 0 b o′ p → take p o′ ≡ b
 wrote-front {o} {o′} {b} {p} h w =
     let e : p ≡ length b = omega (arith, w .next) in
-    rw (e, w .bytes, sets-front b o h) (take-front b (drop (length b) o))
+    rw (e, w .bytes, sets-front b o h) (take-append-seam b (drop (length b) o))

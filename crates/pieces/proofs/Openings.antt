@@ -15,6 +15,8 @@ use Rattle.encoding.specs.Reading.{Reading, got, stop, _>>=_, mapReading, readW
 use Rattle.encoding.specs.Heads.{readPath}
 use Rattle.encoding.specs.Types.{rootOf, pathOf}
 use Rattle.encoding.specs.Declarations.{structHead, enumHead, synonymHead, useHead, readList, readCounted, visibilityOf, readVisibility, readName, readAttribute, readParameter, readFields, readCase, readStruct, readEnum, readTypeSynonym, readUse, declarationAfter, readDeclaration}
+use Rattle.encoding.proofs.Reading.{map-same}
+use Rattle.measure.proofs.Texts.{bind-assoc, bind-same}
 use Rattle.trees.specs.Renamed.{renamedSize}
 use Rattle.trees.specs.Encode.{Token, word, name, size, renamedToken, rootWord, names, pathTokens}
 use Rattle.trees.proofs.Spans.{path-names, path-root}
@@ -80,15 +82,10 @@ list-renamed r item item′ h zero p = refl
 list-renamed r item item′ h (suc n) p =
     map-on r (map r) (item p) _ _ (h p) λ x q. map-on (map r) (map r) (readList item n q) _ _ (list-renamed r item item′ h n q) λ xs s. refl
 
-pub same-read : {A : Type 0} (x : Reading A) → x ≡ mapReading (λ a. a) x
-unfolding mapReading
-same-read (got a n) = refl
-same-read (stop r) = refl
-
 pub counted-renamed : (ws : List ℕ) {A B : Type 0} (r : A → B) (item : ℕ → Reading A) (item′ : ℕ → Reading B) → ((p : ℕ) → item′ p ≡ mapReading r (item p)) → (p : ℕ)
     → readCounted ws item′ p ≡ mapReading (map r) (readCounted ws item p)
 unfolding readCounted
-counted-renamed ws r item item′ h p = map-on (λ n. n) (map r) (readWord ws p) _ _ (same-read (readWord ws p)) λ n q. list-renamed r item item′ h n q
+counted-renamed ws r item item′ h p = map-on (λ n. n) (map r) (readWord ws p) _ _ (sym (map-same (readWord ws p))) λ n q. list-renamed r item item′ h n q
 
 module _ {N : Type 0} (bound : ℕ) (ws : List ℕ) (nm : ℕ → N) (ty : ℕ → Reading (Ty N)) where
   abbrev noType : ℕ → Reading (Ty ℕ)
@@ -200,14 +197,6 @@ module _ {N : Type 0} (bound : ℕ) (ws : List ℕ) (nm : ℕ → N) (ty : ℕ �
         go (got d q) = rw (attributes-read q) (attributes d (readAttributes bound ws q))
         go (stop i) = refl
 
-bind-assoc : {A B C : Type 0} (x : Reading A) (f : A → ℕ → Reading B) (g : B → ℕ → Reading C) → ((x >>= f) >>= g) ≡ (x >>= λ a n. f a n >>= g)
-bind-assoc (got a n) f g = refl
-bind-assoc (stop r) f g = refl
-
-bind-same : {A B : Type 0} (x : Reading A) (f g : A → ℕ → Reading B) → ((a : A) (n : ℕ) → f a n ≡ g a n) → (x >>= f) ≡ (x >>= g)
-bind-same (got a n) f g e = e a n
-bind-same (stop r) f g e = refl
-
 module _ {N : Type 0} (bound : ℕ) (ws : List ℕ) (nm : ℕ → N) (ty : ℕ → Reading (Ty N)) where
   -- what a struct, an enum and a type synonym begin with, and what follows it
   abbrev pub titleThen : {B : Type 0} → (N → List (Attribute N) → N → List (TypeParamDecl N) → ℕ → Reading B) → ℕ → Reading B
@@ -219,9 +208,9 @@ module _ {N : Type 0} (bound : ℕ) (ws : List ℕ) (nm : ℕ → N) (ty : ℕ �
       → (titleThen last p >>= g) ≡ titleThen (λ d l x ps v. last d l x ps v >>= g) p
   title-assoc last g p =
       bind-assoc (readName bound ws nm ty p) _ g
-      ∙ bind-same (readName bound ws nm ty p) _ _ λ d q. bind-assoc (readCounted ws (readAttribute bound ws nm ty) q) _ g
-      ∙ bind-same (readCounted ws (readAttribute bound ws nm ty) q) _ _ λ l r. bind-assoc (readName bound ws nm ty r) _ g
-      ∙ bind-same (readName bound ws nm ty r) _ _ λ x s. bind-assoc (readCounted ws (readParameter bound ws nm ty) s) _ g
+      ∙ bind-same (readName bound ws nm ty p) _ _ λ d q e. bind-assoc (readCounted ws (readAttribute bound ws nm ty) q) _ g
+      ∙ bind-same (readCounted ws (readAttribute bound ws nm ty) q) _ _ λ l r e. bind-assoc (readName bound ws nm ty r) _ g
+      ∙ bind-same (readName bound ws nm ty r) _ _ λ x s e. bind-assoc (readCounted ws (readParameter bound ws nm ty) s) _ g
 
   abbrev afterStart : Reading Opening → Reading (List (Piece N))
   afterStart x = x >>= λ o n. behind bound ws nm ty o n

@@ -30,11 +30,11 @@ bind-at x f e = ap (λ y. y >>= f) e
 pub bind-none : {A B : Type 0} (x : Reading A) (f : A → ℕ → Reading B) {r : Refusal} → x ≡ stop r → (x >>= f) ≡ stop r
 bind-none x f e = ap (λ y. y >>= f) e
 
-module _ (ws pairs : List ℕ) (text : Bytes) where
-  -- the step that an answer says
-  pub stepped : {bound : ℕ} {w : Walk} {r s : Next} → bound ≡ nameCount pairs → r ≡ s → Stepped bound ws w r → Stepped (nameCount pairs) ws w s
-  stepped {bound} {w} {r} {s} e d k = subst (λ (b : ℕ). Stepped b ws w s) e (subst (Stepped bound ws w) d k)
+-- the step that an answer says
+pub stepped : (ws pairs : List ℕ) {bound : ℕ} {w : Walk} {r s : Next} → bound ≡ nameCount pairs → r ≡ s → Stepped bound ws w r → Stepped (nameCount pairs) ws w s
+stepped ws pairs {bound} {w} {r} {s} e d k = subst (λ (b : ℕ). Stepped b ws w s) e (subst (Stepped bound ws w) d k)
 
+module _ (ws pairs : List ℕ) (text : Bytes) where
   pub record BegunAt (w : Walk) : Type 0 where
     pub opening : Opening
     pub end : ℕ

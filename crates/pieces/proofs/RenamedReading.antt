@@ -15,11 +15,12 @@ use Rattle.encoding.specs.Tables.{nameBytes, nameCount}
 use Rattle.encoding.specs.Heads.{readPath}
 use Rattle.encoding.specs.Types.{pathOf, typeAt}
 use Rattle.encoding.specs.Declarations.{structHead, enumHead, synonymHead, useHead, readCounted, readVisibility, readName, readAttribute, readParameter, readFormal, readField, readNamelessField, readFields, readCase, readStruct, readEnum, readTypeSynonym, readUse, declarationAfter, readDeclaration, declarationAt}
+use Rattle.encoding.proofs.Reading.{map-same}
 use Rattle.trees.specs.Renamed.{renamed}
 use Rattle.trees.specs.Numbered.{treeAt}
 use Rattle.trees.proofs.Renaming.{map-on, path-renamed, spelled}
 use Rattle.pieces.specs.Renamed.{renamedAttribute, renamedParameter, renamedFormal, renamedField, renamedNameless, renamedFields, renamedCase, renamedDeclaration}
-use Rattle.pieces.proofs.Openings.{same-read, counted-renamed, titleThen, title-assoc}
+use Rattle.pieces.proofs.Openings.{counted-renamed, titleThen, title-assoc}
 
 module _ {N M : Type 0} (f : N → M) (g : ℕ → N) where
   module _ (bound : ℕ) (ws : List ℕ) (ty : ℕ → Reading (Ty N)) (ty′ : ℕ → Reading (Ty M)) (h : (p : ℕ) → ty′ p ≡ mapReading (renamed f) (ty p)) where
@@ -28,7 +29,7 @@ module _ {N M : Type 0} (f : N → M) (g : ℕ → N) where
 
     name : (p : ℕ) → readName bound ws g′ ty′ p ≡ mapReading f (readName bound ws g ty p)
     unfolding readName mapReading
-    name p = map-on (λ x. x) f (readBelow bound ws p) _ _ (same-read (readBelow bound ws p)) λ x q. refl
+    name p = map-on (λ x. x) f (readBelow bound ws p) _ _ (sym (map-same (readBelow bound ws p))) λ x q. refl
 
     attribute : (p : ℕ) → readAttribute bound ws g′ ty′ p ≡ mapReading (renamedAttribute f) (readAttribute bound ws g ty p)
     unfolding readAttribute mapReading
@@ -51,18 +52,18 @@ module _ {N M : Type 0} (f : N → M) (g : ℕ → N) where
     field : (p : ℕ) → readField bound ws g′ ty′ p ≡ mapReading (renamedField f) (readField bound ws g ty p)
     unfolding readField mapReading
     field p =
-        map-on (λ v. v) (renamedField f) (readVisibility ws p) _ _ (same-read (readVisibility ws p)) λ v q.
+        map-on (λ v. v) (renamedField f) (readVisibility ws p) _ _ (sym (map-same (readVisibility ws p))) λ v q.
         map-on (renamedFormal f) (renamedField f) (readFormal bound ws g ty q) _ _ (formal q) λ x r. refl
 
     nameless : (p : ℕ) → readNamelessField bound ws g′ ty′ p ≡ mapReading (renamedNameless f) (readNamelessField bound ws g ty p)
     unfolding readNamelessField mapReading
     nameless p =
-        map-on (λ v. v) (renamedNameless f) (readVisibility ws p) _ _ (same-read (readVisibility ws p)) λ v q.
+        map-on (λ v. v) (renamedNameless f) (readVisibility ws p) _ _ (sym (map-same (readVisibility ws p))) λ v q.
         map-on (renamed f) (renamedNameless f) (ty q) _ _ (h q) λ t r. refl
 
     fields : (p : ℕ) → readFields bound ws g′ ty′ p ≡ mapReading (renamedFields f) (readFields bound ws g ty p)
     unfolding readFields mapReading renamedFields
-    fields p = map-on (λ k. k) (renamedFields f) (readBelow 2 ws p) _ _ (same-read (readBelow 2 ws p)) λ k q. go (eqb k 0) q
+    fields p = map-on (λ k. k) (renamedFields f) (readBelow 2 ws p) _ _ (sym (map-same (readBelow 2 ws p))) λ k q. go (eqb k 0) q
       where
         go : (b : Bool) (q : ℕ)
             → pick b (readCounted ws (readField bound ws g′ ty′) q >>= λ xs r. got (NamedFields xs) r) (readCounted ws (readNamelessField bound ws g′ ty′) q >>= λ xs r. got (NamelessFields xs) r)
@@ -143,7 +144,7 @@ module _ {N M : Type 0} (f : N → M) (g : ℕ → N) where
 
     pub declaration-renamed : (at : ℕ) → readDeclaration bound ws g′ ty′ at ≡ mapReading (renamedDeclaration f) (readDeclaration bound ws g ty at)
     unfolding readDeclaration declarationAfter mapReading
-    declaration-renamed at = map-on (λ w. w) (renamedDeclaration f) (readWord ws at) _ _ (same-read (readWord ws at)) λ w p.
+    declaration-renamed at = map-on (λ w. w) (renamedDeclaration f) (readWord ws at) _ _ (sym (map-same (readWord ws at))) λ w p.
         go p (eqb w structHead) (eqb w enumHead) (eqb w synonymHead) (eqb w useHead)
       where
         go : (p : ℕ) (a b c d : Bool)

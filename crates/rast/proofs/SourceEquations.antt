@@ -1,7 +1,6 @@
 -- The definitions of `ToString` meet the source's own equations, in which a list of types is printed by `SeqToString` and not by a mutual recursion.
 use Prim.Native.Nat.{ℕ, suc}
 use mathlib.Core.Bool.{Bool, true, false, cond}
-use native.Mathlib.Omega.{arith}
 use mathlib.Core.Path.{_≡_, refl, ap, sym, _∙_}
 use mathlib.Core.List.{List, [], _∷_, _++_, map, flatten, append-nil, append-assoc}
 use lib.Dec.{ltb, leb·zero, leb·suc-suc}
@@ -12,6 +11,7 @@ use Rattle.rast.specs.Indent.{SeqToString}
 use Rattle.rast.specs.Sound.{isEmpty}
 use Rattle.rast.specs.DeclarationToString.{Expand, isSelfPath, isSelfOwned, isSelfBorrowed, isSelfBorrowedMut}
 use Rattle.rast.specs.Tree.{Path, Global, Crate, Self, PMemberSelect, MSels, Ty, Tys, Primitive, TIdentifier, TypeFromPath, TypeApp, Borrowed, BorrowedMut, ImplType, DynType, TupleType, FnType, IntersectionType, Array, TSynonym, TMetaData, nil, cons}
+use Rattle.rast.proofs.BytesLaws.{never}
 
 -- `seq<Type>` as a list
 unfoldable pub list : {N : Type 0} → Tys N → List (Ty N)
@@ -60,10 +60,6 @@ pub path-text : (p : Path Bytes) (xs : List Bytes) → Path·ToString (MSels p x
 unfolding Path·ToString MSels flatten
 path-text p [] = rw append-nil
 path-text p (x ∷ xs) = path-text (PMemberSelect p x) xs ∙ simp append-assoc
-
--- yes is not no
-never : {A : Type 0} → true ≡ false → A
-never e = absurd (let z : _≡_ {A = ℕ} 0 1 = cc in let y : ⊥ = omega arith in y)
 
 -- ---- `Expand`, and the comparisons with `Self` in `Formal.ToString`
 

@@ -13,6 +13,7 @@ use Rattle.encoding.specs.Refusals.{Answer, given, refused}
 use Rattle.encoding.specs.Reading.{Reading, got, stop, mapReading, whole}
 use Rattle.encoding.proofs.Tables.{impossible}
 use Rattle.output.proofs.Laws.{sets-front}
+use Rattle.encoding.proofs.Reading.{map-got}
 use Rattle.writing.specs.Written.{Readable}
 use Rattle.replace.specs.Rules.{Rule, rulesOf}
 use Rattle.rules.specs.declared.RulesAnswer.{RulesAnswer}
@@ -50,10 +51,6 @@ unfolding laidDown
 down-front o b h k l e d = rw (le-ltb (roomOf o) (b .top) h, le-ltb 64 (b .deep) k, e, d, sets-front (b .words) o l) refl
 
 -- ---- one attempt
-
-map-got : {A : Type 0} (f : A → Laid) {x : Reading A} {a : A} {n : ℕ} → x ≡ got a n → mapReading f x ≡ got (f a) n
-unfolding mapReading
-map-got f e = rw e refl
 
 -- trees with the same words and depth that both have room are answered alike
 down-same : (o : List ℕ) (b c : Laid) → b .words ≡ c .words → b .deep ≡ c .deep → b .top ≤ roomOf o → c .top ≤ roomOf o → laidDown o (given b) ≡ laidDown o (given c)

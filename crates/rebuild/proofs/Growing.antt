@@ -1,12 +1,12 @@
 -- Laws of words laid down in a buffer.
-use Prim.Native.Nat.{ℕ, zero, suc, _+_, _-_, _*_, _≤_, _<_}
+use Prim.Native.Nat.{ℕ, _+_, _-_, _*_, _≤_, _<_}
 use mathlib.Core.Path.{_≡_, refl, ap, sym, _∙_, subst}
 use mathlib.Core.List.{List, [], _∷_, _++_, append-assoc, append-nil}
 use native.Mathlib.Omega.{arith}
 use native.Mathlib.Numerals.{add-one}
-use lib.ListN.{length, take, drop, getD, set, replicate, length-append, length-drop}
+use lib.ListN.{length, take, drop, getD, set, length-append, length-drop}
 use lib.Seq.{sets, sets-eq, length-sets, take-suc, take-at, drop-at, take-take, take-add, length-take-le, getD-drop}
-use Rattle.output.proofs.Laws.{part-length}
+use Rattle.output.proofs.Laws.{part-length, sets-append}
 use Rattle.rules.specs.Table.{toWords}
 use Rattle.rules.specs.Scans.{depthOf}
 use Rattle.encoding.specs.Reading.{got}
@@ -18,10 +18,6 @@ use Rattle.rebuild.specs.declared.Rebuilt.the-variants.{Done, Full}
 use Rattle.rebuild.specs.Laid.{Grown, Lays, laid, over, GivesTo, given, tooLong, rebuilt, full, WordRebuilds}
 
 -- ---- copying
-
-sets-append : (b c o : List ℕ) (p : ℕ) → sets (sets o p b) (p + length b) c ≡ sets o p (b ++ c)
-sets-append [] c o p = let z : p + 0 ≡ p = omega arith in ap (λ q. sets o q c) z
-sets-append (x ∷ b) c o p = let z : p + suc (length b) ≡ suc p + length b = omega arith in ap (λ q. sets (sets (set o p x) (suc p) b) q c) z ∙ sets-append b c (set o p x) (suc p)
 
 pub copy-more : (o s : List ℕ) (p start i : ℕ) → start + i < length s
     → set (sets o p (take i (drop start s))) (p + i) (getD s (start + i) 0) ≡ sets o p (take (i + 1) (drop start s))
@@ -128,17 +124,6 @@ module _ {limit : ℕ} (o : List ℕ) (w p at : ℕ) where
 
   pub word-over : limit ≤ p → WordRebuilds limit o p (got w (at + 1)) o Full
   word-over h = let k : limit < p + 1 = omega arith in full refl k refl
-
--- ---- zero words
-
-pub zero-more : (i : ℕ) → _≡_ {A = List ℕ} (replicate i 0 ++ (0 ∷ [])) (replicate (suc i) 0)
-zero-more zero = refl
-zero-more (suc i) = ap (λ l. 0 ∷ l) (zero-more i)
-
-pub take-set : (l : List ℕ) (i x : ℕ) → i < length l → take (suc i) (set l i x) ≡ take i l ++ (x ∷ [])
-take-set [] i x h = absurd (let z : ⊥ = omega arith in z)
-take-set (y ∷ l) zero x h = refl
-take-set (y ∷ l) (suc i) x h = ap (λ k. y ∷ k) (take-set l i x (omega arith))
 
 -- ---- the to of a rule in place of a finished type
 

@@ -13,7 +13,7 @@ use Rattle.encoding.specs.Types.{readTypes}
 use Rattle.encoding.proofs.Tables.{impossible}
 use Rattle.encoding.proofs.Inside.{head-lies}
 use Rattle.encoding.proofs.HeadWords.{plain-below, plain-end}
-use Rattle.output.proofs.Laws.{part-length}
+use Rattle.output.proofs.Laws.{part-length, part-more}
 use Rattle.trees.specs.Encode.{count, tokensAll, encode, encodeAll, words, wordsAll}
 use Rattle.trees.specs.Numbered.{treeAt}
 use Rattle.trees.proofs.Nodes.{Below, First, types-count, first-type}
@@ -26,7 +26,6 @@ use Rattle.replace.specs.Replace.{Replace, Replaces, ruled}
 use Rattle.replace.specs.Laying.{depth, deepest, peak, peaks}
 use Rattle.replace.specs.Rules.{Rule, rulesOf, mappingOf}
 use Rattle.replace.proofs.Nodes.{replaces-count, replace-node, peak-node, depth-node, peak-least, depth-words}
-use Rattle.comparison.proofs.Steps.{take-word}
 use Rattle.rules.specs.declared.Found.{Found}
 use Rattle.rules.specs.Table.{toWords, foundFrom, RuleAt}
 use Rattle.rules.specs.Scans.{Spans, depthOf}
@@ -358,7 +357,7 @@ module _ (ws pairs : List ℕ) (at : ℕ) (m : Ty ℕ → Ty ℕ) {t : Ty ℕ} {
   word : take (ownEnd ws at - at) (drop at ws) ≡ getD ws at 0 ∷ []
   word =
       let z : ownEnd ws at - at ≡ 1 = omega (arith, ends) in
-      rw z (take-word ws at 1 (omega (arith, inside .0, inside .1)) (omega arith))
+      rw z (part-more ws at 1 (omega (arith, inside .0, inside .1)) (omega arith))
 
   pub plain-parts : {limit p : ℕ} {o o₂ : List ℕ} {r : Rebuilt} → limit ≤ length o → WordRebuilds limit o p (got (getD ws at 0) (at + 1)) o₂ r → PartsRebuild m ws pairs at limit o p o₂ r
   plain-parts {limit} {p} {o} {o₂} l (rebuilt {a = a} {n = j} {q = q} {d = d} x f w g c) =

@@ -1,5 +1,5 @@
 -- Laws of pieces that are laid down one behind the other.
-use Prim.Native.Nat.{ℕ, suc, _+_, _≤_, max}
+use Prim.Native.Nat.{ℕ, suc, _+_, max}
 use mathlib.Core.Path.{_≡_, refl, ap, _∙_}
 use mathlib.Core.List.{List, [], _∷_, _++_, map, map-append, map-congr-left, append-nil}
 use native.Mathlib.Omega.{arith}
@@ -48,13 +48,6 @@ module _ (m : Ty ℕ → Ty ℕ) where
 
   pub depth-append : (ps qs : List (Piece ℕ)) → rebuiltDepth m (ps ++ qs) ≡ max (rebuiltDepth m ps) (rebuiltDepth m qs)
   depth-append ps qs = ap deepestPiece (map-append (pieceWith (Replace m)) ps qs) ∙ deepest-append (map (pieceWith (Replace m)) ps) (map (pieceWith (Replace m)) qs)
-
-  -- no fewer words lie there than are left
-  pub top-least : (ps : List (Piece ℕ)) → length (rebuiltWords m ps) ≤ topPieces m ps
-  unfolding topPieces pieceWith
-  top-least [] = omega (arith, encode-none)
-  top-least (own k ∷ ps) = let h = top-least ps in omega (arith, h, encode-own k (map (pieceWith (Replace m)) ps))
-  top-least (type t ∷ ps) = let h = top-least ps in omega (arith, h, encode-type (Replace m t) (map (pieceWith (Replace m)) ps))
 
   pub top-append : (ps qs : List (Piece ℕ)) → topPieces m (ps ++ qs) ≡ max (topPieces m ps) (length (rebuiltWords m ps) + topPieces m qs)
   unfolding topPieces pieceWith

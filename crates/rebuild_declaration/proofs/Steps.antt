@@ -17,7 +17,6 @@ use Rattle.writing.specs.Written.{Readable}
 use Rattle.replace.specs.Replace.{Replace}
 use Rattle.replace.specs.Laying.{depth, peak}
 use Rattle.pieces.specs.declared.Walk.{Walk}
-use Rattle.pieces.specs.declared.Next.{Next}
 use Rattle.pieces.specs.declared.Next.the-variants.{OwnWords, TypeDue, Ended, Halted}
 use Rattle.pieces.specs.declared.Start.{Start}
 use Rattle.pieces.specs.declared.Start.the-variants.{Begun, NotBegun}
@@ -45,9 +44,6 @@ use Rattle.rebuild_declaration.proofs.Pieces.{words-append, depth-appen
 -- ---- what a step reads
 
 module _ (ws pairs : List ℕ) where
-  pub stepped : {bound : ℕ} {w : Walk} {r s : Next} → bound ≡ nameCount pairs → r ≡ s → Stepped bound ws w r → Stepped (nameCount pairs) ws w s
-  stepped {w = w} {s = s} b e k = subst (λ n. Stepped n ws w s) b (subst (Stepped _ ws w) e k)
-
   -- own words
   pub record OwnLaid (w w′ : Walk) : Type 0 where
     pub tokens : List (Token ℕ)

@@ -8,10 +8,11 @@ use native.Mathlib.Omega.{arith}
 use borrow.Author.Tests.{eqb-true, eq-eqb}
 use lib.Dec.{eqb, ltb}
 use lib.ListN.{length, getD, drop}
-use Rattle.rast.specs.Bytes.{Bytes, _and_, same}
+use Rattle.rast.specs.Bytes.{Bytes, _and_}
 use Rattle.rast.specs.Tree.{Path, Global, Crate, Self, PMemberSelect, PrimitiveTy, U8, U16, U32, U64, U128, I8, I16, I32, I64, I128, USIZE, Bool·, Ty, Tys, Primitive, TIdentifier, TypeFromPath, TypeApp, Borrowed, BorrowedMut, ImplType, DynType, TupleType, FnType, IntersectionType, Array, TSynonym, TMetaData, nil, cons}
+use Rattle.rast.proofs.BytesLaws.{and-left, and-right, same-self}
 use Rattle.encoding.specs.Types.{primitives}
-use Rattle.encoding.proofs.Tables.{impossible, and-left, and-right, same-eq}
+use Rattle.encoding.proofs.Tables.{impossible, same-eq}
 use Rattle.trees.specs.Encode.{Token, word, name, size, primitiveWord, flagsWord, rootWord, names, pathTokens, count, tokens, tokensAll}
 use Rattle.replace.specs.Same.{sameSize, sameToken, sameTokens, sameType}
 
@@ -44,18 +45,13 @@ tokens-eq (x ∷ xs) [] e = impossible (cc)
 tokens-eq (x ∷ xs) (y ∷ ys) e =
     ap (λ t. t ∷ xs) (token-eq x y (and-left (sameToken x y) (sameTokens xs ys) e)) ∙ ap (λ l. y ∷ l) (tokens-eq xs ys (and-right (sameToken x y) (sameTokens xs ys) e))
 
-bytes-self : (a : Bytes) → same a a ≡ true
-unfolding same _and_
-bytes-self [] = refl
-bytes-self (x ∷ a) = rw (eq-eqb x x refl) (bytes-self a)
-
 tokens-self : (xs : List (Token Bytes)) → sameTokens xs xs ≡ true
 unfolding sameTokens sameToken sameSize _and_
 tokens-self [] = refl
 tokens-self (word k ∷ xs) = rw (eq-eqb k k refl) (tokens-self xs)
-tokens-self (name x ∷ xs) = rw (bytes-self x) (tokens-self xs)
+tokens-self (name x ∷ xs) = rw (same-self x) (tokens-self xs)
 tokens-self (size none ∷ xs) = tokens-self xs
-tokens-self (size (some x) ∷ xs) = rw (bytes-self x) (tokens-self xs)
+tokens-self (size (some x) ∷ xs) = rw (same-self x) (tokens-self xs)
 
 -- ---- own words
 

@@ -10,7 +10,7 @@ use Rattle.encoding.specs.declared.Head.{Head}
 use Rattle.encoding.specs.Types.{sizeOf}
 use Rattle.encoding.proofs.Tables.{impossible}
 use Rattle.trees.specs.Encode.{count, tokens, tokensAll, words, wordsAll}
-use Rattle.trees.proofs.Nodes.{Node, plain, ident, path, apply, ref, refMut, impl, dyn, tuple, function, both, array, synonym, meta, snoc, count-snoc}
+use Rattle.trees.proofs.Nodes.{Node, plain, ident, path, apply, ref, refMut, impl, dyn, tuple, function, both, array, synonym, meta, snoc, count-snoc, words-nil, words-cons, words-one, words-snoc}
 use Rattle.replace.specs.Replace.{Replace, Replaces}
 use Rattle.replace.specs.Laying.{depth, deepest, peak, peaks}
 
@@ -98,24 +98,8 @@ module _ {N : Type 0} (m : Ty N → Ty N) where
 
 -- ---- words
 
-pub words-nil : (N : Type 0) → wordsAll {N = N} nil ≡ 0
-unfolding wordsAll tokensAll
-words-nil N = refl
-
-pub words-cons : {N : Type 0} (t : Ty N) (ts : Tys N) → wordsAll (cons t ts) ≡ words t + wordsAll ts
-unfolding words wordsAll tokensAll
-words-cons t ts = length-append (tokens t) (tokensAll ts)
-
-words-one : {N : Type 0} (t : Ty N) → wordsAll (cons t nil) ≡ words t
-words-one {N} t = omega (arith, words-cons t nil, words-nil N)
-
 words-two : {N : Type 0} (t u : Ty N) → wordsAll (cons t (cons u nil)) ≡ words t + words u
 words-two t u = words-cons t (cons u nil) ∙ ap (λ n. words t + n) (words-one u)
-
-words-snoc : {N : Type 0} (ts : Tys N) (t : Ty N) → wordsAll (snoc ts t) ≡ wordsAll ts + words t
-unfolding snoc
-words-snoc {N} nil t = omega (arith, words-one t, words-nil N)
-words-snoc (cons u us) t = let k = words-snoc us t in omega (arith, words-cons u us, words-cons u (snoc us t), k)
 
 -- ---- a head's type
 

@@ -16,12 +16,12 @@ use Rattle.encoding.proofs.Inside.{head-lies}
 use Rattle.trees.specs.Encode.{count, encode, encodeAll, words, wordsAll}
 use Rattle.trees.specs.Runs.{Run}
 use Rattle.trees.specs.Numbered.{treeAt}
-use Rattle.trees.proofs.Nodes.{Node, node-below, types-count, first-type}
+use Rattle.trees.proofs.Nodes.{Node, node-below, types-count, first-type, words-nil, words-cons}
 use Rattle.trees.proofs.Spans.{type-stands, node-spells}
 use Rattle.trees.proofs.Renaming.{encode-words, encode-all}
 use Rattle.replace.specs.Replace.{Replace, Replaces}
 use Rattle.replace.specs.Laying.{peak, peaks}
-use Rattle.replace.proofs.Nodes.{replace-same, peak-node, words-nil, words-cons}
+use Rattle.replace.proofs.Nodes.{replace-same, peak-node}
 
 -- a type that comes back as it was
 pub record Kept (m : Ty ℕ → Ty ℕ) (t : Ty ℕ) : Type 0 where

@@ -20,8 +20,6 @@ use Rattle.encoding.specs.Tables.{overlong, goodPairs, checkTables, nameBytes, 
 use Rattle.encoding.specs.Types.{readTypes, typeAt}
 use Rattle.encoding.specs.Declarations.{readList}
 use Rattle.encoding.proofs.Tables.{impossible, tables-passed}
-use Rattle.encoding.specs.declared.Scan.{Scan}
-use Rattle.encoding.specs.declared.Scan.the-variants.{At, Refused}
 use Rattle.encoding.specs.Scans.{ended}
 use Rattle.encoding.proofs.Reading.{scan-got, scan-stop}
 use Rattle.trees.specs.Renamed.{renamed}
@@ -41,6 +39,7 @@ use Rattle.rules.specs.declared.RulesAnswer.the-variants.{Rules, NoRules
 use Rattle.rules.specs.Table.{entered, repeatedFrom, Fits, Links, Unlinked, Entries, RuleAt, Tabled}
 use Rattle.rules.specs.Scans.{Deepens, Spans, depthOf, RuleRead, rule, none, Listed, listed, unlisted, RulesRead, read, unread}
 use Rattle.rules.proofs.Tables.{tabled-kept, tabled-more, same-tabled, rule-entered, still-unlinked, tabled-fits, repeated-trees}
+use Rattle.rules.proofs.Steps.{counted}
 
 -- ---- from the acceptance of a type to its tree
 
@@ -126,12 +125,9 @@ module _ (rules pairs : List ℕ) (n at : ℕ) where
     within = omega arith;
   }
 
-  more : (i : ℕ) → i < n → n - i ≡ suc (n - (i + 1))
-  more i h = omega arith
-
   pub filling-stops : {table table′ : List ℕ} {place i : ℕ} {k : Refusal} → i < n → Filling table place i → item place ≡ stop k → Listed rules pairs n at table′ (Refused k)
   unfolding readList mapReading
-  filling-stops {place = place} {i = i} {k = k} h f e = let d : readList item n at ≡ stop k = f .rest ∙ rw (more i h, e) refl in unlisted d
+  filling-stops {place = place} {i = i} {k = k} h f e = let d : readList item n at ≡ stop k = f .rest ∙ rw (counted i n h, e) refl in unlisted d
 
   step : (done : List Rule) (place m k : ℕ) (r : Rule) → item place ≡ got r m → mapReading (λ rs. done ++ rs) (readList item (suc k) place) ≡ mapReading (λ rs. (done ++ (r ∷ [])) ++ rs) (readList item k m)
   unfolding readList mapReading
@@ -155,7 +151,7 @@ module _ (rules pairs : List ℕ) (n at : ℕ) where
         done = f .done ++ ((from, to) ∷ []);
         tabled = tabled-more rules pairs (entered table i place m q) 0 (f .done) (tabled-kept rules pairs table i place m q 0 (f .done) (omega (arith, f .many)) (f .tabled)) (subst (λ j. RuleAt rules pairs (entered table i place m q) j (from, to)) z at-i);
         many = omega (arith, f .many, length-append (f .done) ((from, to) ∷ []));
-        rest = f .rest ∙ rw (more i h) (step (f .done) place q (n - (i + 1)) (from, to) (rule-got (treeAt rules pairs) place a b));
+        rest = f .rest ∙ rw (counted i n h) (step (f .done) place q (n - (i + 1)) (from, to) (rule-got (treeAt rules pairs) place a b));
         unlinked = still-unlinked table i place m q few (f .unlinked);
         inside = omega (arith, e₂, v .0 .ends);
         within = omega arith;

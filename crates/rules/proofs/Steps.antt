@@ -9,12 +9,12 @@ use borrow.Author.Tests.{ne-eqb}
 use lib.ListN.{length, getD, take, drop, length-take, length-drop}
 use lib.Seq.{drop-cons}
 use Rattle.rast.specs.Bytes.{Bytes, _and_}
-use Rattle.output.proofs.Laws.{part-length}
+use Rattle.output.proofs.Laws.{part-length, part-more}
 use Rattle.encoding.specs.Refusals.{pick}
 use Rattle.encoding.proofs.Tables.{impossible}
 use Rattle.comparison.specs.declared.Due.the-variants.{Kind}
 use Rattle.comparison.specs.Runs.{sameRuns, agrees}
-use Rattle.comparison.proofs.Steps.{runs-uneven, take-word}
+use Rattle.comparison.proofs.Steps.{runs-uneven}
 use Rattle.rules.specs.declared.Found.the-variants.{At}
 use Rattle.rules.specs.Table.{slot, slotOf, fromWords, firstOf, isFrom, foundFrom, amongFrom, repeatedFrom, stands, someStands, noneStands, Fits}
 
@@ -33,7 +33,7 @@ from-uneven name rules table out k i start count f h l d =
 from-front : (rules table : List ℕ) (k i : ℕ) → Fits rules table k → i < k → (rest : List ℕ) × (fromWords rules table i ≡ getD rules (getD table (4 * i) 0) 0 ∷ rest)
 unfolding fromWords
 from-front rules table k i f h =
-    (_, take-word rules (getD table (4 * i) 0) (getD table (4 * i + 1) 0 - getD table (4 * i) 0) (omega (arith, f .from i h, f .to i h, f .inside i h)) (omega (arith, f .from i h)))
+    (_, part-more rules (getD table (4 * i) 0) (getD table (4 * i + 1) 0 - getD table (4 * i) 0) (omega (arith, f .from i h, f .to i h, f .inside i h)) (omega (arith, f .from i h)))
 
 from-length : (rules table : List ℕ) (k i : ℕ) → Fits rules table k → i < k → length (fromWords rules table i) ≡ getD table (4 * i + 1) 0 - getD table (4 * i) 0
 unfolding fromWords
@@ -47,7 +47,7 @@ module _ (name : ℕ → Bytes) (rules table : List ℕ) {k : ℕ} (f : Fits rul
   from-other i w ws h d = rw (from-front rules table k i f h .1, ne-eqb w (getD rules (getD table (4 * i) 0) 0) (λ e. d (ap slot (sym e)))) refl
 
   pub from-missed : (out : List ℕ) (start count : ℕ) → start < length out → 0 < count → (i : ℕ) → i < k → (slotOf rules table i ≡ slot (getD out start 0) → ⊥) → isFrom name rules table (take count (drop start out)) i ≡ false
-  from-missed out start count l h i m d = rw (take-word out start count l h) (from-other i (getD out start 0) _ m d)
+  from-missed out start count l h i m d = rw (part-more out start count l h) (from-other i (getD out start 0) _ m d)
 
   module _ (ws : List ℕ) (at : ℕ) (l : at < length ws) where
     pub stands-missed : (i : ℕ) → i < k → (slotOf rules table i ≡ slot (getD ws at 0) → ⊥) → stands name rules table (drop at ws) i ≡ false
@@ -68,10 +68,11 @@ module _ (name : ℕ → Bytes) (rules table : List ℕ) {k : ℕ} (f : Fits rul
     unfolding stands fromWords
     stands-run i h = ap (λ n. sameRuns name Kind (take n (drop at ws)) (take (getD table (4 * i + 1) 0 - getD table (4 * i) 0) (drop (getD table (4 * i) 0) rules))) (from-length rules table k i f h)
 
-module _ (name : ℕ → Bytes) (rules table : List ℕ) where
-  counted : (i k : ℕ) → i < k → k - i ≡ suc (k - (i + 1))
-  counted i k h = omega arith
+-- of k, those from i on are one and those from i + 1 on
+pub counted : (i k : ℕ) → i < k → k - i ≡ suc (k - (i + 1))
+counted i k h = omega arith
 
+module _ (name : ℕ → Bytes) (rules table : List ℕ) where
   past : (i k : ℕ) → k ≤ i → k - i ≡ 0
   past i k h = omega arith
 

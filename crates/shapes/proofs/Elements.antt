@@ -6,8 +6,8 @@ use mathlib.Core.Option.{Option, some, none}
 use Rattle.rast.specs.Bytes.{Bytes, _and_}
 use Rattle.rast.specs.Tree.{Ty, Tys, Primitive, TIdentifier, TypeFromPath, TypeApp, Borrowed, BorrowedMut, ImplType, DynType, TupleType, FnType, IntersectionType, Array, TSynonym, TMetaData, nil, cons}
 use Rattle.rast.specs.DeclarationToString.{Expand}
+use Rattle.rast.proofs.BytesLaws.{and-false}
 use Rattle.encoding.proofs.Tables.{impossible}
-use Rattle.encoding.proofs.Names.{and-false}
 use Rattle.encoding.proofs.TypeKinds.{kind}
 use Rattle.trees.specs.Encode.{words}
 use Rattle.trees.specs.Places.{Place, place}

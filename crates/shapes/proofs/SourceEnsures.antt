@@ -14,6 +14,7 @@ use Rattle.rast.proofs.SourceEquations.{isWrapper, expand-opens}
 use Rattle.encoding.proofs.Tables.{impossible}
 use Rattle.trees.specs.Encode.{tokens, tokensAll, words, wordsAll}
 use Rattle.trees.specs.Places.{Place, place}
+use Rattle.trees.proofs.Nodes.{words-cons}
 use Rattle.classes.specs.Steps.{andThen, typeAtIndex, argumentAt, argumentOf, dynAt, dynOf}
 use Rattle.shapes.specs.Parts.{removedAt, expandedAt, RemoveSynonyms, ExpandAt, RcUnderlying, BoxDynUnderlying, expanded}
 use Rattle.shapes.specs.Shapes.{IsRc, IsBoxDyn}
@@ -38,10 +39,6 @@ part-in s t = record { starts = omega (arith, s .starts, t .starts); ends = omeg
 
 -- ---- arguments
 
-cons-words : (t : Ty Bytes) (ts : Tys Bytes) → wordsAll (cons t ts) ≡ words t + wordsAll ts
-unfolding wordsAll words tokensAll
-cons-words t ts = length-append (tokens t) (tokensAll ts)
-
 apply-words : (b : Ty Bytes) (ts : Tys Bytes) → words (TypeApp b ts) ≡ 2 + words b + wordsAll ts
 unfolding wordsAll words tokens
 apply-words b ts = omega (arith, length-append (tokens b) (tokensAll ts))
@@ -57,10 +54,10 @@ index-inside zero p (cons t ts) q e =
     let d : place p t ≡ q = some-same e in
     let i : p ≡ q .at = ap (λ (r : Place Bytes). r .at) d in
     let j : words t ≡ words (q .tpe) = ap (λ (r : Place Bytes). words (r .tpe)) d in
-    (omega (arith, i), omega (arith, i, j, cons-words t ts))
+    (omega (arith, i), omega (arith, i, j, words-cons t ts))
 index-inside (suc i) p (cons t ts) q e =
     let k = index-inside i (p + words t) ts q e in
-    (omega (arith, k .0), omega (arith, k .1, cons-words t ts))
+    (omega (arith, k .0), omega (arith, k .1, words-cons t ts))
 
 argument-part : (i p : ℕ) (t : Ty Bytes) (q : Place Bytes) → argumentAt i p t ≡ some q → PartOf q (place p t)
 unfolding argumentAt

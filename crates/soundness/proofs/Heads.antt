@@ -10,6 +10,7 @@ use lib.Dec.{eqb, ltb}
 use Rattle.rast.specs.Bytes.{Bytes, _and_}
 use Rattle.rast.specs.Tree.{Ty, Tys, TypeApp, Borrowed, BorrowedMut, ImplType, DynType, TupleType, FnType, IntersectionType, TSynonym, nil, cons}
 use Rattle.rast.specs.Sound.{sound, sounds, isNamed, isIntersection, isEmpty}
+use Rattle.rast.proofs.BytesLaws.{and-true}
 use Rattle.encoding.specs.declared.Head.{Head}
 use Rattle.encoding.specs.declared.Head.the-variants.{Plain, Name, FromPath, Apply, Ref, RefMut, Impl, Dyn, Tuple, Function, Both, ArrayOf, Synonym, Meta}
 use Rattle.encoding.specs.Refusals.{pick}
@@ -17,8 +18,9 @@ use Rattle.encoding.specs.Reading.{Reading, got, stop, _>>=_}
 use Rattle.encoding.specs.Heads.{kids}
 use Rattle.encoding.specs.Types.{readTypes, readNode}
 use Rattle.encoding.proofs.Types.{made₂-got}
+use Rattle.measure.proofs.Texts.{snoc, types-snoc, types-two}
 use Rattle.soundness.specs.Judging.{unlessJudged, shapeFits, soundAs, soundRest, soundFrom, headFits, wordsSound, headSound, firstJudged, lastJudged, firstAsk, lastAsk}
-use Rattle.soundness.proofs.Names.{and-true, and-assoc}
+use Rattle.soundness.proofs.Names.{and-assoc}
 
 -- ---- types, one behind the other
 
@@ -27,44 +29,6 @@ types-any : (f : ℕ → Reading (Ty Bytes)) (n p r : ℕ) {ts : Tys Bytes} → 
 unfolding readTypes isEmpty
 types-any f zero p r {ts} e = let d : ts ≡ nil = cc in rw d
 types-any f (suc n) p r {ts} e = let m = made₂-got (f p) (readTypes f n) cons e in rw (m .made, lt-ltb 0 (suc n) (omega arith))
-
-types-two : (f : ℕ → Reading (Ty Bytes)) (p : ℕ) → readTypes f 2 p ≡ (f p >>= λ t q. f q >>= λ u r. got (cons t (cons u nil)) r)
-unfolding readTypes
-types-two f p = first (f p)
-  where
-    second : (t : Ty Bytes) (y : Reading (Ty Bytes)) → ((y >>= λ u r. got (cons u nil) r) >>= λ ts r. got (cons t ts) r) ≡ (y >>= λ u r. got (cons t (cons u nil)) r)
-    second t (got u r) = refl
-    second t (stop k) = refl
-
-    first : (x : Reading (Ty Bytes)) → (x >>= λ t q. readTypes f 1 q >>= λ ts r. got (cons t ts) r) ≡ (x >>= λ t q. f q >>= λ u r. got (cons t (cons u nil)) r)
-    first (got t q) = second t (f q)
-    first (stop k) = refl
-
-unfoldable snoc : {N : Type 0} → Tys N → Ty N → Tys N
-snoc nil t = cons t nil
-snoc (cons u ts) t = cons u (snoc ts t)
-
--- the last of some types is read behind the others
-types-last : (f : ℕ → Reading (Ty Bytes)) (n p : ℕ) → readTypes f (suc n) p ≡ (readTypes f n p >>= λ ts q. f q >>= λ t r. got (snoc ts t) r)
-unfolding readTypes snoc
-types-last f zero p = refl
-types-last f (suc n) p = go (f p) (λ q. types-last f n q)
-  where
-    step : (t : Ty Bytes) (x : Reading (Tys Bytes)) → ((x >>= λ ts q. f q >>= λ u r. got (snoc ts u) r) >>= λ ts r. got (cons t ts) r)
-        ≡ ((x >>= λ ts r. got (cons t ts) r) >>= λ ts q. f q >>= λ u r. got (snoc ts u) r)
-    step t (stop k) = refl
-    step t (got ts q) = last (f q)
-      where
-        last : (y : Reading (Ty Bytes)) → ((y >>= λ u r. got (snoc ts u) r) >>= λ ts r. got (cons t ts) r) ≡ (y >>= λ u r. got (cons t (snoc ts u)) r)
-        last (got u r) = refl
-        last (stop k) = refl
-
-    go : (x : Reading (Ty Bytes))
-        → ((q : ℕ) → readTypes f (suc n) q ≡ (readTypes f n q >>= λ ts q. f q >>= λ t r. got (snoc ts t) r))
-        → (x >>= λ t q. readTypes f (suc n) q >>= λ ts r. got (cons t ts) r)
-        ≡ ((x >>= λ t q. readTypes f n q >>= λ ts r. got (cons t ts) r) >>= λ ts q. f q >>= λ t r. got (snoc ts t) r)
-    go (stop k) ih = refl
-    go (got t q) ih = ap (λ (y : Reading (Tys Bytes)). y >>= λ ts r. got (cons t ts) r) (ih q) ∙ step t (readTypes f n q)
 
 -- ---- what some types are asked
 
@@ -249,7 +213,7 @@ module _ (ws : List ℕ) (name : ℕ → Bytes) (ask : ℕ) where
     node-judged f Dyn p = made Dyn (f p) DynType (λ t. cons t nil) (λ t n e. fits-under Dyn (DynType t) t refl refl refl refl refl refl)
     node-judged f (Tuple n) p = kept (Tuple n) (readTypes f n p) TupleType (λ ts. fits-tuple n ts)
     node-judged f (Function n) p =
-        rw (add-one n, types-last f n p) (made₂ (Function n) (readTypes f n p) f FnType snoc (λ ts t m r d e. fits-function f n p m ts t d))
+        rw (add-one n, types-snoc f n p) (made₂ (Function n) (readTypes f n p) f FnType snoc (λ ts t m r d e. fits-function f n p m ts t d))
     node-judged f Both p = rw (types-two f p) (made₂ Both (f p) f IntersectionType (λ l r. cons l (cons r nil)) (λ l r m n d e. fits-both l r))
     node-judged f (ArrayOf s) p = made (ArrayOf s) (f p) _ (λ t. cons t nil) (λ t n e. fits-array s _ t refl refl refl)
     node-judged f Synonym p = rw (types-two f p) (made₂ Synonym (f p) f TSynonym (λ d b. cons d (cons b nil)) (λ d b m n e k. fits-synonym d b))

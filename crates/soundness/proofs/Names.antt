@@ -12,6 +12,7 @@ use lib.ListN.{length, getD, set, replicate, length-set, take, drop, drop-of-len
 use lib.Seq.{drop-cons, getD-set-same, getD-set-other}
 use Rattle.rast.specs.Bytes.{Bytes, ascii, same, each, among, _and_, _or_}
 use Rattle.rast.specs.Sound.{within, isLetter, isWordStart, isWordByte, isWord, excluded, soundName, soundSize}
+use Rattle.rast.proofs.BytesLaws.{and-yes}
 use Rattle.encoding.specs.Refusals.{pick}
 use Rattle.encoding.specs.Tables.{fixedNames, nameBytes, nameCount}
 use Rattle.encoding.specs.Types.{sizeOf}
@@ -20,12 +21,7 @@ use Rattle.soundness.specs.declared.NameCheck.{NameCheck}
 use Rattle.soundness.specs.declared.NameCheck.the-variants.{Fine, Poor, NoName}
 use Rattle.soundness.specs.Judging.{letters, beginsExcluded, WordBytes, Known, unlessJudged, Checked, fine, poor, no-name}
 use Rattle.encoding.proofs.Tables.{impossible, everyBelow, every-at, same-eq, name-fixed}
-use Rattle.encoding.proofs.Names.{beq-eq, and-yes}
-
-pub and-true : (a : Bool) → (a and true) ≡ a
-unfolding _and_
-and-true true = refl
-and-true false = refl
+use Rattle.encoding.proofs.Names.{beq-eq}
 
 pub or-false : (a : Bool) → (a or false) ≡ a
 or-false true = refl

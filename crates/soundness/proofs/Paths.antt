@@ -11,6 +11,7 @@ use lib.Seq.{drop-cons}
 use Rattle.rast.specs.Bytes.{Bytes, _and_}
 use Rattle.rast.specs.Tree.{Path, Global, Crate, Self, PMemberSelect, MSels}
 use Rattle.rast.specs.Sound.{soundName, soundNames, isGlobal, soundPath}
+use Rattle.rast.proofs.BytesLaws.{and-true}
 use Rattle.encoding.specs.declared.Refusal.{Refusal}
 use Rattle.encoding.specs.declared.Refusal.the-variants.{UnknownWord}
 use Rattle.encoding.specs.declared.PathAt.{PathAt}
@@ -29,7 +30,7 @@ use Rattle.soundness.specs.declared.OwnScan.{OwnScan}
 use Rattle.soundness.specs.declared.OwnScan.the-variants.{Leaf, NotSound, NoNode}
 use Rattle.soundness.specs.Judging.{allNamesSound, unlessJudged, Onward, wordsSound, headSound, Scanned, not-sound, rootScan}
 use Rattle.encoding.proofs.Names.{part-to}
-use Rattle.soundness.proofs.Names.{and-true, and-assoc}
+use Rattle.soundness.proofs.Names.{and-assoc}
 use Rattle.soundness.proofs.Scans.{scanned-leaf, scanned-unsound, scanned-stop}
 
 -- ---- the names one by one

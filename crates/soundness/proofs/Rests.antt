@@ -9,6 +9,7 @@ use borrow.Author.Tests.{lt-ltb, le-ltb}
 use lib.ListN.{length}
 use Rattle.rast.specs.Bytes.{Bytes, _and_}
 use Rattle.rast.specs.Tree.{Ty, Tys, nil, cons}
+use Rattle.rast.proofs.BytesLaws.{and-true}
 use Rattle.encoding.specs.declared.Refusal.{Refusal}
 use Rattle.encoding.specs.declared.Refusal.the-variants.{TooDeep}
 use Rattle.encoding.specs.declared.Head.{Head}
@@ -22,7 +23,6 @@ use Rattle.measure.specs.Lengths.{Counted}
 use Rattle.measure.proofs.Texts.{bind-assoc, bind-same}
 use Rattle.measure.proofs.Rests.{types-cut}
 use Rattle.soundness.specs.Judging.{soundAs, soundRest, soundFrom, headSound, firstAsk, lastAsk, levelsAt, restAt, askNext}
-use Rattle.soundness.proofs.Names.{and-true}
 use Rattle.soundness.proofs.Heads.{node-judged}
 
 -- ---- levels

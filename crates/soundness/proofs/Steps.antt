@@ -9,6 +9,7 @@ use lib.ListN.{length, length-set}
 use Rattle.rast.specs.Bytes.{Bytes, _and_}
 use Rattle.rast.specs.Tree.{Ty}
 use Rattle.rast.specs.Sound.{sound}
+use Rattle.rast.proofs.BytesLaws.{and-true}
 use Rattle.encoding.specs.declared.Refusal.{Refusal}
 use Rattle.encoding.specs.declared.Refusal.the-variants.{TooDeep, LeftOver}
 use Rattle.encoding.specs.declared.Check.the-variants.{Passed}
@@ -28,7 +29,6 @@ use Rattle.soundness.specs.declared.Step.{Step}
 use Rattle.soundness.specs.declared.Step.the-variants.{On, Ended, Unfit, Halt}
 use Rattle.soundness.specs.Judging.{Ready, unlessJudged, shapeFits, soundAs, soundRest, headSound, levelsAt, restAt, levelsOf, restOf, behindOf, leaving, nextType, under, pushed, Outward, Kept, Stepped, on, ended, unfit, halt}
 use Rattle.soundness.specs.Calls.{soundAnswer}
-use Rattle.soundness.proofs.Names.{and-true}
 use Rattle.soundness.proofs.Rests.{level-ended, level-next, rest-deep, rest-stop, rest-leaf, rest-down, rest-unsound}
 use Rattle.soundness.proofs.Scans.{OwnLeaf, OwnNode}
 

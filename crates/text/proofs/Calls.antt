@@ -15,10 +15,10 @@ use Rattle.text.specs.declared.TextAnswer.{TextAnswer}
 use Rattle.text.specs.declared.TextAnswer.the-variants.{Length, Refused}
 use Rattle.text.specs.Calls.{filled}
 
-answer-of : TextAnswer × List ℕ → TextAnswer
+unfoldable pub answer-of : TextAnswer × List ℕ → TextAnswer
 answer-of p = p .0
 
-buffer-of : TextAnswer × List ℕ → List ℕ
+unfoldable pub buffer-of : TextAnswer × List ℕ → List ℕ
 buffer-of p = p .1
 
 module _ (o after : List ℕ) (r : TextAnswer) (n : ℕ) (q : r ≡ Length n) where

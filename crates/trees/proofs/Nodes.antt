@@ -5,7 +5,7 @@ use mathlib.Core.List.{List}
 use native.Mathlib.Numerals.{add-one}
 use native.Mathlib.Omega.{arith}
 use lib.Dec.{eqb, leb}
-use lib.ListN.{getD}
+use lib.ListN.{getD, length-append}
 use Rattle.rast.specs.Tree.{U8, Ty, Tys, Primitive, TIdentifier, TypeFromPath, TypeApp, Borrowed, BorrowedMut, ImplType, DynType, TupleType, FnType, IntersectionType, Array, TSynonym, TMetaData, nil, cons}
 use Rattle.encoding.specs.declared.PathAt.{PathAt}
 use Rattle.encoding.specs.declared.Head.{Head}
@@ -14,7 +14,7 @@ use Rattle.encoding.specs.Reading.{Reading, got, _>>=_}
 use Rattle.encoding.specs.Heads.{kids}
 use Rattle.encoding.specs.Types.{primitives, pathOf, sizeOf, readTypes, readNode}
 use Rattle.encoding.proofs.Types.{made-got, made₂-got}
-use Rattle.trees.specs.Encode.{count}
+use Rattle.trees.specs.Encode.{count, tokens, tokensAll, words, wordsAll}
 
 -- one type more, behind the others
 unfoldable pub snoc : {N : Type 0} → Tys N → Ty N → Tys N
@@ -25,6 +25,26 @@ pub count-snoc : {N : Type 0} (ts : Tys N) (t : Ty N) → count (snoc ts t) ≡ 
 unfolding snoc count
 count-snoc nil t = refl
 count-snoc (cons u us) t = let k = count-snoc us t in omega (arith, k)
+
+-- ---- how many words some types take
+
+pub words-nil : (N : Type 0) → wordsAll {N = N} nil ≡ 0
+unfolding wordsAll tokensAll
+words-nil N = refl
+
+pub words-cons : {N : Type 0} (t : Ty N) (ts : Tys N) → wordsAll (cons t ts) ≡ words t + wordsAll ts
+unfolding words wordsAll tokensAll
+words-cons t ts = length-append (tokens t) (tokensAll ts)
+
+pub words-one : {N : Type 0} (t : Ty N) → wordsAll (cons t nil) ≡ words t
+words-one {N} t = omega (arith, words-cons t nil, words-nil N)
+
+pub words-snoc : {N : Type 0} (ts : Tys N) (t : Ty N) → wordsAll (snoc ts t) ≡ wordsAll ts + words t
+unfolding snoc
+words-snoc {N} nil t = omega (arith, words-one t, words-nil N)
+words-snoc (cons u us) t = let k = words-snoc us t in omega (arith, words-cons u us, words-cons u (snoc us t), k)
+
+-- ---- a head's type
 
 -- the type of a head and the types below it
 pub data Node {N : Type 0} (ws : List ℕ) (name : ℕ → N) : Head → Tys N → Ty N → Type 0 where
@@ -59,7 +79,7 @@ module _ {N : Type 0} (f : ℕ → Reading (Ty N)) where
       let m = made₂-got (f p) (readTypes f n) cons e in
       rw (m .made) (ap suc (types-count n (m .middle) (m .reads₂)))
 
-  one-read : (p : ℕ) {t : Ty N} {q : ℕ} → f p ≡ got t q → readTypes f 1 p ≡ got (cons t nil) q
+  pub one-read : (p : ℕ) {t : Ty N} {q : ℕ} → f p ≡ got t q → readTypes f 1 p ≡ got (cons t nil) q
   unfolding readTypes
   one-read p e = rw e
 

@@ -1,13 +1,13 @@
--- Reading with other names is reading and then renaming.
+-- Reading with other names is reading and then renaming. A renamed tree has the words of the tree, with the names renamed.
 use Prim.Native.Nat.{ℕ, zero, suc, _+_, _-_, _≤_, _<_}
 use mathlib.Core.Path.{_≡_, refl, ap, sym, _∙_}
 use mathlib.Core.Bool.{Bool, true, false}
-use mathlib.Core.List.{List, [], _∷_, _++_, map}
+use mathlib.Core.List.{List, [], _∷_, _++_, map, map-append}
 use mathlib.Core.Option.{some, none}
 use native.Mathlib.Omega.{arith}
 use native.Mathlib.Decide.{decLt}
 use lib.Dec.{eqb}
-use lib.ListN.{length, take, drop, length-append, length-map}
+use lib.ListN.{length, take, drop, length-map}
 use Rattle.rast.specs.Bytes.{Bytes}
 use Rattle.rast.specs.Tree.{Path, Global, Crate, Self, PMemberSelect, MSels, Ty, Tys, Primitive, TIdentifier, TypeFromPath, TypeApp, Borrowed, BorrowedMut, ImplType, DynType, TupleType, FnType, IntersectionType, Array, TSynonym, TMetaData, nil, cons}
 use Rattle.encoding.specs.declared.Head.{Head}
@@ -21,7 +21,7 @@ use Rattle.encoding.specs.Types.{rootOf, pathOf, sizeOf, readTypes, readNode, r
 use Rattle.encoding.proofs.Tables.{impossible}
 use Rattle.encoding.proofs.Types.{type-end}
 use Rattle.trees.specs.Renamed.{renamedPath, renamedSize, renamed, renamedAll}
-use Rattle.trees.specs.Encode.{Token, name, tokenWord, renamedToken, names, pathTokens, tokens, tokensAll, words, wordsAll, encode, encodeAll}
+use Rattle.trees.specs.Encode.{Token, word, name, size, tokenWord, renamedToken, flagsWord, rootWord, names, pathTokens, count, tokens, tokensAll, words, wordsAll, encode, encodeAll}
 use Rattle.trees.specs.Numbered.{treeAt}
 use Rattle.trees.specs.Runs.{Run}
 use Rattle.trees.proofs.Spans.{type-stands}
@@ -102,51 +102,65 @@ module _ {N M : Type 0} (f : N → M) (g : ℕ → N) where
       go (got h p) ih = node-renamed (readType b ws g deep) (readType b ws (λ x. f (g x)) deep) ih ws h p
       go (stop r) ih = refl
 
--- ---- a tree takes as many words under any names
+-- ---- the words of a tree under other names
 
-module _ {N M : Type 0} (f : N → M) where
-  names-kept : (p : Path N) → length (names (renamedPath f p)) ≡ length (names p)
+module _ {M N : Type 0} (f : M → N) where
+  count-kept : (ts : Tys M) → count (renamedAll f ts) ≡ count ts
+  unfolding count renamedAll
+  count-kept nil = refl
+  count-kept (cons t ts) = ap suc (count-kept ts)
+
+  root-kept : (p : Path M) → rootWord (renamedPath f p) ≡ rootWord p
+  unfolding rootWord renamedPath
+  root-kept Global = refl
+  root-kept Crate = refl
+  root-kept Self = refl
+  root-kept (PMemberSelect p x) = root-kept p
+
+  names-mapped : (p : Path M) → names (renamedPath f p) ≡ map f (names p)
   unfolding names renamedPath
-  names-kept Global = refl
-  names-kept Crate = refl
-  names-kept Self = refl
-  names-kept (PMemberSelect p x) =
-      let k = names-kept p in
-      omega (arith, k, length-append (names (renamedPath f p)) (f x ∷ []), length-append (names p) (x ∷ []))
+  names-mapped Global = refl
+  names-mapped Crate = refl
+  names-mapped Self = refl
+  names-mapped (PMemberSelect p x) = ap (λ l. l ++ (f x ∷ [])) (names-mapped p) ∙ sym (map-append f (names p) (x ∷ []))
 
-  path-kept : (p : Path N) → length (pathTokens (renamedPath f p)) ≡ length (pathTokens p)
-  unfolding pathTokens
-  path-kept p = omega (arith, names-kept p, length-map {B = Token M} (names (renamedPath f p)) name, length-map {B = Token N} (names p) name)
+  path-tokens : (p : Path M) → pathTokens (renamedPath f p) ≡ map (renamedToken f) (pathTokens p)
+  unfolding pathTokens renamedToken
+  path-tokens p =
+      let e = names-mapped p in
+      let l : length (names (renamedPath f p)) ≡ length (names p) = ap length e ∙ length-map (names p) f in
+      rw (root-kept p, l, e) (ap (λ l. word (rootWord p) ∷ word (length (names p)) ∷ l) (sym (names-renamed f (names p))))
 
-  two-kept : (a a′ : List (Token M)) (b b′ : List (Token N)) → length a ≡ length b → length a′ ≡ length b′ → length (a ++ a′) ≡ length (b ++ b′)
-  two-kept a a′ b b′ e d = omega (arith, e, d, length-append a a′, length-append b b′)
+  two-renamed : {xs ys : List (Token N)} (us vs : List (Token M)) → xs ≡ map (renamedToken f) us → ys ≡ map (renamedToken f) vs → xs ++ ys ≡ map (renamedToken f) (us ++ vs)
+  two-renamed us vs e d = rw (e, d) (sym (map-append (renamedToken f) us vs))
 
   mutual
-    unfolding renamed renamedAll tokens tokensAll
+    unfolding tokens tokensAll renamed renamedAll renamedToken
 
-    tokens-kept : (t : Ty N) → length (tokens (renamed f t)) ≡ length (tokens t)
-    tokens-kept (Primitive p) = refl
-    tokens-kept (TIdentifier x) = refl
-    tokens-kept (TypeFromPath p) = ap suc (path-kept p)
-    tokens-kept (TypeApp b ts) = ap (λ n. suc (suc n)) (two-kept (tokens (renamed f b)) (tokensAll (renamedAll f ts)) (tokens b) (tokensAll ts) (tokens-kept b) (tokensAll-kept ts))
-    tokens-kept (Borrowed t) = ap suc (tokens-kept t)
-    tokens-kept (BorrowedMut t) = ap suc (tokens-kept t)
-    tokens-kept (ImplType t) = ap suc (tokens-kept t)
-    tokens-kept (DynType t) = ap suc (tokens-kept t)
-    tokens-kept (TupleType ts) = ap (λ n. suc (suc n)) (tokensAll-kept ts)
-    tokens-kept (FnType ts t) = ap (λ n. suc (suc n)) (two-kept (tokensAll (renamedAll f ts)) (tokens (renamed f t)) (tokensAll ts) (tokens t) (tokensAll-kept ts) (tokens-kept t))
-    tokens-kept (IntersectionType l r) = ap suc (two-kept (tokens (renamed f l)) (tokens (renamed f r)) (tokens l) (tokens r) (tokens-kept l) (tokens-kept r))
-    tokens-kept (Array t s) = ap (λ n. suc (suc n)) (tokens-kept t)
-    tokens-kept (TSynonym d b) = ap suc (two-kept (tokens (renamed f d)) (tokens (renamed f b)) (tokens d) (tokens b) (tokens-kept d) (tokens-kept b))
-    tokens-kept (TMetaData d c o) = ap (λ n. suc (suc n)) (tokens-kept d)
+    pub tokens-renamed : (t : Ty M) → tokens (renamed f t) ≡ map (renamedToken f) (tokens t)
+    tokens-renamed (Primitive p) = refl
+    tokens-renamed (TIdentifier x) = refl
+    tokens-renamed (TypeFromPath p) = ap (λ l. word 13 ∷ l) (path-tokens p)
+    tokens-renamed (TypeApp b ts) = rw (count-kept ts) (ap (λ l. word 14 ∷ word (count ts) ∷ l) (two-renamed (tokens b) (tokensAll ts) (tokens-renamed b) (tokensAll-renamed ts)))
+    tokens-renamed (Borrowed t) = ap (λ l. word 15 ∷ l) (tokens-renamed t)
+    tokens-renamed (BorrowedMut t) = ap (λ l. word 16 ∷ l) (tokens-renamed t)
+    tokens-renamed (ImplType t) = ap (λ l. word 17 ∷ l) (tokens-renamed t)
+    tokens-renamed (DynType t) = ap (λ l. word 18 ∷ l) (tokens-renamed t)
+    tokens-renamed (TupleType ts) = rw (count-kept ts) (ap (λ l. word 19 ∷ word (count ts) ∷ l) (tokensAll-renamed ts))
+    tokens-renamed (FnType ts t) = rw (count-kept ts) (ap (λ l. word 20 ∷ word (count ts) ∷ l) (two-renamed (tokensAll ts) (tokens t) (tokensAll-renamed ts) (tokens-renamed t)))
+    tokens-renamed (IntersectionType l r) = ap (λ l. word 21 ∷ l) (two-renamed (tokens l) (tokens r) (tokens-renamed l) (tokens-renamed r))
+    tokens-renamed (Array t s) = ap (λ l. word 22 ∷ size (renamedSize f s) ∷ l) (tokens-renamed t)
+    tokens-renamed (TSynonym d b) = ap (λ l. word 23 ∷ l) (two-renamed (tokens d) (tokens b) (tokens-renamed d) (tokens-renamed b))
+    tokens-renamed (TMetaData d c o) = ap (λ l. word 24 ∷ word (flagsWord c o) ∷ l) (tokens-renamed d)
 
-    tokensAll-kept : (ts : Tys N) → length (tokensAll (renamedAll f ts)) ≡ length (tokensAll ts)
-    tokensAll-kept nil = refl
-    tokensAll-kept (cons t ts) = two-kept (tokens (renamed f t)) (tokensAll (renamedAll f ts)) (tokens t) (tokensAll ts) (tokens-kept t) (tokensAll-kept ts)
+    tokensAll-renamed : (ts : Tys M) → tokensAll (renamedAll f ts) ≡ map (renamedToken f) (tokensAll ts)
+    tokensAll-renamed nil = refl
+    tokensAll-renamed (cons t ts) = two-renamed (tokens t) (tokensAll ts) (tokens-renamed t) (tokensAll-renamed ts)
 
-  pub words-kept : (t : Ty N) → words (renamed f t) ≡ words t
+  -- it takes as many words
+  pub words-kept : (t : Ty M) → words (renamed f t) ≡ words t
   unfolding words
-  words-kept t = tokens-kept t
+  words-kept t = ap length (tokens-renamed t) ∙ length-map (tokens t) (renamedToken f)
 
 -- ---- types of an encoding
 

@@ -10,9 +10,10 @@ use Rattle.output.proofs.Laws.{wrote-as}
 use Rattle.encoding.specs.declared.Refusal.{Refusal}
 use Rattle.encoding.specs.declared.Refusal.the-variants.{LeftOver, BufferTooShort}
 use Rattle.encoding.specs.Reading.{got, stop}
-use Rattle.encoding.specs.Types.{readTypes, typeAt}
+use Rattle.encoding.specs.Types.{typeAt}
 use Rattle.encoding.proofs.Answers.{filled-stop, filled-left, filled-short, filled-done}
 use Rattle.encoding.proofs.Types.{type-lies}
+use Rattle.trees.proofs.Nodes.{one-read}
 use Rattle.writing.specs.declared.Spot.{Spot}
 use Rattle.writing.specs.Written.{Readable}
 use Rattle.visits.specs.declared.VisitAnswer.{VisitAnswer}
@@ -25,23 +26,17 @@ use Rattle.pieces.specs.Ends.{Held, heldAt}
 use Rattle.visits.proofs.Lists.{listOf}
 
 module _ (ws pairs : List ℕ) (text : Bytes) where
-  -- ---- where a tree ends
-
   -- ---- an accepted type, as one type that is due
 
-  one-read : (t : Readable (typeAt ws pairs text 0)) → readTypes (typeAt ws pairs text) 1 0 ≡ got (cons (t .value) nil) (t .end)
-  unfolding readTypes
-  one-read t = rw (t .reads)
-
   pub type-due : length ws ≤ 8192 → Readable (typeAt ws pairs text 0) → Due ws pairs text 0 1 0
-  type-due h t = record { few = h; inside = omega arith; counted = omega arith; there = record { value = cons (t .value) nil; end = t .end; reads = one-read t } }
+  type-due h t = record { few = h; inside = omega arith; counted = omega arith; there = record { value = cons (t .value) nil; end = t .end; reads = one-read (typeAt ws pairs text) 0 (t .reads) } }
 
   -- and its list laid down
   pub type-visited : {o o′ : List ℕ} {s : Spot} → Readable (typeAt ws pairs text 0) → Visited ws pairs text 0 1 o 0 o′ s → AllVisited AType ws pairs text o o′ (s .pos)
   unfolding visited visitedFrom
   type-visited {s = s} t v =
-      let ts : v .types ≡ cons (t .value) nil = cc (one-read t, v .reads) in
-      let e : s .next ≡ t .end = cc (one-read t, v .reads) in
+      let ts : v .types ≡ cons (t .value) nil = cc (one-read (typeAt ws pairs text) 0 (t .reads), v .reads) in
+      let e : s .next ≡ t .end = cc (one-read (typeAt ws pairs text) 0 (t .reads), v .reads) in
       record {
         value = t .value;
         end = t .end;

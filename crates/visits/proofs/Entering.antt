@@ -14,12 +14,13 @@ use Rattle.encoding.specs.Reading.{got}
 use Rattle.encoding.specs.declared.Scan.the-variants.{At}
 use Rattle.encoding.specs.Scans.{ended}
 use Rattle.encoding.specs.Tables.{nameBytes, nameCount}
-use Rattle.encoding.specs.Types.{readTypes, typeAt}
+use Rattle.encoding.specs.Types.{typeAt}
 use Rattle.encoding.specs.Declarations.{declarationAt}
 use Rattle.encoding.proofs.Tables.{impossible}
 use Rattle.encoding.proofs.Types.{bind-got, type-lies}
 use Rattle.trees.specs.Encode.{Token, tokenWord, renamedToken, words}
 use Rattle.trees.proofs.Renaming.{type-words}
+use Rattle.trees.proofs.Nodes.{one-read}
 use Rattle.writing.specs.declared.Spot.{Spot}
 use Rattle.writing.specs.Written.{Readable}
 use Rattle.pieces.specs.declared.After.{After}
@@ -188,14 +189,10 @@ module _ (ws pairs : List ℕ) (text : Bytes) where
         let b = behind-got (typePiece (t .value)) (leftAt ws pairs text (moved w′ (t .end))) (t .rest) in
         record { tpe = t .value; next = t .end; others = b .left; here = t .first; left = b .reads; parts = b .parts }
 
-    one-read : (p : ℕ) {t : Ty Bytes} {n : ℕ} → typeAt ws pairs text p ≡ got t n → readTypes (typeAt ws pairs text) 1 p ≡ got (cons t nil) n
-    unfolding readTypes
-    one-read p e = rw e
-
     pub going-due : {w w′ : Walk} {o′ : List ℕ} {p : ℕ} → Going ws pairs text w₀ o pos w o′ p → Stepped (nameCount pairs) ws w (TypeDue w′) → Due ws pairs text (w .place) 1 p
     going-due {w} g s =
         let t = typed g s in
-        record { few = g .few; inside = g .inside; counted = g .counted; there = record { value = cons (t .tpe) nil; end = t .next; reads = one-read (w .place) (t .here) } }
+        record { few = g .few; inside = g .inside; counted = g .counted; there = record { value = cons (t .tpe) nil; end = t .next; reads = one-read (typeAt ws pairs text) (w .place) (t .here) } }
 
     type-list : (p n : ℕ) (t : Ty Bytes) (us : List (Piece Bytes)) {ps : List (Piece Bytes)} {ts : Tys Bytes} → ps ≡ type t ∷ us → ts ≡ cons t nil → n ≡ p + words t
         → positions (visitedPieces p ps) ≡ listOf p ts ++ positions (visitedPieces n us)
@@ -208,8 +205,8 @@ module _ (ws pairs : List ℕ) (text : Bytes) where
         → Gone w (moved w′ (spot .next)) o″ (spot .pos)
     going-type {w} {w′} {o′} {o″} {p} {spot} g s v =
         let t = typed g s in
-        let q : t .next ≡ spot .next = cc (one-read (w .place) (t .here), v .reads) in
-        let ts : v .types ≡ cons (t .tpe) nil = cc (one-read (w .place) (t .here), v .reads) in
+        let q : t .next ≡ spot .next = cc (one-read (typeAt ws pairs text) (w .place) (t .here), v .reads) in
+        let ts : v .types ≡ cons (t .tpe) nil = cc (one-read (typeAt ws pairs text) (w .place) (t .here), v .reads) in
         let lies = type-lies ws pairs text (w .place) (g .inside) (t .here) in
         record {
           next = record {

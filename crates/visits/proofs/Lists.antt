@@ -4,7 +4,7 @@ use mathlib.Core.Path.{_≡_, refl, ap, sym, _∙_}
 use mathlib.Core.List.{List, [], _∷_, _++_, append-nil, append-assoc}
 use native.Mathlib.Omega.{arith}
 use native.Mathlib.Nat.{suc-add, zero-add, add-zero}
-use lib.ListN.{length, length-append}
+use lib.ListN.{length-append}
 use Rattle.rast.specs.Tree.{Ty, Tys, nil, cons}
 use Rattle.encoding.specs.declared.Head.{Head}
 use Rattle.encoding.specs.Reading.{Reading, got}
@@ -13,7 +13,7 @@ use Rattle.encoding.proofs.Types.{made₂-got}
 use Rattle.encoding.proofs.TypeKinds.{kind}
 use Rattle.trees.specs.Encode.{tokens, tokensAll, words, wordsAll}
 use Rattle.trees.specs.Places.{Place}
-use Rattle.trees.proofs.Nodes.{Node, plain, ident, path, apply, ref, refMut, impl, dyn, tuple, function, both, array, synonym, meta, snoc}
+use Rattle.trees.proofs.Nodes.{Node, plain, ident, path, apply, ref, refMut, impl, dyn, tuple, function, both, array, synonym, meta, snoc, words-cons, words-one, words-snoc}
 use Rattle.visits.specs.Visited.{visitedFrom, visitedAll, positions}
 
 -- some types, and others behind them
@@ -30,10 +30,6 @@ types-join f (suc j) k p {ts} {us} {m} {n} e d =
     rw (suc-add j k, c .reads, types-join f j k (c .middle) (c .reads₂) d) (ap (λ vs. got (append vs us) n) (sym (c .made)))
 
 module _ {N : Type 0} where
-  pub words-cons : (t : Ty N) (ts : Tys N) → wordsAll (cons t ts) ≡ words t + wordsAll ts
-  unfolding words wordsAll tokens
-  words-cons t ts = length-append (tokens t) (tokensAll ts)
-
   pub positions-append : (ps qs : List (Place N)) → positions (ps ++ qs) ≡ positions ps ++ positions qs
   positions-append [] qs = refl
   positions-append (p ∷ ps) qs = ap (_∷_ (p .at)) (positions-append ps qs)
@@ -62,19 +58,10 @@ module _ {N : Type 0} where
       ∙ sym (positions-append (visitedFrom p u) (visitedAll (p + words u) us ++ visitedFrom (p + words u + wordsAll us) t))
       ∙ rw (sym (append-assoc (visitedFrom p u) (visitedAll (p + words u) us) (visitedFrom (p + words u + wordsAll us) t)), e)
 
-  words-snoc : (ts : Tys N) (t : Ty N) → wordsAll (snoc ts t) ≡ wordsAll ts + words t
-  unfolding snoc wordsAll words tokens
-  words-snoc nil t = rw (append-nil (tokens t)) (omega arith)
-  words-snoc (cons u us) t = omega (arith, words-cons u us, words-cons u (snoc us t), words-snoc us t)
-
   -- one type alone
   list-one : (t : Ty N) (p : ℕ) → listOf p (cons t nil) ≡ positions (visitedFrom p t)
   unfolding visitedFrom
   list-one t p = ap positions (append-nil (visitedFrom p t))
-
-  words-one : (t : Ty N) → wordsAll (cons t nil) ≡ words t
-  unfolding wordsAll words tokens
-  words-one t = ap length (append-nil (tokens t))
 
   -- a type's list is its position, and the list of the types that follow its head; a synonym's base is not in it
   pub list-node : {ws : List ℕ} {name : ℕ → N} {h : Head} {ts : Tys N} {t : Ty N} (at q : ℕ) → Node ws name h ts t → (kind t ≡ 23 → ⊥) → q + wordsAll ts ≡ at + words t

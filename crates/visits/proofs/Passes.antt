@@ -18,15 +18,16 @@ use Rattle.encoding.proofs.TypeKinds.{type-kind}
 use Rattle.encoding.proofs.Inside.{head-lies}
 use Rattle.encoding.proofs.HeadWords.{words-kids, words-end}
 use Rattle.trees.specs.Encode.{words, wordsAll, tokens}
-use Rattle.trees.proofs.Nodes.{node-below}
-use Rattle.trees.proofs.Renaming.{type-words}
+use Rattle.trees.proofs.Nodes.{node-below, words-cons, one-read}
+use Rattle.trees.proofs.Renaming.{type-words, numbered}
+use Rattle.trees.proofs.Heads.{head-here}
 use Rattle.writing.specs.declared.Spot.{Spot}
 use Rattle.writing.specs.Written.{Readable, EndsAt}
 use Rattle.writing.proofs.Accepted.{type-here, synonym-head}
 use Rattle.writing.proofs.Skipping.{first-of, types-fit}
 use Rattle.visits.specs.Visited.{visitedFrom, visitedAll, positions}
 use Rattle.visits.specs.Calls.{Due, Visited}
-use Rattle.visits.proofs.Lists.{append, types-join, words-cons, positions-append, listOf, list-join, list-node}
+use Rattle.visits.proofs.Lists.{append, types-join, positions-append, listOf, list-join, list-node}
 
 -- the list of a type and of those behind it, by the types that follow its head
 list-behind : (at : ℕ) (vs : Tys Bytes) (t : Ty Bytes) (us : Tys Bytes) (q : ℕ) (ts : Tys Bytes) → vs ≡ cons t us → positions (visitedFrom at t) ≡ at ∷ listOf q ts
@@ -53,10 +54,6 @@ module _ (ws pairs : List ℕ) (text : Bytes) where
       let a = type-words ws pairs text p (m .reads) in
       let b = types-words k (m .middle) (m .reads₂) in
       rw (m .made) (omega (arith, a, b, words-cons (m .left) (m .right)))
-
-  one-read : (p : ℕ) {t : Ty Bytes} {n : ℕ} → typeAt ws pairs text p ≡ got t n → readTypes (typeAt ws pairs text) 1 p ≡ got (cons t nil) n
-  unfolding readTypes
-  one-read p e = rw e
 
   -- on the way over `due` types at `at`: `left` types are due at `place`. Once their list is laid down, the whole list is.
   pub record Visiting (at due : ℕ) (o : List ℕ) (pos place left : ℕ) (o′ : List ℕ) (p : ℕ) : Type 0 where
@@ -124,10 +121,7 @@ module _ {ws pairs : List ℕ} {text : Bytes} {at due : ℕ} {o : List ℕ} {pos
 
       -- where a type is due, a head stands
       pub head-due : HeadHere ws place
-      unfolding readType
-      head-due =
-          let h = bind-got (readHead (nameCount pairs) ws place) _ (first .reads) in
-          record { bound = nameCount pairs; head = h .value; next = h .end; reads = h .first }
+      head-due = head-here ws pairs place (numbered ws pairs text place (first .reads) .reads)
 
       synonymous : getD ws place 0 ≡ 23 → Synonymous ws pairs text place left (v .rest) (v .end)
       unfolding readNode
@@ -152,7 +146,7 @@ module _ {ws pairs : List ℕ} {text : Bytes} {at due : ℕ} {o : List ℕ} {pos
           → Visited ws pairs text (place + 1) 1 o″ p″ o‴ spot → Readable (typeAt ws pairs text (spot .next))
       visit-base {spot = spot} k d =
           let s = synonymous k in
-          let m : s .middle ≡ spot .next = cc (one-read ws pairs text (place + 1) (s .display-reads), d .reads) in
+          let m : s .middle ≡ spot .next = cc (one-read (typeAt ws pairs text) (place + 1) (s .display-reads), d .reads) in
           record { value = s .base; end = s .next; reads = rw m at (s .base-reads) }
 
       -- its position is laid down
@@ -206,7 +200,7 @@ module _ {ws pairs : List ℕ} {text : Bytes} {at due : ℕ} {o : List ℕ} {pos
               few = v .few;
               inside = omega (arith, visit-here);
               counted = omega (arith, w .next, v .counted);
-              there = record { value = cons (s .display) nil; end = s .middle; reads = one-read ws pairs text (place + 1) (s .display-reads) };
+              there = record { value = cons (s .display) nil; end = s .middle; reads = one-read (typeAt ws pairs text) (place + 1) (s .display-reads) };
             }
 
         -- and what is due behind the base comes next
@@ -214,8 +208,8 @@ module _ {ws pairs : List ℕ} {text : Bytes} {at due : ℕ} {o : List ℕ} {pos
             → EndsAt (typeAt ws pairs text (spot .next)) n → Past ws pairs text at due o pos place left n o‴ (spot .pos)
         visit-past {n = n} {spot = spot} k d e =
             let s = synonymous k in
-            let m : s .middle ≡ spot .next = cc (one-read ws pairs text (place + 1) (s .display-reads), d .reads) in
-            let ts : d .types ≡ cons (s .display) nil = cc (one-read ws pairs text (place + 1) (s .display-reads), d .reads) in
+            let m : s .middle ≡ spot .next = cc (one-read (typeAt ws pairs text) (place + 1) (s .display-reads), d .reads) in
+            let ts : d .types ≡ cons (s .display) nil = cc (one-read (typeAt ws pairs text) (place + 1) (s .display-reads), d .reads) in
             let q : s .next ≡ n = cc (rw m at (s .base-reads), e .reads) in
             let lies₁ = type-lies ws pairs text (place + 1) (omega (arith, visit-here)) (s .display-reads) in
             let lies₂ = type-lies ws pairs text (s .middle) (lies₁ .ends) (s .base-reads) in

@@ -1,6 +1,7 @@
-use Rattle.comparison.proofs.Steps.{fixed-apart, same-self, same-swap}
+use Rattle.comparison.proofs.Steps.{fixed-apart, same-swap}
 use Rattle.encoding.specs.Tables.{nameBytes}
 use Rattle.rast.specs.Bytes.{same}
+use Rattle.rast.proofs.BytesLaws.{same-self}
 use mathlib.Core.Path.{_∙_, ap, sym}
 use borrow.Author.Needs.{needs}
 use Rattle.comparison.proofs.same_name.Statement.{statement}

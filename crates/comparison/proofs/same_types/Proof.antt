@@ -3,7 +3,6 @@ use Rattle.comparison.proofs.Steps.{runs-none, runs-on, runs-stop}
 use Rattle.comparison.specs.Runs.{agrees, sameRuns}
 use Rattle.comparison.specs.declared.Due.the-variants.{Kind}
 use Rattle.encoding.specs.Tables.{nameBytes}
-use Rattle.trees.specs.Encode.{count}
 use borrow.Author.Tests.{not-false, not-true}
 use lib.ListN.{drop, getD, length, take}
 use mathlib.Core.Bool.{false, true}

@@ -1,4 +1,5 @@
-use Rattle.doc.proofs.Runs.{rust-no-r, rust-no-s, rust-short, rust-test, rust-yes}
+use Rattle.rast.proofs.BytesLaws.{and-no}
+use Rattle.doc.proofs.Runs.{rust-no-s, rust-short, rust-test, rust-yes}
 use borrow.Author.Tests.{eq-eqb, ne-eqb}
 use lib.ListN.{drop, length-drop}
 use lib.Seq.{drop-drop}
@@ -22,7 +23,7 @@ shared-slice-read-if2 c = search needs
 returns-2 : tie.Need-returns-2
 returns-2 c =
     let a = c .before .before .before .before .args in
-    sym (rust-test (a .doc .now) (a .at) _ (search needs) ∙ rust-no-r _ _ (ne-eqb _ _ (c .if2 .taken)))
+    sym (rust-test (a .doc .now) (a .at) _ (search needs) ∙ and-no _ (ne-eqb _ _ (c .if2 .taken)))
 
 add-if3 : tie.Need-add-if3
 add-if3 c = search needs

@@ -1,5 +1,4 @@
 use Rattle.doc.proofs.Laying.{doc-parts, no-doc}
-use Rattle.doc.proofs.Steps.{line}
 use Rattle.output.proofs.Passes.{fits-as, fits-behind, fits-front, laid-as, laid-nothing, laid-then}
 use Rattle.rast.specs.Bytes.{ascii}
 use Rattle.rast.specs.Doc.{DocStringPrefix}

@@ -1,5 +1,5 @@
 use Prim.Native.Nat.{ℕ}
-use Rattle.doc.proofs.Runs.{impossible}
+use Rattle.rast.proofs.BytesLaws.{never}
 use Rattle.doc.specs.Steps.{Fence, NoFence}
 use borrow.Author.Tests.{not-false, not-true}
 use mathlib.Core.Path.{_∙_, subst, sym}
@@ -10,13 +10,13 @@ use Rattle.doc.proofs.stays.Tie as tie
 returns : tie.Need-returns
 returns c =
     let n = not-true _ (c .if1 .taken) in
-    (λ e. record { no-space = λ s k. impossible (sym s ∙ n); no-fence = λ s. impossible (sym s ∙ n) }, λ e. impossible e)
+    (λ e. record { no-space = λ s k. never (sym s ∙ n); no-fence = λ s. never (sym s ∙ n) }, λ e. never e)
 
 shared-slice-read-if2 : tie.Need-shared-slice-read-if2
 shared-slice-read-if2 c = search needs
 
 returns-2 : tie.Need-returns-2
-returns-2 c = (λ e. impossible (sym e), λ e. record { starts = not-false _ (c .before .before .if1 .left); quotes = λ k. absurd (k (c .if2 .taken)) })
+returns-2 c = (λ e. never (sym e), λ e. record { starts = not-false _ (c .before .before .if1 .left); quotes = λ k. absurd (k (c .if2 .taken)) })
 
 run-requires : tie.Need-run-requires
 run-requires c κs = search needs

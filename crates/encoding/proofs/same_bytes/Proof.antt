@@ -3,7 +3,8 @@ use mathlib.Core.Path.{_≡_, sym, _∙_}
 use borrow.Author.Tests.{eq-eqb, ne-eqb}
 use lib.ListN.{length, drop}
 use Rattle.rast.specs.Bytes.{same}
-use Rattle.encoding.proofs.Names.{and-no, and-yes, same-apart, same-more, same-end}
+use Rattle.rast.proofs.BytesLaws.{and-no, and-yes}
+use Rattle.encoding.proofs.Names.{same-apart, same-more, same-end}
 use borrow.Author.Needs.{needs}
 use Rattle.encoding.proofs.same_bytes.Statement.{statement}
 use Rattle.encoding.proofs.same_bytes.Tie as tie

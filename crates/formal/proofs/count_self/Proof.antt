@@ -1,6 +1,6 @@
 use Rattle.encoding.specs.Types.{typeAt}
+use Rattle.encoding.proofs.Reading.{map-stop}
 use Rattle.formal.specs.Labels.{unread}
-use Rattle.laying.proofs.Splits.{map-stop}
 use Rattle.measure.proofs.Measured.{measured-stop}
 use mathlib.Core.Path.{sym, _∙_}
 use borrow.Author.Needs.{needs}

@@ -2,10 +2,10 @@ use mathlib.Core.Path.{sym}
 use Rattle.encoding.specs.Tables.{nameBytes, nameCount}
 use Rattle.encoding.specs.Heads.{readPath}
 use Rattle.encoding.proofs.Inside.{path-lies}
+use Rattle.encoding.proofs.Reading.{map-got, map-stop}
 use Rattle.measure.proofs.Measured.{measured-path, unmeasured-path}
 use Rattle.laying.specs.Passes.{came}
 use Rattle.laying.proofs.Passes.{came-bytes, ready-as, ready-bytes, stops-here, went-as}
-use Rattle.laying.proofs.Splits.{map-got, map-stop}
 use borrow.Author.Needs.{needs}
 use Rattle.laying.proofs.lay_path.Statement.{statement}
 use Rattle.laying.proofs.lay_path.Tie as tie

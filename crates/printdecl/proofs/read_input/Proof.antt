@@ -1,6 +1,5 @@
 -- The invariant: what was read lies within the buffer, which keeps its length.
 use Prim.Native.Nat.{_-_, _≤_}
-use Rattle.writing.proofs.Laws.{done}
 use lib.ListN.{length}
 use mathlib.Core.Path.{_≡_}
 use borrow.Author.Needs.{needs}

@@ -1,7 +1,6 @@
-use lib.Seq.{take-all}
+use lib.Seq.{take-all, take-suc-set}
 use Prim.Native.Nat.{_-_, _<_, _≤_, ℕ}
-use Rattle.rebuild.proofs.Growing.{take-set, zero-more}
-use lib.ListN.{length, length-set, replicate, take}
+use lib.ListN.{length, length-set, replicate, take, replicate-append-replicate}
 use mathlib.Core.List.{List, [], _++_, _∷_}
 use mathlib.Core.Path.{_∙_, _≡_, ap, refl, sym}
 use native.Mathlib.Numerals.{add-one}
@@ -35,7 +34,7 @@ loop-again : tie.Need-loop-again Inv-loop μ-loop
 loop-again c =
     let l = c .before .loop in
     let h : l .i < length (l .out) = omega arith in
-    (rw (length-set (l .out) (l .i) 0) (omega arith), length-set (l .out) (l .i) 0 ∙ l .inv .1, rw (add-one (l .i)) (take-set (l .out) (l .i) 0 h ∙ ap (λ (x : List ℕ). x ++ (0 ∷ [])) (l .inv .2) ∙ zero-more (l .i)))
+    (rw (length-set (l .out) (l .i) 0) (omega arith), length-set (l .out) (l .i) 0 ∙ l .inv .1, rw (add-one (l .i)) (take-suc-set (l .out) (l .i) 0 h) ∙ ap (λ (x : List ℕ). x ++ (0 ∷ [])) (l .inv .2) ∙ replicate-append-replicate (l .i) 1 0)
 
 same-length : tie.Need-same-length Inv-loop μ-loop
 same-length c = search needs

@@ -1,7 +1,5 @@
 use Prim.Native.Nat.{_+_, _-_, _<_, _≤_}
-use Rattle.measure.proofs.Steps.{start}
 use Rattle.rebuild.proofs.Growing.{copy-more}
-use Rattle.trees.specs.Encode.{count}
 use lib.ListN.{drop, length, length-set, take}
 use lib.Seq.{sets}
 use mathlib.Core.Path.{_∙_, _≡_, refl}

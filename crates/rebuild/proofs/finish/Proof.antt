@@ -1,6 +1,5 @@
 use Rattle.output.proofs.Laws.{part-length}
 use Rattle.rebuild.proofs.Calls.{down-deep, down-front}
-use Rattle.trees.specs.Encode.{words}
 use lib.ListN.{length, take}
 use mathlib.Core.Path.{_≡_, sym}
 use native.Mathlib.Omega.{arith}

@@ -1,6 +1,7 @@
 use Rattle.pieces.specs.Walks.{end}
+use Rattle.pieces.proofs.Passes.{stepped}
 use Rattle.rebuild.specs.Laid.{mapping}
-use Rattle.rebuild_declaration.proofs.Steps.{never-halts, nothing-left, own-further, own-laid, own-over, stepped, type-further, type-left, type-over}
+use Rattle.rebuild_declaration.proofs.Steps.{never-halts, nothing-left, own-further, own-laid, own-over, type-further, type-left, type-over}
 use mathlib.Core.Path.{refl}
 use native.Mathlib.Omega.{arith}
 use borrow.Author.Needs.{needs}

@@ -1,8 +1,6 @@
 use Prim.Native.Nat.{_-_}
 use Rattle.rebuild.specs.Laid.{mapping}
 use Rattle.rebuild_declaration.proofs.Steps.{Going, going-ends, going-full, going-on, going-starts}
-use Rattle.replace.specs.Laying.{deepest}
-use Rattle.trees.specs.Encode.{words}
 use lib.ListN.{length}
 use native.Mathlib.Omega.{arith}
 use borrow.Author.Needs.{needs}

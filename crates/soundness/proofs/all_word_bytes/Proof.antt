@@ -5,7 +5,7 @@ use borrow.Author.Tests.{not-true, not-false}
 use lib.ListN.{length, drop}
 use Rattle.rast.specs.Bytes.{each}
 use Rattle.rast.specs.Sound.{isWordByte}
-use Rattle.encoding.proofs.Names.{and-no, and-yes}
+use Rattle.rast.proofs.BytesLaws.{and-no, and-yes}
 use Rattle.soundness.proofs.Names.{each-more, each-end}
 use Rattle.soundness.proofs.all_word_bytes.Statement.{statement}
 use Rattle.soundness.proofs.all_word_bytes.Tie as tie

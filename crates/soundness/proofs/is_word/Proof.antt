@@ -1,6 +1,6 @@
 use native.Mathlib.Omega.{arith}
 use mathlib.Core.Path.{sym, _∙_}
-use Rattle.encoding.proofs.Names.{and-no, and-yes}
+use Rattle.rast.proofs.BytesLaws.{and-no, and-yes}
 use Rattle.soundness.proofs.Names.{word-part, no-word}
 use borrow.Author.Needs.{needs}
 use Rattle.soundness.proofs.is_word.Statement.{statement}

@@ -3,8 +3,9 @@ use Prim.Native.Nat.{_+_, _-_, _*_}
 use mathlib.Core.Path.{ap, sym, _∙_}
 use lib.ListN.{getD}
 use Rattle.rast.specs.Sound.{isWord, soundName}
+use Rattle.rast.proofs.BytesLaws.{and-no, and-yes}
 use Rattle.encoding.proofs.Tables.{name-pair, pair-inside}
-use Rattle.encoding.proofs.Names.{and-no, and-yes, part-to}
+use Rattle.encoding.proofs.Names.{part-to}
 use Rattle.soundness.proofs.Names.{fixed-sound}
 use borrow.Author.Needs.{needs}
 use Rattle.soundness.proofs.sound_name.Statement.{statement}

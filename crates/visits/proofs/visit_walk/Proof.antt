@@ -58,13 +58,13 @@ enum-known-next c = search needs
 loop-less-2 : tie.Need-loop-less-2 Inv-loop μ-loop
 loop-less-2 c =
     let a = c .before .before .before .before .before .before .before .before .before .before .before .before .before .args in
-    let g = going-own (a .words .now) (a .pairs .now) (a .text .now) (a .walk) (a .out .now) 0 (c .before .before .before .before .before .before .before .before .loop .inv) (stepped (a .words .now) (a .pairs .now) (a .text .now) (c .before .before .before .before .before .before .before .before .before .before .before .before .before .pre .0) (c .before .next .given .1) (c .before .before .before .next-piece .ensures)) in
+    let g = going-own (a .words .now) (a .pairs .now) (a .text .now) (a .walk) (a .out .now) 0 (c .before .before .before .before .before .before .before .before .loop .inv) (stepped (a .words .now) (a .pairs .now) (c .before .before .before .before .before .before .before .before .before .before .before .before .before .pre .0) (c .before .next .given .1) (c .before .before .before .next-piece .ensures)) in
     omega (arith, g .further, g .next .inside)
 
 loop-again-2 : tie.Need-loop-again-2 Inv-loop μ-loop
 loop-again-2 c =
     let a = c .before .before .before .before .before .before .before .before .before .before .before .before .before .args in
-    going-own (a .words .now) (a .pairs .now) (a .text .now) (a .walk) (a .out .now) 0 (c .before .before .before .before .before .before .before .before .loop .inv) (stepped (a .words .now) (a .pairs .now) (a .text .now) (c .before .before .before .before .before .before .before .before .before .before .before .before .before .pre .0) (c .before .next .given .1) (c .before .before .before .next-piece .ensures)) .next
+    going-own (a .words .now) (a .pairs .now) (a .text .now) (a .walk) (a .out .now) 0 (c .before .before .before .before .before .before .before .before .loop .inv) (stepped (a .words .now) (a .pairs .now) (c .before .before .before .before .before .before .before .before .before .before .before .before .before .pre .0) (c .before .next .given .1) (c .before .before .before .next-piece .ensures)) .next
 
 enum-known-next-2 : tie.Need-enum-known-next-2 Inv-loop μ-loop
 enum-known-next-2 c = search needs
@@ -72,7 +72,7 @@ enum-known-next-2 c = search needs
 visit-types-requires : tie.Need-visit-types-requires Inv-loop μ-loop
 visit-types-requires c κs =
     let a = c .before .before .before .before .before .before .before .before .before .before .before .before .before .before .args in
-    going-due (a .words .now) (a .pairs .now) (a .text .now) (a .walk) (a .out .now) 0 (c .before .before .before .before .before .before .before .before .before .loop .inv) (stepped (a .words .now) (a .pairs .now) (a .text .now) (c .before .before .before .before .before .before .before .before .before .before .before .before .before .before .pre .0) (c .before .before .next2 .given .1) (c .before .before .before .before .next-piece .ensures))
+    going-due (a .words .now) (a .pairs .now) (a .text .now) (a .walk) (a .out .now) 0 (c .before .before .before .before .before .before .before .before .before .loop .inv) (stepped (a .words .now) (a .pairs .now) (c .before .before .before .before .before .before .before .before .before .before .before .before .before .before .pre .0) (c .before .before .next2 .given .1) (c .before .before .before .before .next-piece .ensures))
 
 move-to-requires : tie.Need-move-to-requires Inv-loop μ-loop
 move-to-requires c κs = search needs
@@ -80,13 +80,13 @@ move-to-requires c κs = search needs
 loop-less-3 : tie.Need-loop-less-3 Inv-loop μ-loop
 loop-less-3 c =
     let a = c .before .before .before .before .before .before .before .before .before .before .before .before .before .before .before .before .before .before .args in
-    let g = going-type (a .words .now) (a .pairs .now) (a .text .now) (a .walk) (a .out .now) 0 (c .before .before .before .before .before .before .before .before .before .before .before .before .before .loop .inv) (stepped (a .words .now) (a .pairs .now) (a .text .now) (c .before .before .before .before .before .before .before .before .before .before .before .before .before .before .before .before .before .before .pre .0) (c .before .before .before .before .before .before .next2 .given .1) (c .before .before .before .before .before .before .before .before .next-piece .ensures)) (c .before .before .before .visit-types .ensures) in
+    let g = going-type (a .words .now) (a .pairs .now) (a .text .now) (a .walk) (a .out .now) 0 (c .before .before .before .before .before .before .before .before .before .before .before .before .before .loop .inv) (stepped (a .words .now) (a .pairs .now) (c .before .before .before .before .before .before .before .before .before .before .before .before .before .before .before .before .before .before .pre .0) (c .before .before .before .before .before .before .next2 .given .1) (c .before .before .before .before .before .before .before .before .next-piece .ensures)) (c .before .before .before .visit-types .ensures) in
     rw (c .move-to .ensures) (omega (arith, g .further, g .next .inside))
 
 loop-again-3 : tie.Need-loop-again-3 Inv-loop μ-loop
 loop-again-3 c =
     let a = c .before .before .before .before .before .before .before .before .before .before .before .before .before .before .before .before .before .before .args in
-    rw (c .move-to .ensures) (going-type (a .words .now) (a .pairs .now) (a .text .now) (a .walk) (a .out .now) 0 (c .before .before .before .before .before .before .before .before .before .before .before .before .before .loop .inv) (stepped (a .words .now) (a .pairs .now) (a .text .now) (c .before .before .before .before .before .before .before .before .before .before .before .before .before .before .before .before .before .before .pre .0) (c .before .before .before .before .before .before .next2 .given .1) (c .before .before .before .before .before .before .before .before .next-piece .ensures)) (c .before .before .before .visit-types .ensures) .next)
+    rw (c .move-to .ensures) (going-type (a .words .now) (a .pairs .now) (a .text .now) (a .walk) (a .out .now) 0 (c .before .before .before .before .before .before .before .before .before .before .before .before .before .loop .inv) (stepped (a .words .now) (a .pairs .now) (c .before .before .before .before .before .before .before .before .before .before .before .before .before .before .before .before .before .before .pre .0) (c .before .before .before .before .before .before .next2 .given .1) (c .before .before .before .before .before .before .before .before .next-piece .ensures)) (c .before .before .before .visit-types .ensures) .next)
 
 enum-told : tie.Need-enum-told Inv-loop μ-loop
 enum-told c = search needs
@@ -97,7 +97,7 @@ same-length-2 c = c .before .before .before .before .before .before .before .loo
 returns-2 : tie.Need-returns-2 Inv-loop μ-loop
 returns-2 c =
     let a = c .before .before .before .before .before .before .before .before .before .before .before .before .args in
-    going-end (a .words .now) (a .pairs .now) (a .text .now) (a .walk) (a .out .now) 0 (c .before .before .before .before .before .before .before .loop .inv) (stepped (a .words .now) (a .pairs .now) (a .text .now) (c .before .before .before .before .before .before .before .before .before .before .before .before .pre .0) (c .enum-told .given .1) (c .before .before .next-piece .ensures))
+    going-end (a .words .now) (a .pairs .now) (a .text .now) (a .walk) (a .out .now) 0 (c .before .before .before .before .before .before .before .loop .inv) (stepped (a .words .now) (a .pairs .now) (c .before .before .before .before .before .before .before .before .before .before .before .before .pre .0) (c .enum-told .given .1) (c .before .before .next-piece .ensures))
 
 enum-told-2 : tie.Need-enum-told-2 Inv-loop μ-loop
 enum-told-2 c = search needs
@@ -108,7 +108,7 @@ same-length-3 c = c .before .before .before .before .before .before .before .loo
 returns-3 : tie.Need-returns-3 Inv-loop μ-loop
 returns-3 c =
     let a = c .before .before .before .before .before .before .before .before .before .before .before .before .args in
-    absurd (going-halt (a .words .now) (a .pairs .now) (a .text .now) (a .walk) (a .out .now) 0 (c .before .before .before .before .before .before .before .loop .inv) (stepped (a .words .now) (a .pairs .now) (a .text .now) (c .before .before .before .before .before .before .before .before .before .before .before .before .pre .0) (c .enum-told2 .given .1) (c .before .before .next-piece .ensures)))
+    absurd (going-halt (a .words .now) (a .pairs .now) (a .text .now) (a .walk) (a .out .now) 0 (c .before .before .before .before .before .before .before .loop .inv) (stepped (a .words .now) (a .pairs .now) (c .before .before .before .before .before .before .before .before .before .before .before .before .pre .0) (c .enum-told2 .given .1) (c .before .before .next-piece .ensures)))
 
 pub visit-walk-spec : {M : Type 1} → statement M
 visit-walk-spec =
