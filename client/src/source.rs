@@ -530,12 +530,19 @@ impl Line {
         })
     }
 
-    /// Reads something that may hold more of its kind.
-    fn nested<T>(&mut self, read: impl FnOnce(&mut Line) -> Result<T, Fault>) -> Result<T, Fault> {
+    /// One step deeper. An application of an application is one too, although it is read by a loop;
+    /// it counts to the end of the line.
+    fn nest(&mut self) -> Result<(), Fault> {
         if self.nesting == NESTING_LIMIT {
             return Err("types are nested too deeply".into());
         }
         self.nesting += 1;
+        Ok(())
+    }
+
+    /// Reads something that may hold more of its kind.
+    fn nested<T>(&mut self, read: impl FnOnce(&mut Line) -> Result<T, Fault>) -> Result<T, Fault> {
+        self.nest()?;
         let read = read(self);
         self.nesting -= 1;
         read
@@ -571,6 +578,9 @@ impl Line {
         }
         let mut of = self.type_without_arguments()?;
         while self.takes("<") {
+            if matches!(of, Type::App { .. }) {
+                self.nest()?;
+            }
             of = Type::App {
                 base: Box::new(of),
                 arguments: self.list(">", Line::whole_type)?,
@@ -890,6 +900,7 @@ mod tests {
             (&deep("&"), "line 2: types are nested too deeply"),
             (&deep("("), "line 2: types are nested too deeply"),
             (&deep("u8 +"), "line 2: types are nested too deeply"),
+            (&format!("struct A\nfield mm: A{}", "<>".repeat(100_000)), "line 2: types are nested too deeply"),
         ] {
             assert_eq!(error(source), message, "{source:?}");
         }
