@@ -36,7 +36,9 @@
 //! # Depth
 //!
 //! Trees that are nested more than [`DEPTH_LIMIT`](crate::limits::DEPTH_LIMIT) types deep can be
-//! built, but not encoded.
+//! built, but not encoded. As with other trees of boxes, `clone`, `==`, `Debug` and the end of a
+//! value go down the tree by calls, so one that is tens of thousands deep can exhaust the stack; the
+//! decoder and [`crate::source`] make none.
 
 mod declaration;
 
