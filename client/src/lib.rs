@@ -46,7 +46,7 @@
 //! keeps anything for the next one, so all of them can be made from any number of threads.
 
 #![deny(unsafe_code)]
-#![warn(missing_docs)]
+#![warn(missing_docs, clippy::undocumented_unsafe_blocks)]
 
 #[doc(hidden)]
 pub mod cases;
