@@ -19,14 +19,14 @@ use crate::{Encoding, EncodingBuf, Refusal};
 /// use tillercoral::tree::Type;
 /// use tillercoral::{Encoding, Refusal};
 ///
-/// // `&` before a word that begins no type
-/// let encoding = Encoding { words: &[15, 99], ..Encoding::default() };
+/// // `&` before nothing
+/// let encoding = Encoding { words: &[15], ..Encoding::default() };
 /// let error = Type::decode(&encoding).unwrap_err();
-/// assert_eq!(error.refusal(), Refusal::UnknownWord);
+/// assert_eq!(error.refusal(), Refusal::EndsEarly);
 /// assert_eq!(error.position(), Some(1));
 /// assert_eq!(
 ///     error.to_string(),
-///     "at word 1: a word is none of those allowed at its place (refusal 4)"
+///     "at word 1: a word is wanted and none is left (refusal 3)"
 /// );
 /// ```
 #[derive(Clone, Copy, Debug, PartialEq, Eq, Hash)]

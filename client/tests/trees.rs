@@ -2,6 +2,7 @@
 
 mod common;
 
+use std::error::Error;
 use std::thread;
 
 use common::{bare, gauge, shape, Tally};
@@ -16,7 +17,7 @@ use tillercoral::tree::{
 };
 use tillercoral::{
     declaration_text, limits, path_text, reference, type_text, DecodeError, Encoding, EncodingBuf,
-    Part, Refusal, Shape,
+    Part, Refusal, Shape, TextError,
 };
 
 type TextCall = fn(&Encoding<'_>, u32, &mut [u8]) -> Result<usize, Refusal>;
@@ -292,15 +293,19 @@ fn errors_say_where() {
         error(&[15]).to_string(),
         "at word 1: a word is wanted and none is left (refusal 3)"
     );
-    let with_pairs = |pairs: &[u32]| {
-        let error = Type::decode(&Encoding {
+    let of_pairs = |pairs: &[u32]| {
+        let encoding = Encoding {
             words: &[0],
             pairs,
             text: b"mm",
-        })
-        .unwrap_err();
-        (error.refusal(), error.position())
+        };
+        Type::decode(&encoding).unwrap_err()
     };
+    assert!(of_pairs(&[0, 1, 0, 1])
+        .to_string()
+        .starts_with("at pair 1: a pair overlaps"));
+    assert!(of_pairs(&[0; 2_050]).to_string().starts_with("more than"));
+    let with_pairs = |pairs| (of_pairs(pairs).refusal(), of_pairs(pairs).position());
     assert_eq!(with_pairs(&[0, 1, 0, 1]), (BadPair, Some(1)));
     assert_eq!(with_pairs(&[0, 3]), (BadPair, Some(0)));
     assert_eq!(with_pairs(&[0, 1, 1]), (BadPair, Some(1)));
@@ -723,6 +728,20 @@ fn long_texts() {
     assert_eq!(synonym.to_text_bytes(17), Err(Refusal::BadLevel));
 }
 
+/// A text that is not UTF-8 is in the error, which says where it stops being so.
+#[test]
+fn texts_that_are_not_utf8() {
+    let error = Type::slice(Type::named(b"mm\xFF")).to_text().unwrap_err();
+    let words = error.to_string();
+    assert!(words.starts_with("the text is not UTF-8: "), "{words}");
+    assert!(words.ends_with("from index 3"), "{words}");
+    assert!(error.source().is_some());
+    match error {
+        TextError::NotUtf8(error) => assert_eq!(error.as_bytes(), b"[mm\xFF]"),
+        other => panic!("{other}"),
+    }
+}
+
 /// Trees, encodings and errors go from thread to thread, and errors into boxes.
 #[test]
 fn types_are_send_and_sync() {
@@ -731,5 +750,5 @@ fn types_are_send_and_sync() {
     fn error<T: std::error::Error + Send + Sync + 'static>() {}
     error::<Refusal>();
     error::<DecodeError>();
-    error::<tillercoral::TextError>();
+    error::<TextError>();
 }
