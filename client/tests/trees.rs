@@ -455,6 +455,26 @@ fn built_fields_and_cases() {
     );
 }
 
+/// A doc, fields and arguments take the place of those before.
+#[test]
+fn built_twice() {
+    let nameless = || Fields::nameless([NamelessField::public(Type::U8)]);
+    let attribute = Attribute::new("sync").arguments(["mem"]).arguments(["Box"]);
+    let of_struct = Struct::new("rc")
+        .doc("mem")
+        .doc("std")
+        .attribute(attribute)
+        .fields(nameless())
+        .fields(Fields::nameless([]));
+    assert_declaration(of_struct, &[25, 1, 1, 4, 1, 7, 2, 0, 1, 0]);
+    let case = EnumCase::new("mem")
+        .doc("std")
+        .doc("Box")
+        .fields(nameless())
+        .fields(Fields::nameless([]));
+    assert_declaration(Enum::new("rc").case(case), &[26, 0, 0, 2, 0, 1, 7, 8, 1, 0]);
+}
+
 #[test]
 #[should_panic(expected = "a named field cannot stand among nameless ones")]
 fn named_fields_do_not_join_nameless_ones() {
