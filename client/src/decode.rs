@@ -323,11 +323,11 @@ impl<'a> Decoder<'a> {
     fn name_by_number(&self, number: u32) -> Option<Name> {
         let number = number as usize;
         match FIXED_NAMES.get(number) {
-            Some(fixed) => Some(fixed.as_bytes().to_vec()),
+            Some(&fixed) => Some(Name::from(fixed)),
             None => self
                 .names
                 .get(number - FIXED_NAMES.len())
-                .map(|name| name.to_vec()),
+                .map(|&name| Name::from(name)),
         }
     }
 

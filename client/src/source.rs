@@ -249,10 +249,7 @@ fn or_no_fields(fields: Option<Fields>) -> Fields {
 fn add_doc(doc: &mut Option<Name>, line: Name) {
     match doc {
         None => *doc = Some(line),
-        Some(doc) => {
-            doc.push(b'\n');
-            doc.extend(line);
-        }
+        Some(doc) => *doc = Name::from([doc, &b"\n"[..], &line].concat()),
     }
 }
 
@@ -382,7 +379,7 @@ impl Line {
             .tokens
             .next_if(|token| !matches!(token, Token::Mark(_)))?
         {
-            Token::Word(word) => Some(word.into_bytes()),
+            Token::Word(word) => Some(word.into()),
             Token::String(bytes) => Some(bytes),
             Token::Mark(_) => None,
         }
@@ -669,7 +666,7 @@ impl Line {
                     overflow,
                 })
             }
-            _ => Ok(Type::Identifier(word.into_bytes())),
+            _ => Ok(Type::Identifier(word.into())),
         }
     }
 }
@@ -709,7 +706,7 @@ fn string(text: &str) -> Result<(Name, &str), Fault> {
         bytes.extend(&rest.as_bytes()[..end]);
         let after = &rest[end + 1..];
         if rest.as_bytes()[end] == b'"' {
-            return Ok((bytes, after));
+            return Ok((bytes.into(), after));
         }
         let (byte, length) = match after.as_bytes().first() {
             Some(b'n') => (b'\n', 1),
@@ -848,14 +845,14 @@ mod tests {
             Declaration::Struct(it) => it.doc,
             other => panic!("{other:?}"),
         };
-        assert_eq!(doc("struct A"), b"");
-        assert_eq!(doc("struct A\ndoc \"\""), b"");
-        assert_eq!(doc("struct A\ndoc \"\"\ndoc \"\""), b"\n");
+        assert_eq!(doc("struct A"), "");
+        assert_eq!(doc("struct A\ndoc \"\""), "");
+        assert_eq!(doc("struct A\ndoc \"\"\ndoc \"\""), "\n");
         assert_eq!(
             doc(r#"struct A
                 doc "a // b"
                 doc "\"\\\t\x00\xfF""#),
-            b"a // b\n\"\\\t\0\xFF"
+            *b"a // b\n\"\\\t\0\xFF"
         );
     }
 

@@ -218,12 +218,12 @@ impl Maker<'_> {
         let names = [
             "Gauge", "Depth", "mm", "id", "T", "_x9", "std", "rc", "Object", "union", "i256",
         ];
-        self.random.pick(&names).as_bytes().to_vec()
+        self.random.pick(&names).into()
     }
 
     fn doc(&mut self) -> Name {
         let doc = random_doc(self.random, 10);
-        String::from_utf8_lossy(&doc).replace('\r', "").into_bytes()
+        String::from_utf8_lossy(&doc).replace('\r', "").into()
     }
 
     fn attributes(&mut self) -> Vec<Attribute> {
@@ -334,12 +334,7 @@ impl Maker<'_> {
             },
             7 => Type::Array {
                 element: self.boxed(below),
-                size: Some(
-                    self.random
-                        .pick(&["16", "CHANNELS", "0x10"])
-                        .as_bytes()
-                        .to_vec(),
-                ),
+                size: Some(self.random.pick(&["16", "CHANNELS", "0x10"]).into()),
             },
             8 => Type::Synonym {
                 display: self.boxed(below),
