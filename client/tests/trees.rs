@@ -748,6 +748,15 @@ fn long_texts() {
     assert_eq!(synonym.to_text_bytes(17), Err(Refusal::BadLevel));
 }
 
+#[test]
+fn encodings_are_owned_and_borrowed() {
+    let encoding = gauge(&[12, 16]);
+    let owned = EncodingBuf::from(&encoding);
+    let parts = (&owned.words[..], &owned.pairs[..], &owned.text[..]);
+    assert_eq!(parts, (encoding.words, encoding.pairs, encoding.text));
+    assert_eq!(Encoding::from(&owned), encoding);
+}
+
 /// A text that is not UTF-8 is in the error, which says where it stops being so.
 #[test]
 fn texts_that_are_not_utf8() {
