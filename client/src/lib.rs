@@ -94,6 +94,11 @@ pub use visit::{declaration_visit, type_visit};
 #[doc = include_str!("../README.md")]
 struct ReadmeExamples;
 
+/// The same of the repository's.
+#[cfg(doctest)]
+#[doc = include_str!("../../README.md")]
+struct RepositoryReadmeExamples;
+
 /// A tree and the names it uses.
 ///
 /// Name numbers 0 to 15 are fixed (empty, `std`, `rc`, `Rc`, `sync`, `Arc`, `boxed`, `Box`, `mem`,
