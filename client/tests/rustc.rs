@@ -85,11 +85,12 @@ fn generated_declarations_parse() {
     let mut texts: Vec<String> = (0..DECLARATIONS)
         .map(|_| {
             let declaration = Maker { random }.declaration();
-            heads[match declaration {
+            heads[match &declaration {
                 Declaration::Struct(_) => 0,
                 Declaration::Enum(_) => 1,
                 Declaration::TypeSynonym(_) => 2,
                 Declaration::Use(_) => 3,
+                other => panic!("{other:?} is none of the kinds made here"),
             }] += 1;
             printed(&declaration, random.below(17) as u32)
         })
