@@ -4,6 +4,7 @@
 //! calls no part of the library, so it can also say where an encoding went wrong.
 
 use std::fmt;
+use std::ops::Range;
 
 use crate::limits::{DEPTH_LIMIT, FIXED_NAMES, PAIR_LIMIT, TEXT_LIMIT, WORD_LIMIT};
 use crate::tree::{
@@ -18,14 +19,14 @@ use crate::{Encoding, EncodingBuf, Refusal};
 /// use tillercoral::tree::Type;
 /// use tillercoral::{Encoding, Refusal};
 ///
-/// // `&` before a word that begins no type
-/// let encoding = Encoding { words: &[15, 99], ..Encoding::default() };
+/// // `&` before nothing
+/// let encoding = Encoding { words: &[15], ..Encoding::default() };
 /// let error = Type::decode(&encoding).unwrap_err();
-/// assert_eq!(error.refusal(), Refusal::UnknownWord);
+/// assert_eq!(error.refusal(), Refusal::EndsEarly);
 /// assert_eq!(error.position(), Some(1));
 /// assert_eq!(
 ///     error.to_string(),
-///     "at word 1: a word is none of those allowed at its place (refusal 4)"
+///     "at word 1: a word is wanted and none is left (refusal 3)"
 /// );
 /// ```
 #[derive(Clone, Copy, Debug, PartialEq, Eq, Hash)]
@@ -172,21 +173,25 @@ impl EncodingBuf {
     }
 }
 
-/// The types that begin at these words of an accepted tree, each with the words that hold it.
-///
-/// Each is read as if it stood in no other type.
-pub(crate) fn types_at(
+/// The types that begin at these words. Each is read as if it stood in no other type.
+pub(crate) fn trees_at(
     encoding: &Encoding<'_>,
     positions: &[u32],
-) -> Result<Vec<(std::ops::Range<usize>, Type)>, DecodeError> {
+) -> Result<Vec<Type>, DecodeError> {
     let mut decoder = Decoder::new(encoding)?;
-    let type_at = |&position: &u32| {
-        let start = position as usize;
-        decoder.next = start;
-        let tree = decoder.type_at_depth(1)?;
-        Ok((start..decoder.next, tree))
-    };
-    positions.iter().map(type_at).collect()
+    let tree_at = |&position| decoder.type_at(position).map(|(_, tree)| tree);
+    positions.iter().map(tree_at).collect()
+}
+
+/// The words that hold the types which begin at these words.
+pub(crate) fn ranges_at(
+    encoding: &Encoding<'_>,
+    positions: &[u32],
+) -> Result<Vec<Range<usize>>, DecodeError> {
+    let mut decoder = Decoder::new(encoding)?;
+    decoder.names.fill(b""); // that there are so many is enough, and nothing is copied
+    let range_at = |&position| decoder.type_at(position).map(|(range, _)| range);
+    positions.iter().map(range_at).collect()
 }
 
 /// The names that the pairs stand for.
@@ -318,11 +323,11 @@ impl<'a> Decoder<'a> {
     fn name_by_number(&self, number: u32) -> Option<Name> {
         let number = number as usize;
         match FIXED_NAMES.get(number) {
-            Some(fixed) => Some(fixed.as_bytes().to_vec()),
+            Some(&fixed) => Some(Name::from(fixed)),
             None => self
                 .names
                 .get(number - FIXED_NAMES.len())
-                .map(|name| name.to_vec()),
+                .map(|&name| Name::from(name)),
         }
     }
 
@@ -351,6 +356,14 @@ impl<'a> Decoder<'a> {
 
 // Types. The depth limit bounds the recursion.
 impl Decoder<'_> {
+    /// The type that begins at a word, and the words that hold it.
+    fn type_at(&mut self, position: u32) -> Result<(Range<usize>, Type), DecodeError> {
+        let start = position as usize;
+        self.next = start;
+        let tree = self.type_at_depth(1)?;
+        Ok((start..self.next, tree))
+    }
+
     fn type_at_depth(&mut self, depth: usize) -> Result<Type, DecodeError> {
         // Tested before the word is looked for: 5 comes before 3 and 4.
         if depth > DEPTH_LIMIT {

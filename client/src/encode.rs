@@ -542,22 +542,14 @@ mod tests {
         );
         let names = |count: usize| Path {
             root: Root::Global,
-            names: (0..count).map(|i| format!("n{i}").into_bytes()).collect(),
+            names: (0..count).map(|i| format!("n{i}").into()).collect(),
         };
         assert!(EncodingBuf::from_path(&names(1_024)).is_ok());
         assert_eq!(
             EncodingBuf::from_path(&names(1_025)),
             Err(Refusal::Overlong)
         );
-        let named = |length| {
-            Declaration::Struct(Struct {
-                doc: vec![],
-                attributes: vec![],
-                name: vec![b'n'; length],
-                parameters: vec![],
-                fields: Fields::Named(vec![]),
-            })
-        };
+        let named = |length| Declaration::from(Struct::new(vec![b'n'; length]));
         assert!(EncodingBuf::from_declaration(&named(16_384)).is_ok());
         assert_eq!(
             EncodingBuf::from_declaration(&named(16_385)),

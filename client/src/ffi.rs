@@ -2,6 +2,13 @@
 //!
 //! A slice passes as a pointer and a length in elements. The pointer of an empty Rust slice is
 //! non-null and aligned, which is all the library asks of it.
+//!
+//! # Why the calls are safe
+//!
+//! Each pointer and length come from one slice that lives through the call. The library takes any
+//! contents, reads and writes only inside the slices, writes to `out` alone, and keeps no pointer.
+//! `out` is borrowed exclusively, so it overlaps nothing. That a declaration below is the exported
+//! one is tested (`tests/makers.rs`).
 
 use crate::Encoding;
 
@@ -55,10 +62,8 @@ unsafe extern "C" {
     ) -> u64;
 }
 
-// Why the calls below are safe: each pointer and length come from one live slice, the library
-// reads and writes only inside these and keeps no pointer, and `out` is borrowed exclusively.
-
 pub(crate) fn type_text(e: &Encoding<'_>, level: u32, out: &mut [u8]) -> u64 {
+    // SAFETY: see the head of `ffi`.
     unsafe {
         tillercoral_type_text(
             e.words.as_ptr(),
@@ -75,6 +80,7 @@ pub(crate) fn type_text(e: &Encoding<'_>, level: u32, out: &mut [u8]) -> u64 {
 }
 
 pub(crate) fn path_text(e: &Encoding<'_>, level: u32, out: &mut [u8]) -> u64 {
+    // SAFETY: see the head of `ffi`.
     unsafe {
         tillercoral_path_text(
             e.words.as_ptr(),
@@ -91,6 +97,7 @@ pub(crate) fn path_text(e: &Encoding<'_>, level: u32, out: &mut [u8]) -> u64 {
 }
 
 pub(crate) fn declaration_text(e: &Encoding<'_>, level: u32, out: &mut [u8]) -> u64 {
+    // SAFETY: see the head of `ffi`.
     unsafe {
         tillercoral_declaration_text(
             e.words.as_ptr(),
@@ -107,6 +114,7 @@ pub(crate) fn declaration_text(e: &Encoding<'_>, level: u32, out: &mut [u8]) -> 
 }
 
 pub(crate) fn type_is_sound(e: &Encoding<'_>) -> u64 {
+    // SAFETY: see the head of `ffi`.
     unsafe {
         tillercoral_type_is_sound(
             e.words.as_ptr(),

@@ -46,7 +46,7 @@
 //! keeps anything for the next one, so all of them can be made from any number of threads.
 
 #![deny(unsafe_code)]
-#![warn(missing_docs)]
+#![warn(missing_docs, clippy::undocumented_unsafe_blocks)]
 
 #[doc(hidden)]
 pub mod cases;
@@ -93,6 +93,11 @@ pub use visit::{declaration_visit, type_visit};
 #[cfg(doctest)]
 #[doc = include_str!("../README.md")]
 struct ReadmeExamples;
+
+/// The same of the repository's.
+#[cfg(doctest)]
+#[doc = include_str!("../../README.md")]
+struct RepositoryReadmeExamples;
 
 /// A tree and the names it uses.
 ///

@@ -3,7 +3,7 @@
 use std::fmt;
 use std::string::FromUtf8Error;
 
-use crate::decode::types_at;
+use crate::decode::{ranges_at, trees_at};
 use crate::limits::WORD_LIMIT;
 use crate::tree::{Declaration, Path, Type};
 use crate::{DecodeError, Encoding, EncodingBuf, Part, Refusal, Shape};
@@ -89,6 +89,10 @@ fn words_of(
 /// The calls with buffers of their own. [`Refusal::BufferTooShort`] is left to those that rebuild,
 /// for a tree that needs more than 8,192 words.
 ///
+/// A text can be much longer than its encoding, since a name or a doc may stand in thousands of
+/// places: 50 kilobytes can print two gigabytes. For encodings from others use the functions with a
+/// buffer, such as [`declaration_text`](crate::declaration_text).
+///
 /// ```
 /// use tillercoral::{Encoding, Part, Shape};
 ///
@@ -172,18 +176,11 @@ impl<'a> Encoding<'a> {
     /// # Ok::<(), tillercoral::Refusal>(())
     /// ```
     pub fn types_at(&self, positions: &[u32]) -> Result<Vec<Encoding<'a>>, DecodeError> {
-        let found = types_at(self, positions)?;
-        let part = |(words, _)| Encoding {
+        let part = |words| Encoding {
             words: &self.words[words],
             ..*self
         };
-        Ok(found.into_iter().map(part).collect())
-    }
-
-    /// The trees of the types that begin at these words.
-    fn trees_at(&self, positions: &[u32]) -> Result<Vec<Type>, Refusal> {
-        let found = types_at(self, positions)?;
-        Ok(found.into_iter().map(|(_, tree)| tree).collect())
+        Ok(ranges_at(self, positions)?.into_iter().map(part).collect())
     }
 }
 
@@ -265,6 +262,7 @@ impl Type {
     }
 
     /// The types that are visited in this one, itself first; see [`type_visit`](crate::type_visit).
+    /// Each is a tree of its own, so a name inside 63 others is copied 64 times.
     ///
     /// ```
     /// use tillercoral::tree::Type;
@@ -279,7 +277,7 @@ impl Type {
     pub fn visited(&self) -> Result<Vec<Type>, Refusal> {
         let encoding = self.encode()?;
         let encoding = encoding.as_encoding();
-        encoding.trees_at(&encoding.type_visit()?)
+        Ok(trees_at(&encoding, &encoding.type_visit()?)?)
     }
 
     /// Whether the type has a shape.
@@ -387,6 +385,6 @@ impl Declaration {
     pub fn visited(&self) -> Result<Vec<Type>, Refusal> {
         let encoding = self.encode()?;
         let encoding = encoding.as_encoding();
-        encoding.trees_at(&encoding.declaration_visit()?)
+        Ok(trees_at(&encoding, &encoding.declaration_visit()?)?)
     }
 }

@@ -163,10 +163,10 @@ impl Reader<'_> {
     fn name_of(&self, number: u32) -> Result<Name, Refusal> {
         let number = number as usize;
         if let Some(fixed) = FIXED_NAMES.get(number) {
-            return Ok(fixed.as_bytes().to_vec());
+            return Ok(Name::from(*fixed));
         }
         match self.names.get(number - FIXED_NAMES.len()) {
-            Some(name) => Ok(name.to_vec()),
+            Some(name) => Ok(Name::from(*name)),
             None => Err(Refusal::UnknownWord),
         }
     }

@@ -95,7 +95,9 @@ impl Refusal {
                  the table"
             }
             Refusal::EndsEarly => "a word is wanted and none is left",
-            Refusal::UnknownWord => "a word is none of those allowed at its place",
+            Refusal::UnknownWord => {
+                "a word is none of those allowed at its place, or there are more than 32 rules"
+            }
             Refusal::TooDeep => "a type begins at depth 65, and the limit is 64",
             Refusal::LeftOver => "words remain after the tree or the rules",
             Refusal::NoSuchPart => "the type lacks the shape asked for",
@@ -130,5 +132,26 @@ mod tests {
         for number in [0, 12, 1 << 32 | 1, u64::MAX] {
             assert_eq!(Refusal::from_number(number), None);
         }
+    }
+
+    #[test]
+    fn refusals_say_what_is_wrong() {
+        let words = [
+            "more than 8,192 words, 1,024 pairs or 16,384 bytes of text were given (refusal 1)",
+            "a pair overlaps the one before it or ends outside the text, or half a pair ends the \
+             table (refusal 2)",
+            "a word is wanted and none is left (refusal 3)",
+            "a word is none of those allowed at its place, or there are more than 32 rules \
+             (refusal 4)",
+            "a type begins at depth 65, and the limit is 64 (refusal 5)",
+            "words remain after the tree or the rules (refusal 6)",
+            "the type lacks the shape asked for (refusal 7)",
+            "the buffer is too short for the result, or rebuilding needs more than 8,192 words \
+             (refusal 8)",
+            "the file has another length than its header says (refusal 9)",
+            "two rules replace the same type (refusal 10)",
+            "the level is above 16 (refusal 11)",
+        ];
+        assert_eq!(Refusal::ALL.map(|refusal| refusal.to_string()), words);
     }
 }

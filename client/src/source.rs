@@ -249,10 +249,7 @@ fn or_no_fields(fields: Option<Fields>) -> Fields {
 fn add_doc(doc: &mut Option<Name>, line: Name) {
     match doc {
         None => *doc = Some(line),
-        Some(doc) => {
-            doc.push(b'\n');
-            doc.extend(line);
-        }
+        Some(doc) => *doc = Name::from([doc, &b"\n"[..], &line].concat()),
     }
 }
 
@@ -382,7 +379,7 @@ impl Line {
             .tokens
             .next_if(|token| !matches!(token, Token::Mark(_)))?
         {
-            Token::Word(word) => Some(word.into_bytes()),
+            Token::Word(word) => Some(word.into()),
             Token::String(bytes) => Some(bytes),
             Token::Mark(_) => None,
         }
@@ -530,12 +527,19 @@ impl Line {
         })
     }
 
-    /// Reads something that may hold more of its kind.
-    fn nested<T>(&mut self, read: impl FnOnce(&mut Line) -> Result<T, Fault>) -> Result<T, Fault> {
+    /// One step deeper. An application of an application is one too, although it is read by a loop;
+    /// it counts to the end of the line.
+    fn nest(&mut self) -> Result<(), Fault> {
         if self.nesting == NESTING_LIMIT {
             return Err("types are nested too deeply".into());
         }
         self.nesting += 1;
+        Ok(())
+    }
+
+    /// Reads something that may hold more of its kind.
+    fn nested<T>(&mut self, read: impl FnOnce(&mut Line) -> Result<T, Fault>) -> Result<T, Fault> {
+        self.nest()?;
         let read = read(self);
         self.nesting -= 1;
         read
@@ -571,6 +575,9 @@ impl Line {
         }
         let mut of = self.type_without_arguments()?;
         while self.takes("<") {
+            if matches!(of, Type::App { .. }) {
+                self.nest()?;
+            }
             of = Type::App {
                 base: Box::new(of),
                 arguments: self.list(">", Line::whole_type)?,
@@ -659,7 +666,7 @@ impl Line {
                     overflow,
                 })
             }
-            _ => Ok(Type::Identifier(word.into_bytes())),
+            _ => Ok(Type::Identifier(word.into())),
         }
     }
 }
@@ -699,7 +706,7 @@ fn string(text: &str) -> Result<(Name, &str), Fault> {
         bytes.extend(&rest.as_bytes()[..end]);
         let after = &rest[end + 1..];
         if rest.as_bytes()[end] == b'"' {
-            return Ok((bytes, after));
+            return Ok((bytes.into(), after));
         }
         let (byte, length) = match after.as_bytes().first() {
             Some(b'n') => (b'\n', 1),
@@ -838,14 +845,14 @@ mod tests {
             Declaration::Struct(it) => it.doc,
             other => panic!("{other:?}"),
         };
-        assert_eq!(doc("struct A"), b"");
-        assert_eq!(doc("struct A\ndoc \"\""), b"");
-        assert_eq!(doc("struct A\ndoc \"\"\ndoc \"\""), b"\n");
+        assert_eq!(doc("struct A"), "");
+        assert_eq!(doc("struct A\ndoc \"\""), "");
+        assert_eq!(doc("struct A\ndoc \"\"\ndoc \"\""), "\n");
         assert_eq!(
             doc(r#"struct A
                 doc "a // b"
                 doc "\"\\\t\x00\xfF""#),
-            b"a // b\n\"\\\t\0\xFF"
+            *b"a // b\n\"\\\t\0\xFF"
         );
     }
 
@@ -890,6 +897,7 @@ mod tests {
             (&deep("&"), "line 2: types are nested too deeply"),
             (&deep("("), "line 2: types are nested too deeply"),
             (&deep("u8 +"), "line 2: types are nested too deeply"),
+            (&format!("struct A\nfield mm: A{}", "<>".repeat(100_000)), "line 2: types are nested too deeply"),
         ] {
             assert_eq!(error(source), message, "{source:?}");
         }

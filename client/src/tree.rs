@@ -28,28 +28,118 @@
 //!
 //! # Names
 //!
-//! Names, array sizes and docs are bytes, since the encoding allows any; whatever can be seen as
-//! bytes will do where one is asked for, so `"mm"`, `String`s and `b"\xFF"` all will. That a name is
+//! Names, array sizes and docs are bytes, a [`Name`], since the encoding allows any; whatever can be
+//! seen as bytes will do where one is asked for, so `"mm"`, `String`s and `b"\xFF"` all will. That a name is
 //! a valid identifier is the maker's concern: nothing here or in the library asks for it, except
 //! [`Type::is_sound`].
 //!
 //! # Depth
 //!
 //! Trees that are nested more than [`DEPTH_LIMIT`](crate::limits::DEPTH_LIMIT) types deep can be
-//! built, but not encoded.
+//! built, but not encoded. As with other trees of boxes, `clone`, `==`, `Debug` and the end of a
+//! value go down the tree by calls, so one that is tens of thousands deep can exhaust the stack; the
+//! decoder and [`crate::source`] make none.
 
 mod declaration;
+
+use std::fmt;
+use std::ops::Deref;
 
 pub use declaration::{
     Attribute, Declaration, Enum, EnumCase, Field, Fields, NamelessField, Struct, TypeParameter,
     TypeSynonym, Use, Visibility,
 };
 
-/// The bytes of a name, an array size or a doc.
-pub type Name = Vec<u8>;
+/// The bytes of a name, an array size or a doc. `Debug` shows them as a byte string.
+///
+/// ```
+/// use tillercoral::tree::{Name, Type};
+///
+/// let name = Name::from("mm\n");
+/// assert_eq!(name, "mm\n");
+/// assert_eq!(format!("{:?}", Type::Identifier(name)), r#"Identifier(b"mm\n")"#);
+/// ```
+#[derive(Clone, Default, PartialEq, Eq, Hash, PartialOrd, Ord)]
+pub struct Name(Vec<u8>);
+
+impl Name {
+    /// The empty name.
+    #[must_use]
+    pub const fn new() -> Name {
+        Name(Vec::new())
+    }
+
+    /// The bytes.
+    #[must_use]
+    pub fn into_bytes(self) -> Vec<u8> {
+        self.0
+    }
+}
+
+impl fmt::Debug for Name {
+    fn fmt(&self, f: &mut fmt::Formatter<'_>) -> fmt::Result {
+        write!(f, "b\"{}\"", self.0.escape_ascii())
+    }
+}
+
+impl Deref for Name {
+    type Target = [u8];
+
+    fn deref(&self) -> &[u8] {
+        &self.0
+    }
+}
+
+impl AsRef<[u8]> for Name {
+    fn as_ref(&self) -> &[u8] {
+        &self.0
+    }
+}
+
+impl From<Vec<u8>> for Name {
+    fn from(bytes: Vec<u8>) -> Name {
+        Name(bytes)
+    }
+}
+
+impl From<&[u8]> for Name {
+    fn from(bytes: &[u8]) -> Name {
+        Name(bytes.to_vec())
+    }
+}
+
+impl From<&str> for Name {
+    fn from(text: &str) -> Name {
+        Name(text.into())
+    }
+}
+
+impl From<String> for Name {
+    fn from(text: String) -> Name {
+        Name(text.into_bytes())
+    }
+}
+
+impl PartialEq<str> for Name {
+    fn eq(&self, text: &str) -> bool {
+        self.0 == text.as_bytes()
+    }
+}
+
+impl PartialEq<&str> for Name {
+    fn eq(&self, text: &&str) -> bool {
+        self.0 == text.as_bytes()
+    }
+}
+
+impl<const N: usize> PartialEq<[u8; N]> for Name {
+    fn eq(&self, bytes: &[u8; N]) -> bool {
+        self.0 == bytes
+    }
+}
 
 fn name_of(bytes: impl AsRef<[u8]>) -> Name {
-    bytes.as_ref().to_vec()
+    Name::from(bytes.as_ref())
 }
 
 fn names_of(names: impl IntoIterator<Item = impl AsRef<[u8]>>) -> Vec<Name> {

@@ -1,11 +1,13 @@
 //! Runs the program `printdecl` on whole files and compares what it prints with the reference.
 //!
-//! The program is `../target/bin/printdecl`, or another one named by `TILLERCORAL_PRINTDECL`.
+//! The program is `../target/bin/printdecl`, which the script `../printdecl` builds if it is missing,
+//! or another one named by `TILLERCORAL_PRINTDECL`.
 
 use std::fs::{self, File};
 use std::io::{Read, Write};
 use std::path::{Path, PathBuf};
 use std::process::{Child, ChildStdin, Command, Stdio};
+use std::sync::LazyLock;
 use std::time::Duration;
 use std::{env, io, thread};
 
@@ -20,15 +22,25 @@ fn in_repository(path: &str) -> PathBuf {
 }
 
 fn program() -> PathBuf {
-    let path = env::var_os(PROGRAM_VARIABLE)
-        .map_or_else(|| in_repository("target/bin/printdecl"), PathBuf::from);
-    assert!(
-        path.is_file(),
-        "there is no {}: run `rt check printdecl` in the repository's root, or set {PROGRAM_VARIABLE}",
-        path.display()
-    );
-    path
+    match env::var_os(PROGRAM_VARIABLE) {
+        Some(path) => PathBuf::from(path),
+        None => BUILT_PROGRAM.clone(),
+    }
 }
+
+/// The repository's own program. The first test that asks for it has it built, the others wait.
+static BUILT_PROGRAM: LazyLock<PathBuf> = LazyLock::new(|| {
+    let path = in_repository("target/bin/printdecl");
+    if !path.is_file() {
+        let ended = Command::new(in_repository("printdecl"))
+            .arg(in_repository("examples/gauge.bin"))
+            .output()
+            .expect("the script starts");
+        let errors = String::from_utf8_lossy(&ended.stderr);
+        assert!(path.is_file(), "{} is not built:\n{errors}", path.display());
+    }
+    path
+});
 
 fn start(input: Stdio) -> Child {
     Command::new(program())
@@ -377,6 +389,7 @@ fn a_write_error_is_told() {
 /// The script gives both as a status, and a refusal as an answer.
 #[test]
 fn the_script_has_a_status() {
+    LazyLock::force(&BUILT_PROGRAM);
     let script = |input: File, output: Stdio| {
         Command::new(in_repository("printdecl"))
             .stdin(input)

@@ -85,11 +85,12 @@ fn generated_declarations_parse() {
     let mut texts: Vec<String> = (0..DECLARATIONS)
         .map(|_| {
             let declaration = Maker { random }.declaration();
-            heads[match declaration {
+            heads[match &declaration {
                 Declaration::Struct(_) => 0,
                 Declaration::Enum(_) => 1,
                 Declaration::TypeSynonym(_) => 2,
                 Declaration::Use(_) => 3,
+                other => panic!("{other:?} is none of the kinds made here"),
             }] += 1;
             printed(&declaration, random.below(17) as u32)
         })
@@ -218,12 +219,12 @@ impl Maker<'_> {
         let names = [
             "Gauge", "Depth", "mm", "id", "T", "_x9", "std", "rc", "Object", "union", "i256",
         ];
-        self.random.pick(&names).as_bytes().to_vec()
+        self.random.pick(&names).into()
     }
 
     fn doc(&mut self) -> Name {
         let doc = random_doc(self.random, 10);
-        String::from_utf8_lossy(&doc).replace('\r', "").into_bytes()
+        String::from_utf8_lossy(&doc).replace('\r', "").into()
     }
 
     fn attributes(&mut self) -> Vec<Attribute> {
@@ -334,12 +335,7 @@ impl Maker<'_> {
             },
             7 => Type::Array {
                 element: self.boxed(below),
-                size: Some(
-                    self.random
-                        .pick(&["16", "CHANNELS", "0x10"])
-                        .as_bytes()
-                        .to_vec(),
-                ),
+                size: Some(self.random.pick(&["16", "CHANNELS", "0x10"]).into()),
             },
             8 => Type::Synonym {
                 display: self.boxed(below),

@@ -2,6 +2,7 @@
 
 mod common;
 
+use std::error::Error;
 use std::thread;
 
 use common::{bare, gauge, shape, Tally};
@@ -16,7 +17,7 @@ use tillercoral::tree::{
 };
 use tillercoral::{
     declaration_text, limits, path_text, reference, type_text, DecodeError, Encoding, EncodingBuf,
-    Part, Refusal, Shape,
+    Part, Refusal, Shape, TextError,
 };
 
 type TextCall = fn(&Encoding<'_>, u32, &mut [u8]) -> Result<usize, Refusal>;
@@ -292,15 +293,19 @@ fn errors_say_where() {
         error(&[15]).to_string(),
         "at word 1: a word is wanted and none is left (refusal 3)"
     );
-    let with_pairs = |pairs: &[u32]| {
-        let error = Type::decode(&Encoding {
+    let of_pairs = |pairs: &[u32]| {
+        let encoding = Encoding {
             words: &[0],
             pairs,
             text: b"mm",
-        })
-        .unwrap_err();
-        (error.refusal(), error.position())
+        };
+        Type::decode(&encoding).unwrap_err()
     };
+    assert!(of_pairs(&[0, 1, 0, 1])
+        .to_string()
+        .starts_with("at pair 1: a pair overlaps"));
+    assert!(of_pairs(&[0; 2_050]).to_string().starts_with("more than"));
+    let with_pairs = |pairs| (of_pairs(pairs).refusal(), of_pairs(pairs).position());
     assert_eq!(with_pairs(&[0, 1, 0, 1]), (BadPair, Some(1)));
     assert_eq!(with_pairs(&[0, 3]), (BadPair, Some(0)));
     assert_eq!(with_pairs(&[0, 1, 1]), (BadPair, Some(1)));
@@ -448,6 +453,26 @@ fn built_fields_and_cases() {
             26, 1, 1, 16, 1, 3, 2, 0, 2, 7, 8, 0, 1, 0, 14, 0, 0, 12, 1, 1, 0, 0,
         ],
     );
+}
+
+/// A doc, fields and arguments take the place of those before.
+#[test]
+fn built_twice() {
+    let nameless = || Fields::nameless([NamelessField::public(Type::U8)]);
+    let attribute = Attribute::new("sync").arguments(["mem"]).arguments(["Box"]);
+    let of_struct = Struct::new("rc")
+        .doc("mem")
+        .doc("std")
+        .attribute(attribute)
+        .fields(nameless())
+        .fields(Fields::nameless([]));
+    assert_declaration(of_struct, &[25, 1, 1, 4, 1, 7, 2, 0, 1, 0]);
+    let case = EnumCase::new("mem")
+        .doc("std")
+        .doc("Box")
+        .fields(nameless())
+        .fields(Fields::nameless([]));
+    assert_declaration(Enum::new("rc").case(case), &[26, 0, 0, 2, 0, 1, 7, 8, 1, 0]);
 }
 
 #[test]
@@ -723,6 +748,29 @@ fn long_texts() {
     assert_eq!(synonym.to_text_bytes(17), Err(Refusal::BadLevel));
 }
 
+#[test]
+fn encodings_are_owned_and_borrowed() {
+    let encoding = gauge(&[12, 16]);
+    let owned = EncodingBuf::from(&encoding);
+    let parts = (&owned.words[..], &owned.pairs[..], &owned.text[..]);
+    assert_eq!(parts, (encoding.words, encoding.pairs, encoding.text));
+    assert_eq!(Encoding::from(&owned), encoding);
+}
+
+/// A text that is not UTF-8 is in the error, which says where it stops being so.
+#[test]
+fn texts_that_are_not_utf8() {
+    let error = Type::slice(Type::named(b"mm\xFF")).to_text().unwrap_err();
+    let words = error.to_string();
+    assert!(words.starts_with("the text is not UTF-8: "), "{words}");
+    assert!(words.ends_with("from index 3"), "{words}");
+    assert!(error.source().is_some());
+    match error {
+        TextError::NotUtf8(error) => assert_eq!(error.as_bytes(), b"[mm\xFF]"),
+        other => panic!("{other}"),
+    }
+}
+
 /// Trees, encodings and errors go from thread to thread, and errors into boxes.
 #[test]
 fn types_are_send_and_sync() {
@@ -731,5 +779,5 @@ fn types_are_send_and_sync() {
     fn error<T: std::error::Error + Send + Sync + 'static>() {}
     error::<Refusal>();
     error::<DecodeError>();
-    error::<tillercoral::TextError>();
+    error::<TextError>();
 }

@@ -41,9 +41,8 @@ unsafe extern "C" {
     ) -> u64;
 }
 
-// Why the calls below are safe: as in the module above.
-
 pub(crate) fn type_rebuild(e: &Encoding<'_>, rules: &[u32], out: &mut [u32]) -> u64 {
+    // SAFETY: see the head of `ffi`.
     unsafe {
         tillercoral_type_rebuild(
             e.words.as_ptr(),
@@ -61,6 +60,7 @@ pub(crate) fn type_rebuild(e: &Encoding<'_>, rules: &[u32], out: &mut [u32]) -> 
 }
 
 pub(crate) fn declaration_rebuild(e: &Encoding<'_>, rules: &[u32], out: &mut [u32]) -> u64 {
+    // SAFETY: see the head of `ffi`.
     unsafe {
         tillercoral_declaration_rebuild(
             e.words.as_ptr(),
@@ -78,6 +78,7 @@ pub(crate) fn declaration_rebuild(e: &Encoding<'_>, rules: &[u32], out: &mut [u3
 }
 
 pub(crate) fn type_at_initialization(e: &Encoding<'_>, out: &mut [u32]) -> u64 {
+    // SAFETY: see the head of `ffi`.
     unsafe {
         tillercoral_type_at_initialization(
             e.words.as_ptr(),

@@ -26,9 +26,8 @@ unsafe extern "C" {
     ) -> u64;
 }
 
-// Why the calls below are safe: as in the module above.
-
 pub(crate) fn type_visit(e: &Encoding<'_>, out: &mut [u32]) -> u64 {
+    // SAFETY: see the head of `ffi`.
     unsafe {
         tillercoral_type_visit(
             e.words.as_ptr(),
@@ -44,6 +43,7 @@ pub(crate) fn type_visit(e: &Encoding<'_>, out: &mut [u32]) -> u64 {
 }
 
 pub(crate) fn declaration_visit(e: &Encoding<'_>, out: &mut [u32]) -> u64 {
+    // SAFETY: see the head of `ffi`.
     unsafe {
         tillercoral_declaration_visit(
             e.words.as_ptr(),
@@ -76,6 +76,7 @@ macro_rules! encoding_calls {
 
         $(
             pub(crate) fn $name(e: &Encoding<'_>) -> u64 {
+                // SAFETY: see the head of `ffi`.
                 unsafe {
                     $exported(
                         e.words.as_ptr(),

@@ -3,7 +3,7 @@
 use super::{name_of, names_of, Name, Path, Type};
 
 /// A declaration. `Declaration::from` makes one of a [`Struct`], an [`Enum`], a [`TypeSynonym`] or a
-/// [`Use`].
+/// [`Use`]. Later versions may have more kinds.
 ///
 /// ```
 /// use tillercoral::tree::{Declaration, Path, Use};
@@ -13,6 +13,7 @@ use super::{name_of, names_of, Name, Path, Type};
 /// # Ok::<(), tillercoral::TextError>(())
 /// ```
 #[derive(Clone, Debug, PartialEq, Eq, Hash)]
+#[non_exhaustive]
 pub enum Declaration {
     /// `pub struct ..`
     Struct(Struct),
