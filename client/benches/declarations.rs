@@ -62,7 +62,8 @@ fn cases() -> Vec<Case<'static>> {
         case("doc of prose", 0, vec![with_doc(&prose())]),
         case("doc of code", 1, vec![with_doc(&code())]),
         case("doc of newlines", 16, vec![with_doc(&[b'\n'; 16_000])]),
-        case("random mix", 2, random_mix()),
+        case("random mix", 2, random_mix(8, 4, 5)),
+        case("another mix", 1, random_mix(108, 6, 3)),
         case("most words", 0, vec![many_fields(8_192)]),
         case("most of all", 0, vec![most_of_all()]),
     ]
@@ -263,15 +264,15 @@ fn code() -> Vec<u8> {
     lines.repeat(16_000 / lines.len())
 }
 
-fn random_mix() -> Vec<EncodingBuf> {
-    let random = &mut Random::new(8);
+fn random_mix(seed: u64, depth: usize, children: usize) -> Vec<EncodingBuf> {
+    let random = &mut Random::new(seed);
     (0..60)
         .map(|_| {
             let names = Names::random_with_docs(random, 20);
             let shape = Shape {
-                depth: 4,
+                depth,
                 chain: false,
-                children: 5,
+                children,
                 words: 200,
                 careless: 100,
             };

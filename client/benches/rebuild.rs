@@ -10,7 +10,7 @@ use std::time::Instant;
 use samples::gauge_types;
 use tillercoral::generate::{random_rules, random_shaped_type, Names, Random};
 use tillercoral::{reference, tuned, type_rebuild, Encoding, EncodingBuf, Refusal};
-use timing::{best_times, is_asked_for, timed, ROUNDS};
+use timing::{best_times, counting, is_asked_for, timed, ROUNDS};
 
 type WordCall = fn(&Encoding<'_>, &[u32], &mut [u32]) -> Result<usize, Refusal>;
 
@@ -98,7 +98,9 @@ fn main() {
     println!("{} groups of trees: all three versions agree", cases.len());
     if timed() {
         print_times(&cases);
-        print_growth_with_words();
+        if !counting() {
+            print_growth_with_words();
+        }
     }
 }
 
@@ -154,7 +156,8 @@ fn cases() -> Vec<Case> {
     let mut cases = vec![
         Case::new("small, one rule", TYPES, small()),
         Case::new("forty gauge types", TYPES, gauge_types_with_rules()),
-        Case::new("random mix", TYPES, random_mix()),
+        Case::new("random mix", TYPES, random_mix(9, 8)),
+        Case::new("another mix", TYPES, random_mix(109, 5)),
     ];
     cases.extend(growing_with_rules());
     cases.push(Case::one("nested, all match", nested(), vec![1, 15, 0, 0]));
@@ -240,12 +243,12 @@ fn gauge_types_with_rules() -> Vec<(EncodingBuf, Vec<u32>)> {
     gauge_types().into_iter().map(with_rules).collect()
 }
 
-fn random_mix() -> Vec<(EncodingBuf, Vec<u32>)> {
-    let random = &mut Random::new(9);
+fn random_mix(seed: u64, depth: usize) -> Vec<(EncodingBuf, Vec<u32>)> {
+    let random = &mut Random::new(seed);
     let mut mix = Vec::new();
     while mix.len() < 60 {
         let names = Names::random_for_shapes(random);
-        let tree = random_shaped_type(random, &names, 8);
+        let tree = random_shaped_type(random, &names, depth);
         let rules = random_rules(random, &names, &tree);
         let mut buffer = vec![0; BUFFER];
         if reference::type_rebuild(&tree.as_encoding(), &rules, &mut buffer).is_ok() {

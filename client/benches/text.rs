@@ -71,7 +71,8 @@ fn cases() -> Vec<Case<'static>> {
         case("long names", vec![long_names()]),
         case("names only", vec![names_only(4_000)]),
         case("hidden bases", vec![hidden_bases(4_000)]),
-        case("random mix", random_mix()),
+        case("random mix", random_mix(7, 8, 4)),
+        case("another mix", random_mix(107, 5, 7)),
         case("most words", vec![many_children(8_192)]),
         case("most pairs", vec![most_pairs()]),
         case("most text", vec![most_text()]),
@@ -160,15 +161,15 @@ fn hidden_bases(words: usize) -> EncodingBuf {
     names.with_words(&all)
 }
 
-fn random_mix() -> Vec<EncodingBuf> {
-    let random = &mut Random::new(7);
+fn random_mix(seed: u64, depth: usize, children: usize) -> Vec<EncodingBuf> {
+    let random = &mut Random::new(seed);
     (0..60)
         .map(|_| {
             let names = Names::random(random, 20);
             let shape = Shape {
-                depth: 8,
+                depth,
                 chain: false,
-                children: 4,
+                children,
                 words: 200,
                 careless: 100,
             };

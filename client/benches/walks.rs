@@ -175,7 +175,8 @@ fn cases() -> Vec<Case> {
     cases.extend(soundness());
     for kind in &ANSWERS {
         cases.push(Case::new(kind, "gauge types", gauge_types()));
-        cases.push(Case::new(kind, "shaped types", shaped_types()));
+        cases.push(Case::new(kind, "shaped types", shaped_types(10, 6)));
+        cases.push(Case::new(kind, "other shapes", shaped_types(110, 9)));
         cases.push(Case::new(kind, "8,192 words", vec![wrapped(8_192)]));
     }
     cases
@@ -185,7 +186,8 @@ fn visits() -> Vec<Case> {
     let [types, declarations] = &VISITS;
     vec![
         Case::new(types, "gauge types", gauge_types()),
-        Case::new(types, "shaped types", shaped_types()),
+        Case::new(types, "shaped types", shaped_types(10, 6)),
+        Case::new(types, "other shapes", shaped_types(110, 9)),
         Case::new(types, "1,024 words", vec![list_of_synonyms(1_024)]),
         Case::new(types, "8,192 words", vec![list_of_synonyms(8_192)]),
         Case::new(declarations, "a struct", vec![a_struct()]),
@@ -194,13 +196,15 @@ fn visits() -> Vec<Case> {
     ]
 }
 
-/// All of these but the shaped types are sound, so that the answer depends on every word.
+/// All of these but the shapes are sound, so that the answer depends on every word.
 fn soundness() -> Vec<Case> {
     let case = |what, samples| Case::new(&SOUNDNESS, what, samples);
     vec![
         case("gauge types", sound(gauge_types())),
-        case("shaped types", shaped_types()),
-        case("nested mix", sound(nested_mix())),
+        case("shaped types", shaped_types(10, 6)),
+        case("other shapes", shaped_types(110, 9)),
+        case("nested mix", sound(nested_mix(11, 10, 4))),
+        case("another mix", sound(nested_mix(111, 6, 6))),
         case("8,192 words", sound(vec![list_of_synonyms(8_192)])),
         case("nested paths", sound(vec![nested_paths(8_192)])),
     ]
@@ -215,7 +219,7 @@ fn sound(samples: Vec<EncodingBuf>) -> Vec<EncodingBuf> {
 }
 
 /// Names of 1 to 40 bytes, in types with all heads.
-fn nested_mix() -> Vec<EncodingBuf> {
+fn nested_mix(seed: u64, depth: usize, children: usize) -> Vec<EncodingBuf> {
     let stock: Vec<Vec<u8>> = (0..120)
         .map(|i| {
             let name = format!("G{i}_of_a_gauge_that_has_a_very_long_name");
@@ -223,11 +227,11 @@ fn nested_mix() -> Vec<EncodingBuf> {
         })
         .collect();
     let names = Names::of(&stock.iter().map(Vec::as_slice).collect::<Vec<_>>());
-    let random = &mut Random::new(11);
+    let random = &mut Random::new(seed);
     let shape = Shape {
-        depth: 10,
+        depth,
         chain: false,
-        children: 4,
+        children,
         words: 300,
         careless: 0,
     };
@@ -236,12 +240,12 @@ fn nested_mix() -> Vec<EncodingBuf> {
         .collect()
 }
 
-fn shaped_types() -> Vec<EncodingBuf> {
-    let random = &mut Random::new(10);
+fn shaped_types(seed: u64, depth: usize) -> Vec<EncodingBuf> {
+    let random = &mut Random::new(seed);
     (0..60)
         .map(|_| {
             let names = Names::random_for_shapes(random);
-            random_shaped_type(random, &names, 6)
+            random_shaped_type(random, &names, depth)
         })
         .collect()
 }

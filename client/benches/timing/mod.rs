@@ -28,6 +28,27 @@ pub fn timed() -> bool {
     std::env::args().any(|argument| argument == "--bench")
 }
 
+/// The version whose instructions are counted: 0 for the library, 1 for the hand-tuned one. The
+/// script `count-instructions` sets it; then each case runs once, and nothing is timed.
+fn counted_version() -> Option<usize> {
+    std::env::var("TILLERCORAL_COUNTED").ok()?.parse().ok()
+}
+
+pub fn counting() -> bool {
+    counted_version().is_some()
+}
+
+/// What is counted. The counting tool finds it, and the end, by name.
+#[inline(never)]
+fn counted_run(run: &mut dyn FnMut()) {
+    run();
+}
+
+#[inline(never)]
+fn counted_run_ends() {
+    black_box(());
+}
+
 /// Whether this is among what the arguments ask for; without any, everything is.
 pub fn is_asked_for(name: &str) -> bool {
     let mut asked = std::env::args()
@@ -115,6 +136,13 @@ impl<'a> Case<'a> {
 /// Nanoseconds of one run of each of some versions: the best of interleaved rounds. `run` runs the
 /// version with this index so many times.
 pub fn best_times<const N: usize>(mut run: impl FnMut(usize, u32) -> Duration) -> [f64; N] {
+    if let Some(version) = counted_version() {
+        counted_run(&mut || {
+            black_box(run(version, 1));
+        });
+        counted_run_ends();
+        return [0.0; N];
+    }
     let repeats: [u32; N] = std::array::from_fn(|which| {
         let once = run(which, 3).max(Duration::from_nanos(30)) / 3;
         (ROUND_TIME.as_nanos() / once.as_nanos()).clamp(1, 1_000_000) as u32
@@ -166,6 +194,9 @@ pub type Maker = fn(usize) -> EncodingBuf;
 
 /// Whether the time grows in step with the words.
 pub fn print_growth(kind: &Kind, makers: &[(&'static str, Maker)]) {
+    if counting() {
+        return;
+    }
     println!();
     println!("growth: time per word at parts of the limit of 8,192 words");
     println!(

@@ -30,13 +30,12 @@ use Rattle.encoding.proofs.Tables.{impossible}
 use Rattle.encoding.proofs.Reading.{head-got, head-stop}
 use Rattle.encoding.proofs.Heads.{head-at}
 use Rattle.encoding.proofs.Inside.{head-lies}
-use Rattle.encoding.proofs.Types.{Made₂, made-got, made₂-got, node-of}
+use Rattle.encoding.proofs.Types.{Made₂, made-got, made₂-got, node-of, types-count}
 use Rattle.encoding.proofs.TypeKinds.{kind, head-kind, node-kind}
 use Rattle.writing.specs.Written.{Readable}
 use Rattle.trees.specs.Encode.{words}
 use Rattle.trees.specs.Places.{Place, place}
 use Rattle.trees.proofs.Renaming.{type-words}
-use Rattle.trees.proofs.Nodes.{types-count}
 use Rattle.classes.specs.declared.Class.{Class}
 use Rattle.classes.specs.declared.Found.{Found}
 use Rattle.classes.specs.declared.Found.the-variants.{At, NoPart}

@@ -9,7 +9,7 @@ use lib.ListN.{length, getD, take, drop, length-take, length-drop, length-append
 use lib.Seq.{drop-cons}
 use Rattle.rast.specs.Bytes.{Bytes, ascii, same, begins, _and_, among}
 use Rattle.rast.specs.Tree.{Path, Global, Crate, Self, PMemberSelect, MSels}
-use Rattle.rast.proofs.BytesLaws.{and-left, and-right, and-no, and-yes, and-false}
+use Rattle.rast.proofs.BytesLaws.{and-left, and-right, and-no, and-yes, and-false, same-self}
 use Rattle.encoding.specs.declared.PathAt.{PathAt}
 use Rattle.encoding.specs.Tables.{fixedNames, nameBytes, nameCount}
 use Rattle.encoding.specs.Heads.{InsidePath}
@@ -26,7 +26,15 @@ use Rattle.classes.specs.Paths.{samePath, std, inStd, dafny_runtime, inR
 
 -- ---- equal paths
 
-path-eq : (p q : Path Bytes) → samePath p q ≡ true → p ≡ q
+-- `samePath` is equality
+pub path-self : (p : Path Bytes) → samePath p p ≡ true
+unfolding samePath _and_
+path-self Global = refl
+path-self Crate = refl
+path-self Self = refl
+path-self (PMemberSelect p x) = rw (path-self p, same-self x)
+
+pub path-eq : (p q : Path Bytes) → samePath p q ≡ true → p ≡ q
 unfolding samePath
 path-eq Global Global e = refl
 path-eq Global Crate e = impossible (cc)

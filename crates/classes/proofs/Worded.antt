@@ -8,9 +8,9 @@ use Rattle.rast.specs.Bytes.{Bytes}
 use Rattle.encoding.specs.Tables.{nameBytes, nameCount}
 use Rattle.encoding.specs.Types.{pathOf, typeAt}
 use Rattle.encoding.proofs.TypeKinds.{type-kind}
+use Rattle.encoding.proofs.Types.{types-count}
 use Rattle.writing.specs.Written.{Readable}
 use Rattle.writing.proofs.Accepted.{type-here, PathThere, path-type}
-use Rattle.trees.proofs.Nodes.{types-count}
 use Rattle.wrappers.specs.Asked.{Judges}
 use Rattle.wrappers.proofs.TypesIn.{apply-of}
 use Rattle.classes.specs.declared.Class.{Class}

@@ -4,8 +4,7 @@ use mathlib.Core.Bool.{Bool, false}
 use mathlib.Core.Option.{Option}
 use lib.Dec.{eqb}
 use Rattle.rast.specs.Bytes.{Bytes, ascii, same, begins, _and_, _or_}
-use Rattle.rast.specs.Tree.{Path, Ty}
-use Rattle.trees.specs.Encode.{count}
+use Rattle.rast.specs.Tree.{Path, Ty, count}
 use Rattle.trees.specs.Places.{Place}
 use Rattle.classes.specs.declared.Class.{Class}
 use Rattle.classes.specs.declared.Class.the-variants.{Counted, Boxed, Uninit, Placebo, ObjectClass, PtrClass, ArrayClass, Collection, MapClass}

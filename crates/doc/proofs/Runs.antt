@@ -8,7 +8,7 @@ use native.Mathlib.Nat.{add-zero}
 use native.Mathlib.Numerals.{add-one}
 use borrow.Author.Tests.{eq-eqb, ne-eqb, eqb-true, eqb-false, le-leb, lt-leb, leb-true, leb-false, ltb-true, ltb-false}
 use lib.Dec.{eqb, leb, ltb, leb·zero, leb·suc-zero, leb·suc-suc}
-use lib.ListN.{length, getD, take, drop, replicate, length-drop, drop-of-length-le}
+use lib.ListN.{length, getD, take, drop, replicate, length-append, length-drop, length-replicate, drop-of-length-le}
 use lib.Seq.{drop-cons}
 use Rattle.rast.specs.Bytes.{Bytes, ascii, _and_, _or_, same, begins}
 use Rattle.rast.specs.Doc.{isEmptyText, GatherSimpleQuotes}
@@ -123,6 +123,12 @@ gather (c ∷ s) acc = go (eqb c 96) refl (gather s (acc ++ ascii "`"))
     go true e ih = rw (begins-one 96 c s ∙ e, run-on 96 c s e, GatherSimpleQuotes) (ih ∙ append-assoc acc (96 ∷ []) (replicate (runOf 96 s) 96))
     go false e ih = rw (begins-one 96 c s ∙ e, run-ends 96 c s e, GatherSimpleQuotes) (sym (append-nil acc))
 
+-- the source's `ensures` of `GatherSimpleQuotes`
+pub gather-bounded : (d acc : Bytes) → length (GatherSimpleQuotes d acc) ≤ length acc + length d
+gather-bounded d acc =
+    let e = ap length (gather d acc) ∙ length-append acc (replicate (runOf 96 d) 96) in
+    omega (arith, e, length-replicate {A = ℕ} (runOf 96 d) 96, run-inside 96 d)
+
 -- ---- lines
 
 pub line-on : (c : ℕ) (s : Bytes) → eqb c 10 ≡ false → lineLength (c ∷ s) ≡ suc (lineLength s)
@@ -154,6 +160,26 @@ module _ (l : Bytes) where
 
   pub passed-then : {i j k : ℕ} → Passed l i j → Passed l j k → Passed l i k
   passed-then p q = record { order = omega (arith, p .order, q .order); inside = q .inside; line = omega (arith, p .order, q .order, p .line, q .line) }
+
+  -- what was passed from i on was passed from a later place on
+  passed-next : {i k : ℕ} → Passed l i k → i < k → Passed l (i + 1) k
+  passed-next {i} {k} p h = record { order = omega arith; inside = p .inside; line = go (eqb (getD l i 0) 10) refl (omega (arith, p .inside)) }
+    where
+      go : (b : Bool) → eqb (getD l i 0) 10 ≡ b → i < length l → lineLength (drop (i + 1) l) ≡ k - (i + 1) + lineLength (drop k l)
+      go true t n = absurd (let z : ⊥ = omega (arith, p .line, line-stops l i n (eqb-true _ 10 t)) in z)
+      go false t n = omega (arith, p .line, line-more l i n (eqb-false _ 10 t))
+
+  passed-later : {i k : ℕ} (d : ℕ) → Passed l i k → i + d ≤ k → Passed l (i + d) k
+  passed-later {i} zero p h = rw (add-zero i) p
+  passed-later {i} {k} (suc d) p h =
+      let e : i + 1 + d ≡ i + suc d = omega arith in
+      subst (λ (j : ℕ). Passed l j k) e (passed-later d (passed-next p (omega arith)) (omega arith))
+
+  -- on by a block that begins at or before the place that was come to
+  pub passed-over : {i j e k : ℕ} → Passed l i j → Passed l e k → e ≤ j → j ≤ k → Passed l i k
+  passed-over {j = j} {e = e} {k = k} p q h n =
+      let d : e + (j - e) ≡ j = omega arith in
+      passed-then p (subst (λ (m : ℕ). Passed l m k) d (passed-later (j - e) q (omega arith)))
 
   -- up to a newline or the end
   pub passed-all : {i j : ℕ} → Passed l i j → (j < length l → getD l j 0 ≡ 10) → j - i ≡ lineLength (drop i l)

@@ -98,33 +98,51 @@ fn newline_or(found: u8, byte: u8) -> u8
     found
 }
 
-// A newline stands among the next 64 bytes. The loop has no early exit, so that it compiles to wide compares.
-fn newline_in_block(doc: &[u8], at: usize) -> bool
-    requires { ⌜ at + 64 ≤ length (now doc) ⌝ }
-    ensures { λ r. ⌜ (r ≡ false → Passed (now (doc .entry)) at (at + 64)) ⌝ }
+// A newline stands among the next `count` bytes. The loop has no early exit, so that it compiles to wide compares.
+fn newline_among(doc: &[u8], at: usize, count: usize) -> bool
+    requires { ⌜ at + count ≤ length (now doc) ⌝ }
+    ensures { λ r. ⌜ (r ≡ false → Passed (now (doc .entry)) at (at + count)) ⌝ }
 {
     let mut found: u8 = 0;
     let mut i = 0;
-    while i < 64 {
+    while i < count {
         found = newline_or(found, doc[at + i]);
         i += 1;
     }
     found != 0
 }
 
-// Past the blocks from `at` on that have no newline.
-fn skip_blocks(doc: &[u8], at: usize) -> usize
-    requires { ⌜ at ≤ length (now doc) ⌝ }
+// Past the blocks of `size` bytes from `at` on that have no newline.
+fn skip_blocks(doc: &[u8], at: usize, size: usize) -> usize
+    requires { ⌜ (at ≤ length (now doc)) × (0 < size) ⌝ }
     ensures { λ r. ⌜ Passed (now (doc .entry)) at r ⌝ }
 {
     let mut i = at;
-    while 64 <= doc.len() - i {
-        if newline_in_block(doc, i) {
+    while size <= doc.len() - i {
+        if newline_among(doc, i, size) {
             return i;
         }
-        i += 64;
+        i += size;
     }
     i
+}
+
+// Past what has no newline where few bytes are left: blocks of 16, the last of which may overlap the one before. For fewer than 16 bytes wide compares do not pay.
+fn skip_last(doc: &[u8], at: usize) -> usize
+    requires { ⌜ at ≤ length (now doc) ⌝ }
+    ensures { λ r. ⌜ Passed (now (doc .entry)) at r ⌝ }
+{
+    if doc.len() - at < 16 {
+        return at;
+    }
+    let i = skip_blocks(doc, at, 16);
+    if 16 <= doc.len() - i {
+        return i;
+    }
+    if newline_among(doc, doc.len() - 16, 16) {
+        return i;
+    }
+    doc.len()
 }
 
 // The first newline from `at` on, or the end.
@@ -161,35 +179,19 @@ fn least(a: u8, b: u8) -> u8
     a
 }
 
-// How many of the next `count` bytes stand before the first newline, 255 if there is none. The least place of a newline is found by wide compares too, and costs
+// How many of the next 64 bytes stand before the first newline, 255 if there is none. The least place of a newline is found by wide compares too, and costs
 // no jump that is hard to foresee.
-fn near_length(doc: &[u8], at: usize, count: u8) -> usize
-    requires { ⌜ (count ≤ 64) × (at + count ≤ length (now doc)) ⌝ }
-    ensures { λ r. ⌜ Nearest (now (doc .entry)) at count r ⌝ }
+fn near_length(doc: &[u8], at: usize) -> usize
+    requires { ⌜ at + 64 ≤ length (now doc) ⌝ }
+    ensures { λ r. ⌜ Nearest (now (doc .entry)) at 64 r ⌝ }
 {
     let mut found: u8 = 255;
     let mut i: u8 = 0;
-    while i < count {
+    while i < 64 {
         found = least(found, newline_place(i, doc[at + i as usize]));
         i += 1;
     }
     found as usize
-}
-
-// How many bytes stand before the next newline where the doc has fewer than 64 left. For fewer than 16 wide compares do not pay.
-fn last_length(doc: &[u8], at: usize) -> usize
-    requires { ⌜ (at ≤ length (now doc)) × (length (now doc) < at + 64) ⌝ }
-    ensures { λ r. ⌜ (r ≡ lineLength (drop at (now (doc .entry)))) × (at + r ≤ length (now (doc .entry))) ⌝ }
-{
-    let left = doc.len() - at;
-    if left < 16 {
-        return newline_from(doc, at) - at;
-    }
-    let found = near_length(doc, at, left as u8);
-    if found == 255 {
-        return left;
-    }
-    found
 }
 
 // How many bytes stand from `at` on before the next newline. Most lines end within 64 bytes; in a longer one whole blocks are skipped.
@@ -198,13 +200,13 @@ fn line_length(doc: &[u8], at: usize) -> usize
     ensures { λ r. ⌜ (r ≡ lineLength (drop at (now (doc .entry)))) × (at + r ≤ length (now (doc .entry))) ⌝ }
 {
     if doc.len() - at < 64 {
-        return last_length(doc, at);
+        return newline_from(doc, skip_last(doc, at)) - at;
     }
-    let found = near_length(doc, at, 64);
+    let found = near_length(doc, at);
     if found != 255 {
         return found;
     }
-    let i = skip_blocks(doc, at + 64);
+    let i = skip_blocks(doc, at + 64, 64);
     newline_from(doc, i) - at
 }
 

@@ -5,7 +5,7 @@ use mathlib.Core.List.{List}
 use native.Mathlib.Omega.{arith}
 use lib.ListN.{length}
 use Rattle.rast.specs.Bytes.{Bytes}
-use Rattle.rast.specs.Tree.{Ty, TypeApp, FnType, TupleType, cons}
+use Rattle.rast.specs.Tree.{Ty, Tys, TypeApp, FnType, TupleType, nil, cons, count}
 use Rattle.encoding.specs.declared.Refusal.the-variants.{EndsEarly}
 use Rattle.encoding.specs.declared.Head.{Head}
 use Rattle.encoding.specs.declared.Head.the-variants.{Plain, Name, FromPath, Apply, Ref, RefMut, Impl, Dyn, Tuple, Function, Both, ArrayOf, Synonym, Meta}
@@ -125,6 +125,26 @@ pub node-of : (ws pairs : List ℕ) (text : Bytes) (at : ℕ) {h : Head} {q n : 
     → typeAt ws pairs text at ≡ got t n → readHead (nameCount pairs) ws at ≡ got h q
     → readNode ws (nameBytes pairs text) (typeAt ws pairs text) h q ≡ got t n
 node-of ws pairs text at e d = node-parts (nameCount pairs) ws (nameBytes pairs text) 63 at e d
+
+-- ---- some types
+
+-- one type more, behind the others
+unfoldable pub snoc : {N : Type 0} → Tys N → Ty N → Tys N
+snoc nil t = cons t nil
+snoc (cons u us) t = cons u (snoc us t)
+
+pub count-snoc : {N : Type 0} (ts : Tys N) (t : Ty N) → count (snoc ts t) ≡ count ts + 1
+unfolding snoc count
+count-snoc nil t = refl
+count-snoc (cons u us) t = let k = count-snoc us t in omega (arith, k)
+
+-- as many were read as were asked for
+pub types-count : {N : Type 0} (f : ℕ → Reading (Ty N)) (n p : ℕ) {ts : Tys N} {q : ℕ} → readTypes f n p ≡ got ts q → count ts ≡ n
+unfolding readTypes count
+types-count f zero p {ts} e = let z : ts ≡ nil = cc in rw z
+types-count f (suc n) p {ts} e =
+    let m = made₂-got (f p) (readTypes f n) cons e in
+    rw (m .made) (ap suc (types-count f n (m .middle) (m .reads₂)))
 
 -- ---- where a type lies
 

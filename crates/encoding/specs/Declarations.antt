@@ -47,13 +47,15 @@ module _ {N : Type 0} (bound : ℕ) (ws : List ℕ) (name : ℕ → N) (type : �
   unfoldable pub readName : ℕ → Reading N
   readName at = readBelow bound ws at >>= λ x p. got (name x) p
 
+  -- "n times (name, m, m names)": one of them
   unfoldable pub readAttribute : ℕ → Reading (Attribute N)
   readAttribute at = readName at >>= λ x p. readCounted ws readName p >>= λ xs q. got (record { name = x; derived = xs }) q
 
-  -- an entry of a parameter list
+  -- "n times (name, m, m types)": one of them
   unfoldable pub readParameter : ℕ → Reading (TypeParamDecl N)
   readParameter at = readName at >>= λ x p. readCounted ws type p >>= λ ts q. got (record { name = x; constraints = ts }) q
 
+  -- "n times (visibility, name if named, type)": one of them, and of a named one what stands behind the visibility
   unfoldable pub readFormal : ℕ → Reading (Formal N)
   readFormal at = readName at >>= λ x p. type p >>= λ t q. got (record { name = x; tpe = t }) q
 
@@ -69,26 +71,31 @@ module _ {N : Type 0} (bound : ℕ) (ws : List ℕ) (name : ℕ → N) (type : �
       readBelow 2 ws at >>= λ k p.
       pick (eqb k 0) (readCounted ws readField p >>= λ xs q. got (NamedFields xs) q) (readCounted ws readNamelessField p >>= λ xs q. got (NamelessFields xs) q)
 
+  -- "doc, name, fields" of a case
   unfoldable pub readCase : ℕ → Reading (EnumCase N)
   readCase at =
       readName at >>= λ d p. readName p >>= λ x q. readFields q >>= λ fs r.
       got (record { docString = d; name = x; fields = fs }) r
 
+  -- "25 `Struct`: doc, attributes, name, parameters, fields"
   unfoldable pub readStruct : ℕ → Reading (Struct N)
   readStruct at =
       readName at >>= λ d p. readCounted ws readAttribute p >>= λ l q. readName q >>= λ x r. readCounted ws readParameter r >>= λ ps s.
       readFields s >>= λ fs t. got (record { docString = d; attributes = l; name = x; typeParams = ps; fields = fs }) t
 
+  -- "26 `Enum`: doc, attributes, name, parameters, n, n times (doc, name, fields)"
   unfoldable pub readEnum : ℕ → Reading (Enum N)
   readEnum at =
       readName at >>= λ d p. readCounted ws readAttribute p >>= λ l q. readName q >>= λ x r. readCounted ws readParameter r >>= λ ps s.
       readCounted ws readCase s >>= λ cs t. got (record { docString = d; attributes = l; name = x; typeParams = ps; variants = cs }) t
 
+  -- "27 `TypeSynonym`: doc, attributes, name, parameters, type"
   unfoldable pub readTypeSynonym : ℕ → Reading (TypeSynonym N)
   readTypeSynonym at =
       readName at >>= λ d p. readCounted ws readAttribute p >>= λ l q. readName q >>= λ x r. readCounted ws readParameter r >>= λ ps s.
       type s >>= λ t u. got (record { docString = d; attributes = l; name = x; typeParams = ps; tpe = t }) u
 
+  -- "28 `Use`: visibility, path"
   unfoldable pub readUse : ℕ → Reading (Use N)
   readUse at = readVisibility ws at >>= λ v p. readPath bound ws p >>= λ x q. got (record { visibility = v; path = pathOf ws name x }) q
 

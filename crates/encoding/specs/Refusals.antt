@@ -6,10 +6,12 @@ use Rattle.encoding.specs.declared.Refusal.the-variants.{Overlong, BadPa
 use Rattle.encoding.specs.declared.Check.{Check}
 use Rattle.encoding.specs.declared.Check.the-variants.{Passed, Failed}
 
+-- the first if the test holds, else the second
 abbrev pub pick : {A : Type 0} → Bool → A → A → A
 pick true a b = a
 pick false a b = b
 
+-- the table's first column
 abbrev pub number : Refusal → ℕ
 number Overlong = 1
 number BadPair = 2

@@ -31,6 +31,7 @@ goodPairs (offset ∷ []) end size = false
 goodPairs (offset ∷ count ∷ pairs) end size =
     leb end offset and leb (offset + count) size and goodPairs pairs (offset + count) size
 
+-- 1, then 2
 unfoldable pub checkTables : List ℕ → List ℕ → Bytes → Check
 checkTables words pairs text =
     pick (overlong words pairs text) (Failed Overlong)

@@ -27,7 +27,7 @@ fileText file =
     pick (ltb (length file) 12) (refused BadFileLength)
     (describedText (numberAt file 0) (numberAt file 4) (numberAt file 8) file)
 
--- a number below 100
+-- a number below 100 by its digits; 48 is `0`
 unfoldable pub decimal : ℕ → Bytes
 decimal n = pick (ltb n 10) ((48 + n) ∷ []) ((48 + n / 10) ∷ (48 + n % 10) ∷ [])
 

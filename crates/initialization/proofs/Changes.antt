@@ -9,7 +9,7 @@ use borrow.Author.Tests.{eq-eqb, ne-eqb, eqb-true}
 use lib.Dec.{eqb}
 use lib.ListN.{length, getD, take, drop}
 use Rattle.rast.specs.Bytes.{Bytes, _and_, _or_}
-use Rattle.rast.specs.Tree.{Path, Global, PMemberSelect, Ty, Tys, Primitive, TIdentifier, TypeFromPath, TypeApp, Borrowed, BorrowedMut, ImplType, DynType, TupleType, FnType, IntersectionType, Array, TSynonym, TMetaData, nil, cons}
+use Rattle.rast.specs.Tree.{Path, Global, PMemberSelect, Ty, Tys, Primitive, TIdentifier, TypeFromPath, TypeApp, Borrowed, BorrowedMut, ImplType, DynType, TupleType, FnType, IntersectionType, Array, TSynonym, TMetaData, nil, cons, count}
 use Rattle.rast.specs.DeclarationToString.{Expand}
 use Rattle.rast.proofs.BytesLaws.{and-right}
 use Rattle.encoding.specs.Reading.{got, mapReading}
@@ -19,7 +19,7 @@ use Rattle.encoding.proofs.Tables.{impossible}
 use Rattle.encoding.proofs.TypeKinds.{kind, type-kind}
 use Rattle.writing.specs.Written.{Readable}
 use Rattle.trees.specs.Renamed.{renamedSize, renamed, renamedAll}
-use Rattle.trees.specs.Encode.{tokenWord, rootWord, names, pathTokens, tokens, tokensAll, count, words, encode}
+use Rattle.trees.specs.Encode.{tokenWord, rootWord, names, pathTokens, tokens, tokensAll, words, encode}
 use Rattle.trees.specs.Numbered.{treeAt}
 use Rattle.trees.specs.Places.{Place, place}
 use Rattle.trees.proofs.Heads.{tree-here}

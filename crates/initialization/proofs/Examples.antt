@@ -4,7 +4,7 @@ use mathlib.Core.Path.{_≡_, refl}
 use mathlib.Core.List.{List, [], _∷_, _++_, map}
 use lib.ListN.{replicate}
 use Rattle.rast.specs.Bytes.{ascii, same, begins, _and_}
-use Rattle.rast.specs.Tree.{MSels}
+use Rattle.rast.specs.Tree.{MSels, count}
 use Rattle.rast.specs.DeclarationToString.{Expand}
 use Rattle.encoding.specs.declared.Refusal.the-variants.{EndsEarly, LeftOver, TooDeep, BufferTooShort}
 use Rattle.encoding.specs.Refusals.{mapAnswer, unless}
@@ -13,7 +13,7 @@ use Rattle.encoding.specs.Tables.{overlong, goodPairs, checkTables, fixedNames,
 use Rattle.encoding.specs.Heads.{readPath, pathHead, headAfter, readHead}
 use Rattle.encoding.specs.Types.{primitives, rootOf, pathOf, sizeOf, readTypes, readNode, readType}
 use Rattle.trees.specs.Renamed.{renamedPath, renamedSize, renamed, renamedAll}
-use Rattle.trees.specs.Encode.{tokenWord, primitiveWord, flagsWord, rootWord, names, pathTokens, count, tokens, encode}
+use Rattle.trees.specs.Encode.{tokenWord, primitiveWord, flagsWord, rootWord, names, pathTokens, tokens, encode}
 use Rattle.trees.specs.Numbered.{treeOf}
 use Rattle.replace.specs.Laying.{depth}
 use Rattle.classes.specs.Matches.{onPath, applied, typeIn, argument, unsized}

@@ -7,17 +7,18 @@ use mathlib.Core.Option.{Option}
 use native.Mathlib.Omega.{arith}
 use lib.ListN.{length-append}
 use Rattle.rast.specs.Bytes.{Bytes}
-use Rattle.rast.specs.Tree.{Path, Ty, Tys, Primitive, TIdentifier, TypeFromPath, TypeApp, Borrowed, BorrowedMut, ImplType, DynType, TupleType, FnType, IntersectionType, Array, TSynonym, TMetaData, nil, cons}
+use Rattle.rast.specs.Tree.{Path, Ty, Tys, Primitive, TIdentifier, TypeFromPath, TypeApp, Borrowed, BorrowedMut, ImplType, DynType, TupleType, FnType, IntersectionType, Array, TSynonym, TMetaData, nil, cons, count}
 use Rattle.rast.specs.DeclarationToString.{Expand}
 use Rattle.encoding.specs.declared.Head.{Head}
 use Rattle.encoding.specs.Reading.{got}
 use Rattle.encoding.specs.Heads.{kids}
 use Rattle.encoding.specs.Types.{readTypes}
 use Rattle.encoding.proofs.Tables.{impossible}
+use Rattle.encoding.proofs.Types.{types-count}
 use Rattle.trees.specs.Renamed.{renamed, renamedAll}
-use Rattle.trees.specs.Encode.{tokens, tokensAll, count, words}
+use Rattle.trees.specs.Encode.{tokens, tokensAll, words}
 use Rattle.trees.specs.Numbered.{treeAt}
-use Rattle.trees.proofs.Nodes.{Node, array, apply, synonym, meta, types-count, first-type}
+use Rattle.trees.proofs.Nodes.{Node, array, apply, synonym, meta, first-type}
 use Rattle.trees.proofs.Heads.{tree-head, tree-here, tree-below}
 use Rattle.trees.proofs.Renaming.{words-kept, tree-run}
 use Rattle.replace.specs.Laying.{depth}

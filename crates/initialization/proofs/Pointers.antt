@@ -8,7 +8,7 @@ use borrow.Author.Tests.{ne-eqb}
 use lib.Dec.{eqb}
 use lib.ListN.{getD}
 use Rattle.rast.specs.Bytes.{Bytes, ascii, same, _and_, _or_}
-use Rattle.rast.specs.Tree.{Ty, Tys, Primitive, TIdentifier, TypeFromPath, TypeApp, Borrowed, BorrowedMut, ImplType, DynType, TupleType, FnType, IntersectionType, Array, TSynonym, TMetaData, nil, cons}
+use Rattle.rast.specs.Tree.{Ty, Tys, Primitive, TIdentifier, TypeFromPath, TypeApp, Borrowed, BorrowedMut, ImplType, DynType, TupleType, FnType, IntersectionType, Array, TSynonym, TMetaData, nil, cons, count}
 use Rattle.rast.specs.DeclarationToString.{Expand}
 use Rattle.rast.proofs.BytesLaws.{and-false, and-true}
 use Rattle.encoding.specs.declared.PathAt.{PathAt}
@@ -18,12 +18,12 @@ use Rattle.encoding.specs.Reading.{got}
 use Rattle.encoding.specs.Tables.{nameBytes, nameCount}
 use Rattle.encoding.specs.Types.{pathOf, typeAt}
 use Rattle.encoding.proofs.Tables.{impossible}
+use Rattle.encoding.proofs.Types.{types-count}
 use Rattle.writing.specs.Written.{Readable}
-use Rattle.trees.specs.Encode.{count, words}
+use Rattle.trees.specs.Encode.{words}
 use Rattle.trees.specs.Numbered.{treeAt}
 use Rattle.trees.specs.Places.{place}
 use Rattle.trees.specs.Renamed.{renamed}
-use Rattle.trees.proofs.Nodes.{types-count}
 use Rattle.trees.proofs.Renaming.{type-words}
 use Rattle.wrappers.specs.Asked.{Judges, ExpandsAt}
 use Rattle.wrappers.proofs.TypesIn.{apply-of}

@@ -1,7 +1,7 @@
 -- Document 01's whole example and its marked cases hold, each by computation: the definitions that its answer goes through are opened.
 use mathlib.Core.Path.{refl}
 use Rattle.rast.specs.Bytes.{ascii, same, begins}
-use Rattle.rast.specs.Tree.{MSels}
+use Rattle.rast.specs.Tree.{MSels, count}
 use Rattle.rast.specs.ToString.{Path·ToString, Primitive·ToString, Type·ToString}
 use Rattle.rast.specs.Sound.{isGlobal, soundPath, isIntersection, isNamed, isEmpty, sound}
 use Rattle.rast.specs.Indent.{IND, indent, SeqToString}
@@ -13,7 +13,7 @@ use Rattle.encoding.specs.Tables.{checkLevel, overlong, goodPairs, checkTables,
 use Rattle.encoding.specs.Heads.{readPath, pathHead, headAfter, readHead}
 use Rattle.encoding.specs.Types.{primitives, rootOf, pathOf, sizeOf, readTypes, readNode, readType, typeOf}
 use Rattle.encoding.specs.Declarations.{readList, readCounted, visibilityOf, readVisibility, readName, readFormal, readField, readFields, readStruct, declarationAfter, readDeclaration, declarationOf}
-use Rattle.trees.specs.Encode.{tokenWord, primitiveWord, rootWord, names, pathTokens, count, tokens, words, encode}
+use Rattle.trees.specs.Encode.{tokenWord, primitiveWord, rootWord, names, pathTokens, tokens, words, encode}
 use Rattle.trees.specs.Renamed.{renamedPath, renamed}
 use Rattle.trees.specs.Numbered.{treeOf}
 use Rattle.replace.specs.Same.{sameToken, sameTokens, sameType, sameBy}

@@ -10,7 +10,7 @@ use borrow.Author.Tests.{ne-eqb}
 use lib.Dec.{eqb, leb}
 use lib.ListN.{length, length-append}
 use Rattle.rast.specs.Bytes.{Bytes, ascii}
-use Rattle.rast.specs.Tree.{Ty, Tys, TypeApp, Borrowed, BorrowedMut, ImplType, DynType, TupleType, FnType, IntersectionType, Array, TSynonym, TMetaData, nil, cons}
+use Rattle.rast.specs.Tree.{Ty, Tys, TypeApp, Borrowed, BorrowedMut, ImplType, DynType, TupleType, FnType, IntersectionType, Array, TSynonym, TMetaData, nil, cons, count}
 use Rattle.rast.specs.ToString.{sizeText, Type·ToString, argumentsText, commaText, afterText}
 use Rattle.encoding.specs.declared.Head.{Head}
 use Rattle.encoding.specs.declared.Head.the-variants.{Plain, Name, FromPath, Apply, Ref, RefMut, Impl, Dyn, Tuple, Function, Both, ArrayOf, Synonym, Meta}
@@ -20,7 +20,7 @@ use Rattle.encoding.specs.Tables.{Good, nameBytes, nameLength, nameCount}
 use Rattle.encoding.specs.Heads.{kids, InsideHead}
 use Rattle.encoding.specs.Types.{sizeOf, readTypes, readNode}
 use Rattle.encoding.proofs.Tables.{name-length}
-use Rattle.encoding.proofs.Types.{made₂-got}
+use Rattle.encoding.proofs.Types.{snoc, count-snoc, types-count}
 use Rattle.measure.specs.Lengths.{arrayLength, ownLength, modeOf}
 use Rattle.measure.specs.Levels.{shownLength}
 use Rattle.measure.proofs.Lengths.{path-length}
@@ -41,25 +41,9 @@ bind-got (stop r) = refl
 
 -- ---- lists of types
 
-unfoldable count : Tys Bytes → ℕ
-count nil = 0
-count (cons t ts) = suc (count ts)
-
-unfoldable pub snoc : Tys Bytes → Ty Bytes → Tys Bytes
-snoc nil t = cons t nil
-snoc (cons u us) t = cons u (snoc us t)
-
 unfoldable textsLength : Tys Bytes → ℕ
 textsLength nil = 0
 textsLength (cons t ts) = length (Type·ToString t) + textsLength ts
-
--- as many were read as were asked for
-types-count : (again : ℕ → Reading (Ty Bytes)) (k p : ℕ) {ts : Tys Bytes} {q : ℕ} → readTypes again k p ≡ got ts q → count ts ≡ k
-unfolding readTypes count
-types-count again zero p {ts} e = let d : ts ≡ nil = cc in rw d
-types-count again (suc k) p e =
-    let m = made₂-got (again p) (readTypes again k) cons e in
-    rw (m .made) (ap suc (types-count again k (m .middle) (m .reads₂)))
 
 snoc-over : (again : ℕ → Reading (Ty Bytes)) (t : Ty Bytes) (x : Reading (Tys Bytes))
     → ((x >>= λ ts q. again q >>= λ u r. got (snoc ts u) r) >>= λ ts r. got (cons t ts) r)
@@ -114,11 +98,6 @@ snoc-length : (ts : Tys Bytes) (t : Ty Bytes) → textsLength (snoc ts t) ≡ te
 unfolding textsLength snoc
 snoc-length nil t = omega arith
 snoc-length (cons u us) t = omega (arith, snoc-length us t)
-
-snoc-count : (ts : Tys Bytes) (t : Ty Bytes) → count (snoc ts t) ≡ suc (count ts)
-unfolding count snoc
-snoc-count nil t = refl
-snoc-count (cons u us) t = ap suc (snoc-count us t)
 
 -- ---- a type and its head
 
@@ -190,7 +169,7 @@ module _ (ws pairs : List ℕ) (text : Bytes) (good : Good pairs text) (again : 
         comma-length ts,
         types-count again n p d,
         snoc-length ts t,
-        shown-all (suc n) (snoc ts t) (snoc-count ts t ∙ ap suc (types-count again n p d)),
+        shown-all (suc n) (snoc ts t) (let k = count-snoc ts t in let m = types-count again n p d in omega arith),
       ))))
 
   both-length : (c : Ty Bytes → Ty Bytes → Ty Bytes) (m own p : ℕ)

@@ -3,7 +3,7 @@ use Prim.Native.Nat.{ℕ}
 use mathlib.Core.Path.{_≡_, refl}
 use mathlib.Core.List.{List, [], _∷_, _++_, map}
 use Rattle.rast.specs.Bytes.{Bytes, ascii, same, begins, _and_}
-use Rattle.rast.specs.Tree.{MSels}
+use Rattle.rast.specs.Tree.{MSels, count}
 use Rattle.rast.specs.DeclarationToString.{Expand}
 use Rattle.encoding.specs.declared.Refusal.the-variants.{NoSuchPart}
 use Rattle.encoding.specs.Refusals.{Answer, given, refused, unless}
@@ -11,7 +11,7 @@ use Rattle.encoding.specs.Reading.{readWord, readBelow, readNames, whole}
 use Rattle.encoding.specs.Tables.{overlong, goodPairs, checkTables, fixedNames, pairBytes, nameBytes}
 use Rattle.encoding.specs.Heads.{readPath, pathHead, headAfter, readHead}
 use Rattle.encoding.specs.Types.{primitives, rootOf, pathOf, sizeOf, readTypes, readNode, readType, typeOf}
-use Rattle.trees.specs.Encode.{names, pathTokens, count, tokens, words}
+use Rattle.trees.specs.Encode.{names, pathTokens, tokens, words}
 use Rattle.classes.specs.Matches.{onPath, applied, typeIn, argument, isDyn, someIs}
 use Rattle.classes.specs.Paths.{samePath, std, inStd, dafny_runtime, inRuntime, RcPath, ArcPath, BoxPath, MaybeUninitPath, MaybePlaceboPath, ObjectPath, PtrPath, runtimeMember}
 use Rattle.classes.specs.Steps.{when, andThen, orElse, typeAtIndex, argumentAt, argumentOf, dynAt, dynOf, elementAt, elementOf}

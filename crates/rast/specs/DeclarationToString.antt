@@ -61,6 +61,7 @@ Expand (Array t s) = Array t s
 Expand (TSynonym display base) = Expand base
 Expand (TMetaData display copySemantics overflow) = Expand display
 
+-- the path `Self`
 unfoldable pub isSelfPath : {N : Type 0} → Path N → Bool
 isSelfPath Global = false
 isSelfPath Crate = false

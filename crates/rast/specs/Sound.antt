@@ -43,6 +43,7 @@ isLetter x = within 65 90 x or within 97 122 x
 -- a letter or an underscore
 unfoldable pub isWordStart : ℕ → Bool
 unfolding isLetter
+-- 95 is `_`
 isWordStart x = isLetter x or eqb x 95
 
 -- a letter, an underscore or a digit
@@ -57,10 +58,12 @@ excluded =
     ∷ ascii "i8" ∷ ascii "i16" ∷ ascii "i32" ∷ ascii "i64" ∷ ascii "i128" ∷ ascii "usize" ∷ ascii "bool"
     ∷ ascii "mut" ∷ ascii "impl" ∷ ascii "dyn" ∷ ascii "crate" ∷ ascii "Self" ∷ []
 
+-- "an ASCII letter or underscore followed by letters, digits, underscores"
 unfoldable pub isWord : Bytes → Bool
 isWord [] = false
 isWord (x ∷ xs) = isWordStart x and each isWordByte xs
 
+-- "each name in a type or path, array sizes aside, is .. and is none of the words .."
 unfoldable pub soundName : Bytes → Bool
 soundName x = isWord x and not (among x excluded)
 
@@ -86,6 +89,7 @@ isGlobal Crate = false
 isGlobal Self = false
 isGlobal (PMemberSelect p x) = false
 
+-- "`Global` has at least one name"
 unfoldable pub soundPath : Path Bytes → Bool
 soundPath p = not (isGlobal p) and soundNames p
 
@@ -129,6 +133,7 @@ unfoldable pub isEmpty : {N : Type 0} → Tys N → Bool
 isEmpty nil = true
 isEmpty (cons t ts) = false
 
+-- "The base of `TypeApp` is of kind 12 or 13, with at least one argument. No intersection stands directly under kinds 15 to 18, as a return type, or as a left side."
 unfoldable mutual
   pub sound : Ty Bytes → Bool
   sound (Primitive p) = true

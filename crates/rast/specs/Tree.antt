@@ -1,4 +1,5 @@
 -- RAST's datatypes `Path` and `Type`. They are over the type N of names: name numbers where a tree is rebuilt, bytes where it is printed.
+use Prim.Native.Nat.{ℕ, suc}
 use mathlib.Core.Bool.{Bool}
 use mathlib.Core.List.{List, [], _∷_}
 use mathlib.Core.Option.{Option}
@@ -35,3 +36,8 @@ mutual
   pub data Tys (N : Type 0) : Type 0 where
     nil : Tys N
     cons : Ty N → Tys N → Tys N
+
+-- how many types
+unfoldable pub count : {N : Type 0} → Tys N → ℕ
+count nil = 0
+count (cons t ts) = suc (count ts)

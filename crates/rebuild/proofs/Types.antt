@@ -5,7 +5,7 @@ use mathlib.Core.List.{List, [], _∷_, _++_, append-assoc, append-nil}
 use native.Mathlib.Omega.{arith}
 use lib.ListN.{length, getD, take, drop, length-append}
 use Rattle.rast.specs.Bytes.{Bytes}
-use Rattle.rast.specs.Tree.{Ty, Tys, nil, cons}
+use Rattle.rast.specs.Tree.{Ty, Tys, nil, cons, count}
 use Rattle.encoding.specs.Reading.{Reading, got}
 use Rattle.encoding.specs.Tables.{nameBytes, nameCount}
 use Rattle.encoding.specs.Heads.{readHead, kids, typesBelow, ownEnd}
@@ -14,9 +14,10 @@ use Rattle.encoding.proofs.Tables.{impossible}
 use Rattle.encoding.proofs.Inside.{head-lies}
 use Rattle.encoding.proofs.HeadWords.{plain-below, plain-end}
 use Rattle.output.proofs.Laws.{part-length, part-more}
-use Rattle.trees.specs.Encode.{count, tokensAll, encode, encodeAll, words, wordsAll}
+use Rattle.encoding.proofs.Types.{types-count}
+use Rattle.trees.specs.Encode.{tokensAll, encode, encodeAll, words, wordsAll}
 use Rattle.trees.specs.Numbered.{treeAt}
-use Rattle.trees.proofs.Nodes.{Below, First, types-count, first-type}
+use Rattle.trees.proofs.Nodes.{Below, First, first-type}
 use Rattle.trees.proofs.Spans.{node-spells, encode-cons}
 use Rattle.trees.proofs.Heads.{tree-below, Worded, tree-words}
 use Rattle.trees.proofs.Renaming.{tree-run, encode-words, encode-all, words-some}

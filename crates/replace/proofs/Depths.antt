@@ -3,16 +3,15 @@ use Prim.Native.Nat.{ℕ, zero, suc, _-_, _≤_}
 use mathlib.Core.Path.{_≡_, ap, _∙_}
 use mathlib.Core.List.{List}
 use native.Mathlib.Omega.{arith}
-use Rattle.rast.specs.Tree.{Ty, Tys, nil, cons}
+use Rattle.rast.specs.Tree.{Ty, Tys, nil, cons, count}
 use Rattle.encoding.specs.Reading.{Reading, got}
 use Rattle.encoding.specs.Tables.{nameCount}
 use Rattle.encoding.specs.Heads.{readHead, kids}
 use Rattle.encoding.specs.Types.{readTypes, readNode, readType}
 use Rattle.encoding.proofs.Tables.{impossible}
-use Rattle.encoding.proofs.Types.{bind-got}
-use Rattle.trees.specs.Encode.{count}
+use Rattle.encoding.proofs.Types.{bind-got, types-count}
 use Rattle.trees.specs.Numbered.{treeAt}
-use Rattle.trees.proofs.Nodes.{node-below, types-count, first-type}
+use Rattle.trees.proofs.Nodes.{node-below, first-type}
 use Rattle.replace.specs.Laying.{depth, deepest}
 use Rattle.replace.proofs.Nodes.{depth-node}
 

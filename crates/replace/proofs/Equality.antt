@@ -9,11 +9,11 @@ use borrow.Author.Tests.{eqb-true, eq-eqb}
 use lib.Dec.{eqb, ltb}
 use lib.ListN.{length, getD, drop}
 use Rattle.rast.specs.Bytes.{Bytes, _and_}
-use Rattle.rast.specs.Tree.{Path, Global, Crate, Self, PMemberSelect, PrimitiveTy, U8, U16, U32, U64, U128, I8, I16, I32, I64, I128, USIZE, Bool·, Ty, Tys, Primitive, TIdentifier, TypeFromPath, TypeApp, Borrowed, BorrowedMut, ImplType, DynType, TupleType, FnType, IntersectionType, Array, TSynonym, TMetaData, nil, cons}
+use Rattle.rast.specs.Tree.{Path, Global, Crate, Self, PMemberSelect, PrimitiveTy, U8, U16, U32, U64, U128, I8, I16, I32, I64, I128, USIZE, Bool·, Ty, Tys, Primitive, TIdentifier, TypeFromPath, TypeApp, Borrowed, BorrowedMut, ImplType, DynType, TupleType, FnType, IntersectionType, Array, TSynonym, TMetaData, nil, cons, count}
 use Rattle.rast.proofs.BytesLaws.{and-left, and-right, same-self}
 use Rattle.encoding.specs.Types.{primitives}
 use Rattle.encoding.proofs.Tables.{impossible, same-eq}
-use Rattle.trees.specs.Encode.{Token, word, name, size, primitiveWord, flagsWord, rootWord, names, pathTokens, count, tokens, tokensAll}
+use Rattle.trees.specs.Encode.{Token, word, name, size, primitiveWord, flagsWord, rootWord, names, pathTokens, tokens, tokensAll}
 use Rattle.replace.specs.Same.{sameSize, sameToken, sameTokens, sameType}
 
 -- ---- tokens

@@ -2,8 +2,8 @@
 use mathlib.Core.Path.{_≡_, refl}
 use mathlib.Core.List.{List, [], _∷_, map}
 use Rattle.rast.specs.Bytes.{Bytes, same, _and_}
-use Rattle.rast.specs.Tree.{U8, U16, U32, Bool·, Ty, Primitive, Borrowed, TupleType, TSynonym, nil, cons}
-use Rattle.trees.specs.Encode.{primitiveWord, count, tokens}
+use Rattle.rast.specs.Tree.{U8, U16, U32, Bool·, Ty, Primitive, Borrowed, TupleType, TSynonym, nil, cons, count}
+use Rattle.trees.specs.Encode.{primitiveWord, tokens}
 use Rattle.replace.specs.Same.{sameToken, sameTokens, sameType}
 use Rattle.replace.specs.Replace.{Replace, ruled, ReplaceMap}
 

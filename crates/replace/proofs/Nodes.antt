@@ -5,14 +5,19 @@ use mathlib.Core.List.{List}
 use native.Mathlib.Omega.{arith}
 use lib.Dec.{eqb, leb}
 use lib.ListN.{length-append}
-use Rattle.rast.specs.Tree.{Ty, Tys, Primitive, TIdentifier, TypeFromPath, TypeApp, Borrowed, BorrowedMut, ImplType, DynType, TupleType, FnType, IntersectionType, Array, TSynonym, TMetaData, nil, cons}
+use Rattle.rast.specs.Bytes.{Bytes}
+use Rattle.rast.specs.Tree.{Ty, Tys, Primitive, TIdentifier, TypeFromPath, TypeApp, Borrowed, BorrowedMut, ImplType, DynType, TupleType, FnType, IntersectionType, Array, TSynonym, TMetaData, nil, cons, count}
 use Rattle.encoding.specs.declared.Head.{Head}
+use Rattle.encoding.specs.Tables.{nameBytes}
 use Rattle.encoding.specs.Types.{sizeOf}
 use Rattle.encoding.proofs.Tables.{impossible}
-use Rattle.trees.specs.Encode.{count, tokens, tokensAll, words, wordsAll}
-use Rattle.trees.proofs.Nodes.{Node, plain, ident, path, apply, ref, refMut, impl, dyn, tuple, function, both, array, synonym, meta, snoc, count-snoc, words-nil, words-cons, words-one, words-snoc}
-use Rattle.replace.specs.Replace.{Replace, Replaces}
+use Rattle.encoding.proofs.Types.{snoc, count-snoc}
+use Rattle.trees.specs.Encode.{tokens, tokensAll, words, wordsAll}
+use Rattle.trees.proofs.Nodes.{Node, plain, ident, path, apply, ref, refMut, impl, dyn, tuple, function, both, array, synonym, meta, words-nil, words-cons, words-one, words-snoc}
+use Rattle.replace.specs.Replace.{Replace, Replaces, ReplaceMap}
 use Rattle.replace.specs.Laying.{depth, deepest, peak, peaks}
+use Rattle.replace.specs.Same.{sameBy}
+use Rattle.replace.specs.Rules.{Rule, mappingOf}
 
 snoc-parts : {N : Type 0} (ts us : Tys N) {t u : Ty N} → snoc ts t ≡ snoc us u → (ts ≡ us) × (t ≡ u)
 unfolding snoc count
@@ -175,3 +180,10 @@ mutual
   pub deepest-words : {N : Type 0} (ts : Tys N) → deepest ts ≤ wordsAll ts
   deepest-words nil = omega arith
   deepest-words (cons t ts) = let h = depth-words t in let k = deepest-words ts in omega (arith, h, k, length-append (tokens t) (tokensAll ts))
+
+-- ---- the source's `ReplaceMap`
+
+-- what the calls rebuild by
+pub replace-map : (pairs : List ℕ) (text : Bytes) (rs : List Rule) (t : Ty ℕ) → Replace (mappingOf pairs text rs) t ≡ ReplaceMap (sameBy (nameBytes pairs text)) rs t
+unfolding mappingOf ReplaceMap
+replace-map pairs text rs t = refl

@@ -4,19 +4,19 @@ use mathlib.Core.Path.{_≡_, refl, ap, _∙_}
 use mathlib.Core.List.{List}
 use native.Mathlib.Omega.{arith}
 use lib.ListN.{length, take, drop, length-append}
-use Rattle.rast.specs.Tree.{Ty, Tys, nil, cons}
+use Rattle.rast.specs.Tree.{Ty, Tys, nil, cons, count}
 use Rattle.encoding.specs.declared.Head.{Head}
 use Rattle.encoding.specs.Reading.{Reading, got}
 use Rattle.encoding.specs.Tables.{nameCount}
 use Rattle.encoding.specs.Heads.{readHead, kids}
 use Rattle.encoding.specs.Types.{readTypes, readNode, readType}
 use Rattle.encoding.proofs.Tables.{impossible}
-use Rattle.encoding.proofs.Types.{bind-got}
+use Rattle.encoding.proofs.Types.{bind-got, types-count}
 use Rattle.encoding.proofs.Inside.{head-lies}
-use Rattle.trees.specs.Encode.{count, encode, encodeAll, words, wordsAll}
+use Rattle.trees.specs.Encode.{encode, encodeAll, words, wordsAll}
 use Rattle.trees.specs.Runs.{Run}
 use Rattle.trees.specs.Numbered.{treeAt}
-use Rattle.trees.proofs.Nodes.{Node, node-below, types-count, first-type, words-nil, words-cons}
+use Rattle.trees.proofs.Nodes.{Node, node-below, first-type, words-nil, words-cons}
 use Rattle.trees.proofs.Spans.{type-stands, node-spells}
 use Rattle.trees.proofs.Renaming.{encode-words, encode-all}
 use Rattle.replace.specs.Replace.{Replace, Replaces}

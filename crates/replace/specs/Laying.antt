@@ -37,6 +37,7 @@ module _ {N : Type 0} where
     abbrev before : ℕ → ℕ → ℕ → ℕ
     before first left second = max first (left + second)
 
+    -- the most words that lie there "at some moment", the node's own words first and "then each rebuilt child in turn"
     unfoldable mutual
       pub peak : Ty N → ℕ
       peak (Primitive p) = topOf (Primitive p) 1 0

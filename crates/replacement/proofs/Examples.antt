@@ -11,9 +11,9 @@ use Rattle.encoding.specs.Tables.{overlong, goodPairs, checkTables, fixedNames,
 use Rattle.encoding.specs.Heads.{readPath, pathHead, headAfter, readHead}
 use Rattle.encoding.specs.Types.{primitives, rootOf, pathOf, sizeOf, readTypes, readNode, readType}
 use Rattle.encoding.specs.Declarations.{readList, readCounted, visibilityOf, readVisibility, readName, readAttribute, readParameter, readFormal, readField, readNamelessField, readFields, readCase, readStruct, readEnum, readTypeSynonym, readUse, declarationAfter, readDeclaration}
-use Rattle.rast.specs.Tree.{MSels}
+use Rattle.rast.specs.Tree.{MSels, count}
 use Rattle.trees.specs.Renamed.{renamedPath, renamedSize, renamed}
-use Rattle.trees.specs.Encode.{tokenWord, primitiveWord, flagsWord, rootWord, names, pathTokens, count, tokens, words, wordsAll, encode}
+use Rattle.trees.specs.Encode.{tokenWord, primitiveWord, flagsWord, rootWord, names, pathTokens, tokens, words, wordsAll, encode}
 use Rattle.replace.specs.Same.{sameSize, sameToken, sameTokens, sameType, sameBy}
 use Rattle.replace.specs.Replace.{Replace, ruled}
 use Rattle.replace.specs.Laying.{depth, peak}

@@ -4,7 +4,7 @@ use mathlib.Core.Bool.{Bool, true, false}
 use mathlib.Core.Path.{_≡_, refl}
 use mathlib.Core.List.{List, [], _∷_, _++_, map}
 use Rattle.rast.specs.Bytes.{Bytes, ascii, same, begins, _and_}
-use Rattle.rast.specs.Tree.{Ty, MSels}
+use Rattle.rast.specs.Tree.{Ty, MSels, count}
 use Rattle.rast.specs.DeclarationToString.{Expand}
 use Rattle.encoding.specs.Refusals.{Answer, given, mapAnswer, unless}
 use Rattle.encoding.specs.Reading.{readWord, readBelow, readNames, whole}
@@ -13,7 +13,7 @@ use Rattle.encoding.specs.Heads.{readPath, pathHead, headAfter, readHead}
 use Rattle.encoding.specs.Types.{primitives, rootOf, pathOf, sizeOf, readTypes, readNode, readType, typeOf}
 use Rattle.trees.specs.Renamed.{renamedPath, renamedSize, renamed}
 use Rattle.trees.specs.Numbered.{treeOf}
-use Rattle.trees.specs.Encode.{tokenWord, primitiveWord, flagsWord, rootWord, names, pathTokens, count, tokens, encode}
+use Rattle.trees.specs.Encode.{tokenWord, primitiveWord, flagsWord, rootWord, names, pathTokens, tokens, encode}
 use Rattle.classes.specs.Matches.{onPath, applied, typeIn, argument, unsized, isDyn, someIs}
 use Rattle.classes.specs.Paths.{samePath, std, inStd, dafny_runtime, inRuntime, RcPath, ArcPath, BoxPath, MaybeUninitPath, ObjectPath, PtrPath, runtimeMember}
 use Rattle.classes.specs.Steps.{when, andThen, orElse}

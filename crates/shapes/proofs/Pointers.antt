@@ -5,10 +5,10 @@ use mathlib.Core.Bool.{Bool, true, false}
 use mathlib.Core.Option.{Option}
 use lib.Dec.{eqb}
 use Rattle.rast.specs.Bytes.{Bytes, ascii, begins, _and_, _or_}
-use Rattle.rast.specs.Tree.{Ty, Primitive, TIdentifier, TypeFromPath, TypeApp, Borrowed, BorrowedMut, ImplType, DynType, TupleType, FnType, IntersectionType, Array, TSynonym, TMetaData}
+use Rattle.rast.specs.Tree.{Ty, Primitive, TIdentifier, TypeFromPath, TypeApp, Borrowed, BorrowedMut, ImplType, DynType, TupleType, FnType, IntersectionType, Array, TSynonym, TMetaData, count}
 use Rattle.rast.specs.DeclarationToString.{Expand}
 use Rattle.encoding.specs.Refusals.{pick}
-use Rattle.trees.specs.Encode.{count, words}
+use Rattle.trees.specs.Encode.{words}
 use Rattle.trees.specs.Places.{Place}
 use Rattle.classes.specs.declared.Class.the-variants.{ObjectClass, PtrClass, ArrayClass}
 use Rattle.classes.specs.Asked.{found, isFound}

@@ -5,10 +5,10 @@ use mathlib.Core.Bool.{Bool}
 use mathlib.Core.Option.{Option, some}
 use lib.Dec.{eqb}
 use Rattle.rast.specs.Bytes.{Bytes, ascii, same, _and_}
-use Rattle.rast.specs.Tree.{Ty, Primitive, TIdentifier, TypeFromPath, TypeApp, Borrowed, BorrowedMut, ImplType, DynType, TupleType, FnType, IntersectionType, Array, TSynonym, TMetaData}
+use Rattle.rast.specs.Tree.{Ty, Primitive, TIdentifier, TypeFromPath, TypeApp, Borrowed, BorrowedMut, ImplType, DynType, TupleType, FnType, IntersectionType, Array, TSynonym, TMetaData, count}
 use Rattle.rast.specs.DeclarationToString.{Expand}
 use Rattle.encoding.specs.Refusals.{pick}
-use Rattle.trees.specs.Encode.{count, words}
+use Rattle.trees.specs.Encode.{words}
 use Rattle.trees.specs.Places.{Place, place}
 use Rattle.classes.specs.Matches.{applied}
 use Rattle.classes.specs.Paths.{samePath, runtimeMember, MaybePlaceboPath}
@@ -17,6 +17,7 @@ use Rattle.shapes.specs.Shapes.{IsBox, IsRc, IsBoxDyn, IsMaybeUninit, Is
 
 -- ---- behind wrappers and borrows
 
+-- the body of `Type.RemoveSynonyms`, with where the type stands
 unfoldable pub removedAt : {N : Type 0} → ℕ → Ty N → Place N
 removedAt p (Primitive x) = place p (Primitive x)
 removedAt p (TIdentifier x) = place p (TIdentifier x)
@@ -37,6 +38,7 @@ removedAt p (TMetaData display c o) = removedAt (p + 2) display
 unfoldable pub RemoveSynonyms : Place Bytes → Option (Place Bytes)
 RemoveSynonyms p = some (removedAt (p .at) (p .tpe))
 
+-- the body of `Type.Expand`, with where the type stands
 unfoldable pub expandedAt : {N : Type 0} → ℕ → Ty N → Place N
 expandedAt p (Primitive x) = place p (Primitive x)
 expandedAt p (TIdentifier x) = place p (TIdentifier x)
@@ -61,6 +63,7 @@ expanded p = expandedAt (p .at) (p .tpe)
 unfoldable pub ExpandAt : Place Bytes → Option (Place Bytes)
 ExpandAt p = some (expanded p)
 
+-- the body of `Type.ToOwned`, with where the type stands
 unfoldable pub ownedAt : {N : Type 0} → ℕ → Ty N → Place N
 ownedAt p (Primitive x) = place p (Primitive x)
 ownedAt p (TIdentifier x) = place p (TIdentifier x)

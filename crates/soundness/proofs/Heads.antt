@@ -17,8 +17,8 @@ use Rattle.encoding.specs.Refusals.{pick}
 use Rattle.encoding.specs.Reading.{Reading, got, stop, _>>=_}
 use Rattle.encoding.specs.Heads.{kids}
 use Rattle.encoding.specs.Types.{readTypes, readNode}
-use Rattle.encoding.proofs.Types.{made₂-got}
-use Rattle.measure.proofs.Texts.{snoc, types-snoc, types-two}
+use Rattle.encoding.proofs.Types.{made₂-got, snoc}
+use Rattle.measure.proofs.Texts.{types-snoc, types-two}
 use Rattle.soundness.specs.Judging.{unlessJudged, shapeFits, soundAs, soundRest, soundFrom, headFits, wordsSound, headSound, firstJudged, lastJudged, firstAsk, lastAsk}
 use Rattle.soundness.proofs.Names.{and-assoc}
 

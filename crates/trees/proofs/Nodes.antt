@@ -13,18 +13,8 @@ use Rattle.encoding.specs.declared.Head.the-variants.{Plain, Name, FromPath, Ap
 use Rattle.encoding.specs.Reading.{Reading, got, _>>=_}
 use Rattle.encoding.specs.Heads.{kids}
 use Rattle.encoding.specs.Types.{primitives, pathOf, sizeOf, readTypes, readNode}
-use Rattle.encoding.proofs.Types.{made-got, made₂-got}
-use Rattle.trees.specs.Encode.{count, tokens, tokensAll, words, wordsAll}
-
--- one type more, behind the others
-unfoldable pub snoc : {N : Type 0} → Tys N → Ty N → Tys N
-snoc nil t = cons t nil
-snoc (cons u us) t = cons u (snoc us t)
-
-pub count-snoc : {N : Type 0} (ts : Tys N) (t : Ty N) → count (snoc ts t) ≡ count ts + 1
-unfolding snoc count
-count-snoc nil t = refl
-count-snoc (cons u us) t = let k = count-snoc us t in omega (arith, k)
+use Rattle.encoding.proofs.Types.{made-got, made₂-got, snoc}
+use Rattle.trees.specs.Encode.{tokens, tokensAll, words, wordsAll}
 
 -- ---- how many words some types take
 
@@ -71,13 +61,6 @@ module _ {N : Type 0} (f : ℕ → Reading (Ty N)) where
   types-snoc (suc n) p q r {ts} {t} e d =
       let m = made₂-got (f p) (readTypes f n) cons e in
       rw (m .reads, types-snoc n (m .middle) q r (m .reads₂) d) (ap (λ (us : Tys N). got (snoc us t) r) (sym (m .made)))
-
-  pub types-count : (n p : ℕ) {ts : Tys N} {q : ℕ} → readTypes f n p ≡ got ts q → count ts ≡ n
-  unfolding readTypes count
-  types-count zero p {ts} e = let z : ts ≡ nil = cc in rw z
-  types-count (suc n) p {ts} e =
-      let m = made₂-got (f p) (readTypes f n) cons e in
-      rw (m .made) (ap suc (types-count n (m .middle) (m .reads₂)))
 
   pub one-read : (p : ℕ) {t : Ty N} {q : ℕ} → f p ≡ got t q → readTypes f 1 p ≡ got (cons t nil) q
   unfolding readTypes

@@ -9,7 +9,7 @@ use native.Mathlib.Decide.{decLt}
 use lib.Dec.{eqb}
 use lib.ListN.{length, take, drop, length-map}
 use Rattle.rast.specs.Bytes.{Bytes}
-use Rattle.rast.specs.Tree.{Path, Global, Crate, Self, PMemberSelect, MSels, Ty, Tys, Primitive, TIdentifier, TypeFromPath, TypeApp, Borrowed, BorrowedMut, ImplType, DynType, TupleType, FnType, IntersectionType, Array, TSynonym, TMetaData, nil, cons}
+use Rattle.rast.specs.Tree.{Path, Global, Crate, Self, PMemberSelect, MSels, Ty, Tys, Primitive, TIdentifier, TypeFromPath, TypeApp, Borrowed, BorrowedMut, ImplType, DynType, TupleType, FnType, IntersectionType, Array, TSynonym, TMetaData, nil, cons, count}
 use Rattle.encoding.specs.declared.Head.{Head}
 use Rattle.encoding.specs.declared.Head.the-variants.{Plain, Name, FromPath, Apply, Ref, RefMut, Impl, Dyn, Tuple, Function, Both, ArrayOf, Synonym, Meta}
 use Rattle.encoding.specs.declared.PathAt.{PathAt}
@@ -21,7 +21,7 @@ use Rattle.encoding.specs.Types.{rootOf, pathOf, sizeOf, readTypes, readNode, r
 use Rattle.encoding.proofs.Tables.{impossible}
 use Rattle.encoding.proofs.Types.{type-end}
 use Rattle.trees.specs.Renamed.{renamedPath, renamedSize, renamed, renamedAll}
-use Rattle.trees.specs.Encode.{Token, word, name, size, tokenWord, renamedToken, flagsWord, rootWord, names, pathTokens, count, tokens, tokensAll, words, wordsAll, encode, encodeAll}
+use Rattle.trees.specs.Encode.{Token, word, name, size, tokenWord, renamedToken, flagsWord, rootWord, names, pathTokens, tokens, tokensAll, words, wordsAll, encode, encodeAll}
 use Rattle.trees.specs.Numbered.{treeAt}
 use Rattle.trees.specs.Runs.{Run}
 use Rattle.trees.proofs.Spans.{type-stands}

@@ -8,7 +8,7 @@ use borrow.Author.Tests.{ltb-true, eqb-true, ne-eqb}
 use lib.Dec.{ltb, eqb, leb}
 use lib.ListN.{length, getD, take, drop, length-append}
 use Rattle.rast.specs.Bytes.{_and_}
-use Rattle.rast.specs.Tree.{Path, Global, Crate, Self, PMemberSelect, MSels, U8, Ty, Tys, TypeFromPath, nil, cons}
+use Rattle.rast.specs.Tree.{Path, Global, Crate, Self, PMemberSelect, MSels, U8, Ty, Tys, TypeFromPath, nil, cons, count}
 use Rattle.encoding.specs.declared.PathAt.{PathAt}
 use Rattle.encoding.specs.declared.Head.{Head}
 use Rattle.encoding.specs.declared.Head.the-variants.{Plain, Name, FromPath, Apply, Ref, RefMut, Impl, Dyn, Tuple, Function, Both, ArrayOf, Synonym, Meta}
@@ -20,9 +20,9 @@ use Rattle.encoding.proofs.Tables.{impossible, everyBelow, every-at}
 use Rattle.encoding.proofs.Heads.{head-at}
 use Rattle.encoding.proofs.Inside.{Holds, holds-on, holds-pick, There, Next, Names, word-holds, below-holds, names-hold, head-lies}
 use Rattle.encoding.proofs.TypeKinds.{head-kind}
-use Rattle.encoding.proofs.Types.{bind-got, made₂-got}
-use Rattle.trees.specs.Encode.{name, size, tokenWord, primitiveWord, flagsWord, rootWord, names, pathTokens, count, tokens, tokensAll, encode, encodeAll}
-use Rattle.trees.proofs.Nodes.{Node, plain, ident, path, apply, ref, refMut, impl, dyn, tuple, function, both, array, synonym, meta, snoc, node-below, types-count, count-snoc}
+use Rattle.encoding.proofs.Types.{bind-got, made₂-got, snoc, types-count, count-snoc}
+use Rattle.trees.specs.Encode.{name, size, tokenWord, primitiveWord, flagsWord, rootWord, names, pathTokens, tokens, tokensAll, encode, encodeAll}
+use Rattle.trees.proofs.Nodes.{Node, plain, ident, path, apply, ref, refMut, impl, dyn, tuple, function, both, array, synonym, meta, node-below}
 use Rattle.trees.specs.Runs.{Run}
 use Rattle.trees.proofs.Runs.{run-none, run-one, run-two, run-part, run-join}
 

@@ -4,7 +4,7 @@ use mathlib.Core.Bool.{Bool, true, false}
 use mathlib.Core.List.{List, [], _∷_, _++_, map}
 use mathlib.Core.Option.{Option, some, none}
 use lib.ListN.{length}
-use Rattle.rast.specs.Tree.{Path, Global, Crate, Self, PMemberSelect, PrimitiveTy, U8, U16, U32, U64, U128, I8, I16, I32, I64, I128, USIZE, Bool·, Ty, Tys, Primitive, TIdentifier, TypeFromPath, TypeApp, Borrowed, BorrowedMut, ImplType, DynType, TupleType, FnType, IntersectionType, Array, TSynonym, TMetaData, nil, cons}
+use Rattle.rast.specs.Tree.{Path, Global, Crate, Self, PMemberSelect, PrimitiveTy, U8, U16, U32, U64, U128, I8, I16, I32, I64, I128, USIZE, Bool·, Ty, Tys, Primitive, TIdentifier, TypeFromPath, TypeApp, Borrowed, BorrowedMut, ImplType, DynType, TupleType, FnType, IntersectionType, Array, TSynonym, TMetaData, nil, cons, count}
 use Rattle.trees.specs.Renamed.{renamedSize}
 
 -- one word: a number, a name, or an array's size
@@ -66,11 +66,6 @@ module _ {N : Type 0} where
   -- Path: 0, 1 or 2; n; n names
   unfoldable pub pathTokens : Path N → List (Token N)
   pathTokens p = word (rootWord p) ∷ word (length (names p)) ∷ map name (names p)
-
-  -- how many types
-  unfoldable pub count : Tys N → ℕ
-  count nil = 0
-  count (cons t ts) = suc (count ts)
 
   -- a tree is written head first, its children in order
   unfoldable mutual

@@ -13,6 +13,7 @@ module _ {N M : Type 0} (f : N → M) where
   renamedSize none = none
   renamedSize (some x) = some (f x)
 
+  -- each name by another; nothing else changes
   unfoldable mutual
     pub renamed : Ty N → Ty M
     renamed (Primitive p) = Primitive p

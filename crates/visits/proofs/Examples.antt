@@ -3,14 +3,14 @@ use Prim.Native.Nat.{ℕ}
 use mathlib.Core.Path.{_≡_, refl}
 use mathlib.Core.List.{List, [], _∷_, map}
 use Rattle.rast.specs.Bytes.{Bytes, ascii, _and_}
-use Rattle.rast.specs.Tree.{MSels}
+use Rattle.rast.specs.Tree.{MSels, count}
 use Rattle.encoding.specs.Refusals.{Answer, given, mapAnswer, unless}
 use Rattle.encoding.specs.Reading.{readWord, readBelow, readNames, whole}
 use Rattle.encoding.specs.Tables.{overlong, goodPairs, checkTables, fixedNames, pairBytes, nameBytes}
 use Rattle.encoding.specs.Heads.{readPath, pathHead, headAfter, readHead}
 use Rattle.encoding.specs.Types.{primitives, rootOf, pathOf, sizeOf, readTypes, readNode, readType, typeOf}
 use Rattle.encoding.specs.Declarations.{readList, readCounted, visibilityOf, readVisibility, readName, readAttribute, readParameter, readFormal, readField, readNamelessField, readFields, readCase, readStruct, readEnum, readTypeSynonym, readUse, declarationAfter, readDeclaration, declarationOf}
-use Rattle.trees.specs.Encode.{primitiveWord, flagsWord, rootWord, names, pathTokens, count, tokens, words, wordsAll}
+use Rattle.trees.specs.Encode.{primitiveWord, flagsWord, rootWord, names, pathTokens, tokens, words, wordsAll}
 use Rattle.pieces.specs.Pieces.{visibilityWord, runs, attributeTokens, attributesTokens, titleTokens, useTokens, counted, parameterPieces, fieldPieces, namelessPieces, fieldsPieces, casePieces, heading, front, rest, pieces}
 use Rattle.visits.specs.Visited.{visited, visitedFrom, visitedPieces, entered, visitedDeclaration, typeVisits, declarationVisits}
 

@@ -9,11 +9,11 @@ use Rattle.rast.specs.Tree.{Ty, Tys, nil, cons}
 use Rattle.encoding.specs.declared.Head.{Head}
 use Rattle.encoding.specs.Reading.{Reading, got}
 use Rattle.encoding.specs.Types.{readTypes}
-use Rattle.encoding.proofs.Types.{made₂-got}
+use Rattle.encoding.proofs.Types.{made₂-got, snoc}
 use Rattle.encoding.proofs.TypeKinds.{kind}
 use Rattle.trees.specs.Encode.{tokens, tokensAll, words, wordsAll}
 use Rattle.trees.specs.Places.{Place}
-use Rattle.trees.proofs.Nodes.{Node, plain, ident, path, apply, ref, refMut, impl, dyn, tuple, function, both, array, synonym, meta, snoc, words-cons, words-one, words-snoc}
+use Rattle.trees.proofs.Nodes.{Node, plain, ident, path, apply, ref, refMut, impl, dyn, tuple, function, both, array, synonym, meta, words-cons, words-one, words-snoc}
 use Rattle.visits.specs.Visited.{visitedFrom, visitedAll, positions}
 
 -- some types, and others behind them

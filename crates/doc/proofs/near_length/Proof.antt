@@ -8,10 +8,10 @@ use Rattle.doc.proofs.near_length.Statement.{statement}
 use Rattle.doc.proofs.near_length.Tie as tie
 
 abbrev Inv-loop : tie.InvT-loop
-Inv-loop doc at count found₀ i₀ found i = (i ≤ count) × Nearest doc at i found
+Inv-loop doc at found₀ i₀ found i = (i ≤ 64) × Nearest doc at i found
 
 abbrev μ-loop : tie.MeasureT-loop
-μ-loop doc at count found₀ i₀ found i = count - i
+μ-loop doc at found₀ i₀ found i = 64 - i
 
 loop-holds : tie.Need-loop-holds Inv-loop μ-loop
 loop-holds c = (search needs, nearest-none (c .before .args .doc .now) (c .before .args .at) (search needs))
@@ -48,9 +48,8 @@ cast-result c = search needs
 
 returns : tie.Need-returns Inv-loop μ-loop
 returns c =
-    let s = c .before .before .before in
     let l = c .before .loop in
-    let z : l .i ≡ s .args .count = omega arith in
+    let z : l .i ≡ 64 = omega arith in
     rw z at (l .inv .1)
 
 pub near-length-spec : {M : Type 1} → statement M

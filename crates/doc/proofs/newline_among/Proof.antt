@@ -7,14 +7,14 @@ use mathlib.Core.Path.{_≡_}
 use native.Mathlib.Nat.{add-zero}
 use native.Mathlib.Omega.{arith}
 use borrow.Author.Needs.{needs}
-use Rattle.doc.proofs.newline_in_block.Statement.{statement}
-use Rattle.doc.proofs.newline_in_block.Tie as tie
+use Rattle.doc.proofs.newline_among.Statement.{statement}
+use Rattle.doc.proofs.newline_among.Tie as tie
 
 abbrev Inv-loop : tie.InvT-loop
-Inv-loop doc at found₀ i₀ found i = (i ≤ 64) × (found ≡ 0 → Passed doc at (at + i))
+Inv-loop doc at count found₀ i₀ found i = (i ≤ count) × (found ≡ 0 → Passed doc at (at + i))
 
 abbrev μ-loop : tie.MeasureT-loop
-μ-loop doc at found₀ i₀ found i = 64 - i
+μ-loop doc at count found₀ i₀ found i = count - i
 
 loop-holds : tie.Need-loop-holds Inv-loop μ-loop
 loop-holds c = (search needs, λ e. rw (add-zero (c .before .args .at)) (passed-none (c .before .args .doc .now) (c .before .args .at) (search needs)))
@@ -45,11 +45,11 @@ loop-again c =
 returns : tie.Need-returns Inv-loop μ-loop
 returns c =
     let l = c .before .loop in
-    let z : l .i ≡ 64 = omega arith in
+    let z : l .i ≡ c .before .before .before .args .count = omega arith in
     λ e. rw z at (l .inv .1 (eqb-true _ _ (not-false _ e)))
 
-pub newline-in-block-spec : {M : Type 1} → statement M
-newline-in-block-spec =
+pub newline-among-spec : {M : Type 1} → statement M
+newline-among-spec =
     tie.close
     (tie.spec
     Inv-loop
