@@ -58,8 +58,16 @@ fn repository_folder() -> PathBuf {
 }
 
 fn build_archive(root: &Path) {
+    // `rt staticlib` proves one crate after the other, `rt check` as many at once as there are
+    // processors; what is proved already is not proved again.
+    run_rt(root, &["check", "capi"]);
+    run_rt(root, &["staticlib", "capi"]);
+}
+
+fn run_rt(root: &Path, arguments: &[&str]) {
+    let command = format!("rt {}", arguments.join(" "));
     let ended = Command::new("rt")
-        .args(["staticlib", "capi"])
+        .args(arguments)
         .current_dir(root)
         .output();
     match ended {
@@ -70,11 +78,11 @@ fn build_archive(root: &Path) {
             root.join("target").join("staticlib").display()
         )),
         Err(error) => fail(&format!(
-            "cannot run `rt staticlib capi` in {}: {error}",
+            "cannot run `{command}` in {}: {error}",
             root.display()
         )),
         Ok(output) if !output.status.success() => fail(&format!(
-            "`rt staticlib capi` in {} failed ({}):\n{}{}",
+            "`{command}` in {} failed ({}):\n{}{}",
             root.display(),
             output.status,
             String::from_utf8_lossy(&output.stdout),
