@@ -33,7 +33,7 @@ fn main() -> Result<(), TextError> {
             [] => println!("    shapes: none"),
             shapes => println!("    shapes: {}", shapes.join(", ")),
         }
-        for part in Part::ALL {
+        for &part in Part::ALL {
             match asked.part(part) {
                 // Of some parts a type is its own.
                 Ok(taken) if taken == asked => {}
@@ -49,7 +49,7 @@ fn main() -> Result<(), TextError> {
 /// The names of the shapes that a type has.
 fn shapes(asked: &Type) -> Result<Vec<&'static str>, Refusal> {
     let mut names = Vec::new();
-    for shape in Shape::ALL {
+    for &shape in Shape::ALL {
         if asked.has_shape(shape)? {
             names.push(shape.name());
         }

@@ -251,7 +251,7 @@ mod tests {
     fn answers_are_taken_apart() {
         assert_eq!(answer(0), Ok(0));
         assert_eq!(answer((1 << 63) - 1), Ok((1 << 63) - 1));
-        for refusal in Refusal::ALL {
+        for &refusal in Refusal::ALL {
             assert_eq!(
                 answer((1 << 63) + u64::from(refusal.number())),
                 Err(refusal)

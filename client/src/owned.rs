@@ -187,7 +187,8 @@ impl<'a> Encoding<'a> {
 /// The calls for types.
 ///
 /// Each encodes the tree first. A tree that no encoding has room for is refused with
-/// [`Refusal::Overlong`] or [`Refusal::TooDeep`].
+/// [`Refusal::Overlong`] or [`Refusal::TooDeep`], whichever the encoder meets first, and before a
+/// bad level is: the library, which is given words, tests in the order of its own documents.
 impl Type {
     /// The text, as the library prints it.
     ///

@@ -51,7 +51,7 @@ pub enum Part {
 
 impl Part {
     /// All of them.
-    pub const ALL: [Part; 11] = [
+    pub const ALL: &'static [Part] = &[
         Part::RemoveSynonyms,
         Part::Expand,
         Part::ToOwned,

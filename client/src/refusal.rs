@@ -46,7 +46,7 @@ pub enum Refusal {
 
 impl Refusal {
     /// All refusals, in the order of their numbers, which begin at 1.
-    pub const ALL: [Refusal; 11] = [
+    pub const ALL: &'static [Refusal] = &[
         Refusal::Overlong,
         Refusal::BadPair,
         Refusal::EndsEarly,
@@ -81,8 +81,8 @@ impl Refusal {
     /// The refusal with this number, if there is one.
     #[must_use]
     pub fn from_number(number: u64) -> Option<Refusal> {
-        let index = usize::try_from(number.checked_sub(1)?).ok()?;
-        Refusal::ALL.get(index).copied()
+        let mut all = Refusal::ALL.iter().copied();
+        all.find(|refusal| u64::from(refusal.number()) == number)
     }
 
     fn words(self) -> &'static str {
@@ -125,7 +125,7 @@ mod tests {
 
     #[test]
     fn numbers_go_both_ways() {
-        for (index, refusal) in Refusal::ALL.into_iter().enumerate() {
+        for (index, &refusal) in Refusal::ALL.iter().enumerate() {
             assert_eq!(refusal.number() as usize, index + 1);
             assert_eq!(Refusal::from_number(refusal.number().into()), Some(refusal));
         }
@@ -152,6 +152,7 @@ mod tests {
             "two rules replace the same type (refusal 10)",
             "the level is above 16 (refusal 11)",
         ];
-        assert_eq!(Refusal::ALL.map(|refusal| refusal.to_string()), words);
+        let said: Vec<String> = Refusal::ALL.iter().map(Refusal::to_string).collect();
+        assert_eq!(said, words);
     }
 }

@@ -12,7 +12,7 @@ use crate::{ffi, yes_or_no, Encoding, Refusal};
 ///
 /// let shared = Type::borrowed(Type::rc(Type::U8)).encode()?;
 /// let mut yes = Vec::new();
-/// for shape in Shape::ALL {
+/// for &shape in Shape::ALL {
 ///     if shape.of(&shared.as_encoding())? {
 ///         yes.push(shape.name());
 ///     }
@@ -57,7 +57,7 @@ pub enum Shape {
 
 impl Shape {
     /// All of them.
-    pub const ALL: [Shape; 15] = [
+    pub const ALL: &'static [Shape] = &[
         Shape::EndsWithNameThatCanAcceptGenerics,
         Shape::IsAutoSize,
         Shape::CanReadWithoutClone,

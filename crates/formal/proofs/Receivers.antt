@@ -8,6 +8,7 @@ use borrow.Author.Tests.{ne-eqb}
 use lib.Dec.{eqb}
 use lib.ListN.{length, getD, take, drop, length-take, length-drop, length-map}
 use Rattle.rast.specs.Bytes.{Bytes, ascii, same}
+use Rattle.rast.proofs.BytesLaws.{and-false}
 use Rattle.rast.specs.Tree.{Path, Self, PMemberSelect, MSels, Ty, Primitive, TIdentifier, TypeFromPath, TypeApp, Borrowed, BorrowedMut, ImplType, DynType, TupleType, FnType, IntersectionType, Array, TSynonym, TMetaData}
 use Rattle.rast.specs.DeclarationToString.{Expand, isSelfPath, isSelfOwned, isSelfBorrowed, isSelfBorrowedMut, isUnderscore}
 use Rattle.encoding.specs.declared.PathAt.{PathAt}
@@ -26,7 +27,7 @@ use Rattle.wrappers.specs.Asked.{Judges, ExpandsAt}
 use Rattle.wrappers.proofs.TypesIn.{ref-of, mut-of}
 use Rattle.formal.specs.declared.Receiver.{Receiver}
 use Rattle.formal.specs.declared.Receiver.the-variants.{ByValue, ByRef, ByMut, Typed}
-use Rattle.formal.specs.Receivers.{receiverOf, BorrowKind, shared, mutable, isSelfBorrowedAs, Tells}
+use Rattle.formal.specs.Receivers.{receiverOf, isReceiver, NoReceiver, BorrowKind, shared, mutable, isSelfBorrowedAs, Tells}
 
 -- ---- a type of another kind
 
@@ -84,6 +85,23 @@ underscore-other (IntersectionType l r) h = refl
 underscore-other (Array t s) h = refl
 underscore-other (TSynonym d b) h = refl
 underscore-other (TMetaData d c o) h = refl
+
+leaf-other : (b : Bytes) (t : Ty Bytes) → kind t < 13 → isReceiver b t ≡ false
+unfolding isReceiver Expand isSelfOwned isSelfBorrowed isSelfBorrowedMut
+leaf-other b (Primitive p) h = and-false (same b (ascii "self"))
+leaf-other b (TIdentifier x) h = and-false (same b (ascii "self"))
+leaf-other b (TypeFromPath p) h = absurd (let z : ⊥ = omega arith in z)
+leaf-other b (TypeApp c ts) h = absurd (let z : ⊥ = omega arith in z)
+leaf-other b (Borrowed t) h = absurd (let z : ⊥ = omega arith in z)
+leaf-other b (BorrowedMut t) h = absurd (let z : ⊥ = omega arith in z)
+leaf-other b (ImplType t) h = absurd (let z : ⊥ = omega arith in z)
+leaf-other b (DynType t) h = absurd (let z : ⊥ = omega arith in z)
+leaf-other b (TupleType ts) h = absurd (let z : ⊥ = omega arith in z)
+leaf-other b (FnType ts t) h = absurd (let z : ⊥ = omega arith in z)
+leaf-other b (IntersectionType l r) h = absurd (let z : ⊥ = omega arith in z)
+leaf-other b (Array t s) h = absurd (let z : ⊥ = omega arith in z)
+leaf-other b (TSynonym d c) h = absurd (let z : ⊥ = omega arith in z)
+leaf-other b (TMetaData d c o) h = absurd (let z : ⊥ = omega arith in z)
 
 -- ---- a path that is `Self`: no other root, and no names
 
@@ -159,6 +177,14 @@ module _ (ws pairs : List ℕ) (text : Bytes) (at : ℕ) where
 
   pub self-borrowed : {k : ℕ} {r : Bool} → BorrowKind k → getD ws at 0 ≡ k → Judges isSelfOwned (typeAt ws pairs text (at + 1)) r → Judges (isSelfBorrowedAs k) x r
   self-borrowed b h j = record { says = λ t n e. let m = borrow-of b e h in j .says (m .value) n (m .reads) ∙ m .asks }
+
+  -- ---- a plain type or a name, which make no receiver
+
+  pub leaf-type : (b : Bytes) → getD ws at 0 < 13 → NoReceiver b x
+  leaf-type b h = record { says = λ t n e. leaf-other b t (omega (arith, type-kind ws pairs text at e)) }
+
+  pub no-type : (b : Bytes) → length ws ≤ at → NoReceiver b x
+  no-type b h = record { says = λ t n e. let s = type-end ws pairs text at h in impossible (cc) }
 
   -- ---- the type `_`
 

@@ -5,7 +5,7 @@ use mathlib.Core.Bool.{Bool, true, false}
 use mathlib.Core.List.{List, [], _++_, append-assoc}
 use native.Mathlib.Omega.{arith}
 use lib.ListN.{length, getD}
-use Rattle.rast.specs.Bytes.{Bytes, ascii, same, _and_}
+use Rattle.rast.specs.Bytes.{Bytes, ascii, same, _and_, _or_}
 use Rattle.rast.specs.Tree.{Ty, TIdentifier}
 use Rattle.rast.specs.ToString.{Type·ToString}
 use Rattle.rast.specs.Declaration.{Formal}
@@ -36,7 +36,7 @@ use Rattle.formal.specs.declared.Label.the-variants.{Open, Whole, NoLabe
 use Rattle.formal.specs.declared.Receiver.{Receiver}
 use Rattle.formal.specs.declared.Receiver.the-variants.{ByValue, ByRef, ByMut, Typed}
 use Rattle.formal.specs.Labels.{Labelled, opened, whole, unread, LabelWritten, front, all}
-use Rattle.formal.specs.Receivers.{receiverOf}
+use Rattle.formal.specs.Receivers.{receiverOf, isReceiver, NoReceiver}
 use Rattle.formal.specs.Texts.{formalAt, formalOf, typedAt}
 
 abbrev formal : Bytes → Ty Bytes → Formal Bytes
@@ -63,26 +63,36 @@ by-cases : (x : Bytes) (t : Ty Bytes) → Formal·ToString (formal x t) ≡ case
 unfolding Formal·ToString cases
 by-cases x t = refl
 
--- ---- a field with another name than `self`
+-- ---- a field that is no receiver
 
-other-cases : (x : Bytes) (t : Ty Bytes) (a b c d : Bool) → cases x t false a b c d ≡ elim d [ true ↦ x | false ↦ x ++ (ascii ": " ++ Type·ToString t) ]
+other-cases : (x : Bytes) (t : Ty Bytes) (s a b c d : Bool) → (s and (a or b or c)) ≡ false → cases x t s a b c d ≡ elim d [ true ↦ x | false ↦ x ++ (ascii ": " ++ Type·ToString t) ]
 unfolding cases _and_
-other-cases x t a b c true = refl
-other-cases x t a b c false = append-assoc x (ascii ": ") (Type·ToString t)
+other-cases x t false a b c true e = refl
+other-cases x t false a b c false e = append-assoc x (ascii ": ") (Type·ToString t)
+other-cases x t true true b c d e = impossible (cc)
+other-cases x t true false true c d e = impossible (cc)
+other-cases x t true false false true d e = impossible (cc)
+other-cases x t true false false false true e = refl
+other-cases x t true false false false false e = append-assoc x (ascii ": ") (Type·ToString t)
 
-other-text : (x : Bytes) (t : Ty Bytes) {d : Bool} → same x (ascii "self") ≡ false → isUnderscore t ≡ d
+other-text : (x : Bytes) (t : Ty Bytes) {d : Bool} → isReceiver x t ≡ false → isUnderscore t ≡ d
     → Formal·ToString (formal x t) ≡ elim d [ true ↦ x | false ↦ x ++ (ascii ": " ++ Type·ToString t) ]
+unfolding isReceiver
 other-text x t {d} e f =
-    by-cases x t ∙ ap (λ (s : Bool). cases x t s (isSelfOwned (Expand t)) (isSelfBorrowed t) (isSelfBorrowedMut t) (isUnderscore t)) e
-    ∙ ap (λ (b : Bool). cases x t false (isSelfOwned (Expand t)) (isSelfBorrowed t) (isSelfBorrowedMut t) b) f
-    ∙ other-cases x t (isSelfOwned (Expand t)) (isSelfBorrowed t) (isSelfBorrowedMut t) d
+    by-cases x t ∙ ap (λ (b : Bool). cases x t (same x (ascii "self")) (isSelfOwned (Expand t)) (isSelfBorrowed t) (isSelfBorrowedMut t) b) f
+    ∙ other-cases x t (same x (ascii "self")) (isSelfOwned (Expand t)) (isSelfBorrowed t) (isSelfBorrowedMut t) d e
 
-not-self-underscore : (x : Bytes) → same x (ascii "self") ≡ false → Formal·ToString (formal x (TIdentifier (ascii "_"))) ≡ x
+not-self-underscore : (x : Bytes) → isReceiver x (TIdentifier (ascii "_")) ≡ false → Formal·ToString (formal x (TIdentifier (ascii "_"))) ≡ x
 unfolding isUnderscore same ascii _and_
 not-self-underscore x e = other-text x (TIdentifier (ascii "_")) {d = true} e refl
 
-not-self-typed : (x : Bytes) (t : Ty Bytes) → same x (ascii "self") ≡ false → isUnderscore t ≡ false → Formal·ToString (formal x t) ≡ x ++ (ascii ": " ++ Type·ToString t)
+not-self-typed : (x : Bytes) (t : Ty Bytes) → isReceiver x t ≡ false → isUnderscore t ≡ false → Formal·ToString (formal x t) ≡ x ++ (ascii ": " ++ Type·ToString t)
 not-self-typed x t e d = other-text x t {d = false} e d
+
+-- one with another name is none
+pub other-name : {x : Bytes} {y : Reading (Ty Bytes)} → same x (ascii "self") ≡ false → NoReceiver x y
+unfolding isReceiver _and_
+other-name e = record { says = λ t n d. rw e }
 
 -- ---- a field named `self`
 
@@ -128,13 +138,13 @@ module _ (ws pairs : List ℕ) (text : Bytes) where
     abbrev named : Bytes
     named = nameBytes pairs text x
 
-    module _ (other : same named (ascii "self") ≡ false) where
+    module _ (other : NoReceiver named (typeAt ws pairs text at)) where
       pub only-name : typeAt ws pairs text at ≡ got (TIdentifier (ascii "_")) (at + 2) → formalOf ws pairs text x at ≡ got named (at + 2)
-      only-name e = map-got (λ t. Formal·ToString (formal named t)) e ∙ ap (λ (b : Bytes). got b (at + 2)) (not-self-underscore named other)
+      only-name e = map-got (λ t. Formal·ToString (formal named t)) e ∙ ap (λ (b : Bytes). got b (at + 2)) (not-self-underscore named (other .says _ _ e))
 
       pub name-and-type : ((t : Ty Bytes) (n : ℕ) → typeAt ws pairs text at ≡ got t n → isUnderscore t ≡ false) → formalOf ws pairs text x at ≡ typedAt ws pairs text x at
       unfolding run
-      name-and-type h = typed-read named at (typeAt ws pairs text at) (λ t n e. not-self-typed named t other (h t n e))
+      name-and-type h = typed-read named at (typeAt ws pairs text at) (λ t n e. not-self-typed named t (other .says t n e) (h t n e))
 
     module _ (self : same named (ascii "self") ≡ true) {t : Ty Bytes} {n : ℕ} (e : typeAt ws pairs text at ≡ got t n) where
       pub receiver-text : {r : Receiver} → r ≡ receiverOf t → formalOf ws pairs text x at ≡ got (receiverText named t r) n

@@ -1,9 +1,9 @@
 -- How a field named `self` shows, and what is asked of its type.
 use Prim.Native.Nat.{ℕ, _+_}
 use mathlib.Core.Path.{_≡_}
-use mathlib.Core.Bool.{Bool, true}
+use mathlib.Core.Bool.{Bool, true, false}
 use lib.Dec.{eqb}
-use Rattle.rast.specs.Bytes.{Bytes, ascii}
+use Rattle.rast.specs.Bytes.{Bytes, ascii, same, _and_, _or_}
 use Rattle.rast.specs.Tree.{Ty, TIdentifier}
 use Rattle.rast.specs.DeclarationToString.{Expand, isSelfOwned, isSelfBorrowed, isSelfBorrowedMut, isUnderscore}
 use Rattle.encoding.specs.Refusals.{pick}
@@ -18,6 +18,14 @@ receiverOf t =
     (pick (isSelfBorrowed t) ByRef
     (pick (isSelfBorrowedMut t) ByMut
     (pick (isUnderscore t) ByValue Typed)))
+
+-- a field shows as a receiver, `self` or a borrow of it
+unfoldable pub isReceiver : Bytes → Ty Bytes → Bool
+isReceiver x t = same x (ascii "self") and (isSelfOwned (Expand t) or isSelfBorrowed t or isSelfBorrowedMut t)
+
+-- the field named x with the type that is read does not
+pub record NoReceiver (x : Bytes) (y : Reading (Ty Bytes)) : Type 0 where
+  pub says : (t : Ty Bytes) (n : ℕ) → y ≡ got t n → isReceiver x t ≡ false
 
 -- the kinds of a borrow, `&` and `&mut`
 pub data BorrowKind : ℕ → Type 0 where

@@ -15,7 +15,7 @@ ghost use Rattle.laying.specs.Passes.{Checked, Ready};
 ghost use Rattle.laying.specs.Texts.{typeTextAt};
 ghost use Rattle.formal.specs.Texts.{formalAt, formalOf, typedAt};
 ghost use Rattle.formal.specs.Labels.{Labelled, LabelWritten};
-ghost use Rattle.formal.specs.Receivers.{receiverOf, BorrowKind, isSelfBorrowedAs, Tells};
+ghost use Rattle.formal.specs.Receivers.{receiverOf, NoReceiver, BorrowKind, isSelfBorrowedAs, Tells};
 use encoding::Refusal;
 use encoding::WordScan;
 use measure::Measure;
@@ -123,9 +123,23 @@ fn count_open(words: &[u32], pairs: &[u32], text: &[u8], name: u32, at: usize, p
     }
 }
 
-// A field with another name than `self`.
+// Whether a field may show as a receiver: it is named `self`, and its type is neither plain nor a name, which show the same whatever the field is called.
+fn may_receive(words: &[u32], pairs: &[u32], text: &[u8], name: u32, at: usize) -> bool
+    requires { ⌜ (name < nameCount (now pairs)) × Good (now pairs) (now text) ⌝ }
+    ensures { λ r. ⌜ (r ≡ true → same (nameBytes (now (pairs .entry)) (now (text .entry)) name) (ascii "self") ≡ true)
+        × (r ≡ false → NoReceiver (nameBytes (now (pairs .entry)) (now (text .entry)) name) (typeAt (now (words .entry)) (now (pairs .entry)) (now (text .entry)) at)) ⌝ }
+{
+    if encoding::is_name(pairs, text, name, 15, b"self") {
+        if at < words.len() {
+            return 12 < words[at];
+        }
+    }
+    false
+}
+
+// A field that is no receiver.
 fn count_typed(words: &[u32], pairs: &[u32], text: &[u8], name: u32, at: usize, pos: usize) -> Label
-    requires { ⌜ Checked (now words) (now pairs) (now text) × (name < nameCount (now pairs)) × (same (nameBytes (now pairs) (now text) name) (ascii "self") ≡ false) ⌝ }
+    requires { ⌜ Checked (now words) (now pairs) (now text) × (name < nameCount (now pairs)) × NoReceiver (nameBytes (now pairs) (now text) name) (typeAt (now words) (now pairs) (now text) at) ⌝ }
     ensures { λ r. ⌜ Labelled (typeTextAt (now (words .entry)) (now (pairs .entry)) (now (text .entry))) pos (formalOf (now (words .entry)) (now (pairs .entry)) (now (text .entry)) name at) r ⌝ }
 {
     if is_underscore(words, pairs, text, at) {
@@ -216,7 +230,7 @@ pub fn count_label(words: &[u32], pairs: &[u32], text: &[u8], at: usize, pos: us
 {
     match encoding::scan_below(words, encoding::name_count(pairs), at) {
         WordScan::Word { value, next } => {
-            if encoding::is_name(pairs, text, value, 15, b"self") {
+            if may_receive(words, pairs, text, value, next) {
                 return count_self(words, pairs, text, value, next, pos);
             }
             count_typed(words, pairs, text, value, next, pos)

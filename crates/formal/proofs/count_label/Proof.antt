@@ -1,11 +1,9 @@
-use Rattle.encoding.specs.Tables.{fixedNames, nameCount}
+use Rattle.encoding.specs.Tables.{nameCount}
 use Rattle.formal.proofs.Texts.{formal-got, formal-stop, labelled-as}
 use Rattle.formal.specs.Labels.{unread}
 use Rattle.laying.proofs.Leaves.{scanned-none, scanned-word}
 use Rattle.encoding.proofs.Inside.{below-there}
-use Rattle.rast.specs.Bytes.{ascii}
-use mathlib.Core.Path.{_∙_, refl, sym}
-use native.Mathlib.Omega.{arith}
+use mathlib.Core.Path.{sym}
 use borrow.Author.Needs.{needs}
 use Rattle.formal.proofs.count_label.Statement.{statement}
 use Rattle.formal.proofs.count_label.Tie as tie
@@ -19,43 +17,37 @@ scan-below-requires c κs = search needs
 enum-known-value : tie.Need-enum-known-value
 enum-known-value c = search needs
 
-slice-aggregate-is-name : tie.Need-slice-aggregate-is-name
-slice-aggregate-is-name c = search needs
-
-is-name-requires : tie.Need-is-name-requires
-unfolding ascii fixedNames
-is-name-requires c κs =
-    let start = c .before .before .before .before .before .before .before .before .before in
-    let e = scanned-word (start .args .words .now) (nameCount (start .args .pairs .now)) (start .args .at) (c .before .before .before .before .before .name-count .ensures) (c .before .before .before .before .scan-below .ensures) (c .before .before .value .given .1) in
-    (below-there _ (start .args .words .now) (start .args .at) e .below, start .pre .good, omega arith, refl)
+may-receive-requires : tie.Need-may-receive-requires
+may-receive-requires c κs =
+    let start = c .before .before .before .before .before .before .before .before in
+    let e = scanned-word (start .args .words .now) (nameCount (start .args .pairs .now)) (start .args .at) (c .before .before .before .before .name-count .ensures) (c .before .before .before .scan-below .ensures) (c .before .value .given .1) in
+    (below-there _ (start .args .words .now) (start .args .at) e .below, start .pre .good)
 
 count-self-requires : tie.Need-count-self-requires
-unfolding fixedNames
 count-self-requires c κs =
-    let start = c .before .before .before .before .before .before .before .before .before .before .before in
-    let e = scanned-word (start .args .words .now) (nameCount (start .args .pairs .now)) (start .args .at) (c .before .before .before .before .before .before .before .name-count .ensures) (c .before .before .before .before .before .before .scan-below .ensures) (c .before .before .before .before .value .given .1) in
-    (start .pre, below-there _ (start .args .words .now) (start .args .at) e .below, sym (c .before .is-name .ensures) ∙ c .if1 .taken)
+    let start = c .before .before .before .before .before .before .before .before .before .before in
+    let e = scanned-word (start .args .words .now) (nameCount (start .args .pairs .now)) (start .args .at) (c .before .before .before .before .before .before .name-count .ensures) (c .before .before .before .before .before .scan-below .ensures) (c .before .before .before .value .given .1) in
+    (start .pre, below-there _ (start .args .words .now) (start .args .at) e .below, c .before .may-receive .ensures .0 (c .if1 .taken))
 
 returns : tie.Need-returns
 returns c =
-    let start = c .before .before .before .before .before .before .before .before .before .before .before .before in
-    let e = scanned-word (start .args .words .now) (nameCount (start .args .pairs .now)) (start .args .at) (c .before .before .before .before .before .before .before .before .name-count .ensures) (c .before .before .before .before .before .before .before .scan-below .ensures) (c .before .before .before .before .before .value .given .1) in
+    let start = c .before .before .before .before .before .before .before .before .before .before .before in
+    let e = scanned-word (start .args .words .now) (nameCount (start .args .pairs .now)) (start .args .at) (c .before .before .before .before .before .before .before .name-count .ensures) (c .before .before .before .before .before .before .scan-below .ensures) (c .before .before .before .before .value .given .1) in
     labelled-as (sym (formal-got (start .args .words .now) (start .args .pairs .now) (start .args .text .now) (start .args .at) e)) (c .count-self .ensures)
 
 count-typed-requires : tie.Need-count-typed-requires
-unfolding fixedNames
 count-typed-requires c κs =
-    let start = c .before .before .before .before .before .before .before .before .before .before .before in
-    let e = scanned-word (start .args .words .now) (nameCount (start .args .pairs .now)) (start .args .at) (c .before .before .before .before .before .before .before .name-count .ensures) (c .before .before .before .before .before .before .scan-below .ensures) (c .before .before .before .before .value .given .1) in
-    (start .pre, below-there _ (start .args .words .now) (start .args .at) e .below, sym (c .before .is-name .ensures) ∙ c .if1 .left)
+    let start = c .before .before .before .before .before .before .before .before .before .before in
+    let e = scanned-word (start .args .words .now) (nameCount (start .args .pairs .now)) (start .args .at) (c .before .before .before .before .before .before .name-count .ensures) (c .before .before .before .before .before .scan-below .ensures) (c .before .before .before .value .given .1) in
+    (start .pre, below-there _ (start .args .words .now) (start .args .at) e .below, c .before .may-receive .ensures .1 (c .if1 .left))
 
 enum-known-r : tie.Need-enum-known-r
 enum-known-r c = search needs
 
 returns-2 : tie.Need-returns-2
 returns-2 c =
-    let start = c .before .before .before .before .before .before .before .before .before .before .before .before in
-    let e = scanned-word (start .args .words .now) (nameCount (start .args .pairs .now)) (start .args .at) (c .before .before .before .before .before .before .before .before .name-count .ensures) (c .before .before .before .before .before .before .before .scan-below .ensures) (c .before .before .before .before .before .value .given .1) in
+    let start = c .before .before .before .before .before .before .before .before .before .before .before in
+    let e = scanned-word (start .args .words .now) (nameCount (start .args .pairs .now)) (start .args .at) (c .before .before .before .before .before .before .before .name-count .ensures) (c .before .before .before .before .before .before .scan-below .ensures) (c .before .before .before .before .value .given .1) in
     labelled-as (sym (formal-got (start .args .words .now) (start .args .pairs .now) (start .args .text .now) (start .args .at) e)) (c .count-typed .ensures)
 
 returns-3 : tie.Need-returns-3
@@ -70,8 +62,7 @@ count-label-spec =
     name-count-requires
     scan-below-requires
     enum-known-value
-    slice-aggregate-is-name
-    is-name-requires
+    may-receive-requires
     count-self-requires
     returns
     count-typed-requires

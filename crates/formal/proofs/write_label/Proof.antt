@@ -1,7 +1,7 @@
 use Prim.Native.Nat.{_+_}
 use Rattle.encoding.proofs.Inside.{below-there}
 use Rattle.encoding.specs.Tables.{fixedNames}
-use Rattle.formal.proofs.Texts.{formal-got, name-and-type, name-read, only-name, type-read, written-as, written-bytes}
+use Rattle.formal.proofs.Texts.{formal-got, name-and-type, name-read, only-name, other-name, type-read, written-as, written-bytes}
 use Rattle.laying.proofs.Passes.{ready-as, ready-bytes}
 use Rattle.rast.specs.Bytes.{ascii}
 use Rattle.writing.proofs.Accepted.{type-here}
@@ -75,7 +75,7 @@ unfolding fixedNames
 put-name-requires c κs =
     let start = c .before .before .before .before .before .before .before .before .before .before .before in
     let e = name-read (start .args .words .now) (start .args .pairs .now) (start .args .text .now) (start .args .at) (start .pre .1) in
-    let other = sym (c .before .before .before .before .is-name .ensures) ∙ c .before .before .before .if1 .left in
+    let other = other-name (sym (c .before .before .before .before .is-name .ensures) ∙ c .before .before .before .if1 .left) in
     let only = (formal-got (start .args .words .now) (start .args .pairs .now) (start .args .text .now) (start .args .at) e) ∙ only-name (start .args .words .now) (start .args .pairs .now) (start .args .text .now) (getD (start .args .words .now) (start .args .at) 0) (start .args .at + 1) other (c .before .before .is-accepted-underscore .ensures .there (c .before .if2 .taken)) in
     (below-there _ (start .args .words .now) (start .args .at) e .below, start .pre .0 .good, ready-bytes (ready-as only (start .pre .1)) .room refl)
 
@@ -87,7 +87,7 @@ unfolding fixedNames
 returns-2 c =
     let start = c .before .before .before .before .before .before .before .before .before .before .before .before .before .before in
     let e = name-read (start .args .words .now) (start .args .pairs .now) (start .args .text .now) (start .args .at) (start .pre .1) in
-    let other = sym (c .before .before .before .before .before .before .before .is-name .ensures) ∙ c .before .before .before .before .before .before .if1 .left in
+    let other = other-name (sym (c .before .before .before .before .before .before .before .is-name .ensures) ∙ c .before .before .before .before .before .before .if1 .left) in
     let only = (formal-got (start .args .words .now) (start .args .pairs .now) (start .args .text .now) (start .args .at) e) ∙ only-name (start .args .words .now) (start .args .pairs .now) (start .args .text .now) (getD (start .args .words .now) (start .args .at) 0) (start .args .at + 1) other (c .before .before .before .before .before .is-accepted-underscore .ensures .there (c .before .before .before .before .if2 .taken)) in
     written-bytes only (c .before .before .put-name .ensures)
 
@@ -96,7 +96,7 @@ unfolding fixedNames
 write-open-requires c κs =
     let start = c .before .before .before .before .before .before .before .before .before .before .before in
     let e = name-read (start .args .words .now) (start .args .pairs .now) (start .args .text .now) (start .args .at) (start .pre .1) in
-    let other = sym (c .before .before .before .before .is-name .ensures) ∙ c .before .before .before .if1 .left in
+    let other = other-name (sym (c .before .before .before .before .is-name .ensures) ∙ c .before .before .before .if1 .left) in
     let typed = (formal-got (start .args .words .now) (start .args .pairs .now) (start .args .text .now) (start .args .at) e) ∙ name-and-type (start .args .words .now) (start .args .pairs .now) (start .args .text .now) (getD (start .args .words .now) (start .args .at) 0) (start .args .at + 1) other (λ t n d. sym (c .before .before .is-accepted-underscore .ensures .says t n d) ∙ c .before .if2 .left) in
     (start .pre .0, below-there _ (start .args .words .now) (start .args .at) e .below, ready-as typed (start .pre .1))
 
@@ -108,7 +108,7 @@ unfolding fixedNames
 returns-3 c =
     let start = c .before .before .before .before .before .before .before .before .before .before .before .before .before .before in
     let e = name-read (start .args .words .now) (start .args .pairs .now) (start .args .text .now) (start .args .at) (start .pre .1) in
-    let other = sym (c .before .before .before .before .before .before .before .is-name .ensures) ∙ c .before .before .before .before .before .before .if1 .left in
+    let other = other-name (sym (c .before .before .before .before .before .before .before .is-name .ensures) ∙ c .before .before .before .before .before .before .if1 .left) in
     let typed = (formal-got (start .args .words .now) (start .args .pairs .now) (start .args .text .now) (start .args .at) e) ∙ name-and-type (start .args .words .now) (start .args .pairs .now) (start .args .text .now) (getD (start .args .words .now) (start .args .at) 0) (start .args .at + 1) other (λ t n d. sym (c .before .before .before .before .before .is-accepted-underscore .ensures .says t n d) ∙ c .before .before .before .before .if2 .left) in
     written-as (sym typed) (c .before .before .write-open .ensures)
 
