@@ -22,14 +22,13 @@ use Rattle.encoding.proofs.Inside.{head-lies}
 use Rattle.trees.specs.Encode.{tokenWord, words}
 use Rattle.trees.specs.Places.{Place, place}
 use Rattle.trees.proofs.Nodes.{node-below, one-read}
-use Rattle.trees.proofs.Renaming.{type-words, words-some}
+use Rattle.trees.proofs.Renaming.{type-words}
 use Rattle.writing.proofs.Accepted.{type-here, synonym-head}
 use Rattle.pieces.specs.declared.After.{After}
 use Rattle.pieces.specs.declared.After.the-variants.{FieldList, CaseList, OneType, NoMore}
 use Rattle.pieces.specs.declared.Walk.{Walk}
 use Rattle.pieces.specs.declared.Next.{Next}
 use Rattle.pieces.specs.declared.Next.the-variants.{OwnWords, TypeDue, Ended, Halted}
-use Rattle.pieces.specs.declared.Start.the-variants.{NotBegun}
 use Rattle.pieces.specs.Pieces.{Piece, type, typePiece}
 use Rattle.pieces.specs.Walks.{leftAt, moved, readEntry, readTwo, Stepped, type-due, parameter, no-parameter, fields, no-fields, cases, no-cases, alias, field, no-field, nameless, no-nameless, case, no-case, end, Opening, opened, readOpening, started}
 use Rattle.pieces.proofs.Steps.{own-step, due-step, end-step, halt-step}
@@ -62,13 +61,13 @@ module _ (bound : ℕ) (ws : List ℕ) (w : Walk) where
   member-step : w .types ≡ 0 → w .parameters ≡ 0 → w .after ≡ NoMore → Step
   member-step e d a = elim (decLt 0 (w .fields)) [
     | yes h ↦ elim (ℕ-discrete (w .kind) 0) [
-        | yes k ↦ reading (readTwo 2 bound ws (w .place)) (λ v q r. by (field e d a h k r)) (λ i r. by (no-field e d a h k r))
-        | no k ↦ reading (readBelow 2 ws (w .place)) (λ v q r. by (nameless e d a h k r)) (λ i r. by (no-nameless e d a h k r))
-      ]
+      | yes k ↦ reading (readTwo 2 bound ws (w .place)) (λ v q r. by (field e d a h k r)) (λ i r. by (no-field e d a h k r))
+      | no k ↦ reading (readBelow 2 ws (w .place)) (λ v q r. by (nameless e d a h k r)) (λ i r. by (no-nameless e d a h k r))
+    ]
     | no h ↦ elim (decLt 0 (w .cases)) [
-        | yes k ↦ reading (readTwo bound bound ws (w .place)) (λ v q r. by (case e d a (omega arith) k r)) (λ i r. by (no-case e d a (omega arith) k r))
-        | no k ↦ by (end e d a (omega arith) (omega arith))
-      ]
+      | yes k ↦ reading (readTwo bound bound ws (w .place)) (λ v q r. by (case e d a (omega arith) k r)) (λ i r. by (no-case e d a (omega arith) k r))
+      | no k ↦ by (end e d a (omega arith) (omega arith))
+    ]
   ]
 
   body-step : w .types ≡ 0 → w .parameters ≡ 0 → (a : After) → w .after ≡ a → Step
@@ -81,9 +80,9 @@ module _ (bound : ℕ) (ws : List ℕ) (w : Walk) where
   next-step = elim (decLt 0 (w .types)) [
     | yes h ↦ by (type-due h)
     | no h ↦ elim (decLt 0 (w .parameters)) [
-        | yes k ↦ reading (readEntry bound ws (w .place)) (λ v q r. by (parameter (omega arith) k r)) (λ i r. by (no-parameter (omega arith) k r))
-        | no k ↦ body-step (omega arith) (omega arith) (w .after) refl
-      ]
+      | yes k ↦ reading (readEntry bound ws (w .place)) (λ v q r. by (parameter (omega arith) k r)) (λ i r. by (no-parameter (omega arith) k r))
+      | no k ↦ body-step (omega arith) (omega arith) (w .after) refl
+    ]
   ]
 
 module _ (ws pairs : List ℕ) (text : Bytes) (x : Place Bytes) where
@@ -182,7 +181,7 @@ module _ (ws pairs : List ℕ) (text : Bytes) (x : Place Bytes) where
   left-held zero w h e = let s = next-step (nameCount pairs) ws w in step-held w e (λ v qs l k d. impossible (omega arith)) (s .next) (s .steps)
   left-held (suc m) w h e = let s = next-step (nameCount pairs) ws w in step-held w e (λ v qs l k d. left-held m v (omega arith) d) (s .next) (s .steps)
 
-  -- and in a declaration
+  -- and in a declaration that was read
   pub declaration-held : {d : Declaration Bytes} {n : ℕ} → declarationAt ws pairs text 0 ≡ got d n → List·Memᴰ x (visitedDeclaration d) → Holding ws pairs text x
   declaration-held {d} {n} e = go (readOpening (nameCount pairs) ws 0) refl
     where
