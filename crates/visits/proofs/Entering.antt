@@ -49,7 +49,7 @@ module _ {N : Type 0} where
       visited-owned ks qs (p + 1) ∙ ap (λ i. visitedPieces i qs) e
 
   -- behind own words that end at n
-  visited-behind : (nm : ℕ → N) (ks : List (Token ℕ)) (qs : List (Piece N)) (p n : ℕ) {ps : List (Piece N)} → ps ≡ owned (map (renamedToken nm) ks) ++ qs → n ≡ p + length ks
+  pub visited-behind : (nm : ℕ → N) (ks : List (Token ℕ)) (qs : List (Piece N)) (p n : ℕ) {ps : List (Piece N)} → ps ≡ owned (map (renamedToken nm) ks) ++ qs → n ≡ p + length ks
       → visitedPieces p ps ≡ visitedPieces n qs
   visited-behind nm ks qs p n e d =
       ap (visitedPieces p) e ∙ visited-owned (map (renamedToken nm) ks) qs p
@@ -63,17 +63,17 @@ module _ {N : Type 0} where
 module _ (ws pairs : List ℕ) (text : Bytes) where
   -- ---- the walk that the visitor takes
 
-  record EnteredLeft (d : Declaration Bytes) (w : Walk) : Type 0 where
-    left : List (Piece Bytes)
-    end : ℕ
-    reads : leftAt ws pairs text w ≡ got left end
-    list : visitedPieces (w .place) left ≡ visitedDeclaration d
+  pub record EnteredLeft (d : Declaration Bytes) (w : Walk) : Type 0 where
+    pub left : List (Piece Bytes)
+    pub end : ℕ
+    pub reads : leftAt ws pairs text w ≡ got left end
+    pub list : visitedPieces (w .place) left ≡ visitedDeclaration d
 
   same-after : (o : Opening) (n : ℕ) → enteredAfter (o .after) ≡ o .after → opened o n ≡ enteredWalk (opened o n)
   same-after o n e =
       ap (λ (a : After). record { place = n; types = 0; parameters = o .parameters; after = a; kind = 0; fields = 0; cases = 0 }) (sym e)
 
-  entered-left : {d : Declaration Bytes} {e : ℕ} {o : Opening} {n : ℕ} → declarationAt ws pairs text 0 ≡ got d e → readOpening (nameCount pairs) ws 0 ≡ got o n → EnteredLeft d (enteredWalk (opened o n))
+  pub entered-left : {d : Declaration Bytes} {e : ℕ} {o : Opening} {n : ℕ} → declarationAt ws pairs text 0 ≡ got d e → readOpening (nameCount pairs) ws 0 ≡ got o n → EnteredLeft d (enteredWalk (opened o n))
   unfolding visitedDeclaration entered
   entered-left {d} {e} {o} {n} h k = go (kind-of (nameCount pairs) ws (nameBytes pairs text) (typeAt ws pairs text) 0 h k)
     where

@@ -5,4 +5,5 @@ pub mod Lists
 pub mod Passes
 pub mod Answers
 pub mod Entering
+pub mod Holding
 pub mod Examples

@@ -5,14 +5,14 @@ use mathlib.Core.List.{List, [], _∷_, _++_, append-nil, append-assoc}
 use native.Mathlib.Omega.{arith}
 use native.Mathlib.Nat.{suc-add, zero-add, add-zero}
 use lib.ListN.{length-append}
-use Rattle.rast.specs.Tree.{Ty, Tys, nil, cons}
+use Rattle.rast.specs.Tree.{Ty, Tys, TSynonym, nil, cons}
 use Rattle.encoding.specs.declared.Head.{Head}
 use Rattle.encoding.specs.Reading.{Reading, got}
 use Rattle.encoding.specs.Types.{readTypes}
 use Rattle.encoding.proofs.Types.{made₂-got, snoc}
 use Rattle.encoding.proofs.TypeKinds.{kind}
 use Rattle.trees.specs.Encode.{tokens, tokensAll, words, wordsAll}
-use Rattle.trees.specs.Places.{Place}
+use Rattle.trees.specs.Places.{Place, place}
 use Rattle.trees.proofs.Nodes.{Node, plain, ident, path, apply, ref, refMut, impl, dyn, tuple, function, both, array, synonym, meta, words-cons, words-one, words-snoc}
 use Rattle.visits.specs.Visited.{visitedFrom, visitedAll, positions}
 
@@ -38,50 +38,53 @@ module _ {N : Type 0} where
   abbrev pub listOf : ℕ → Tys N → List ℕ
   listOf p ts = positions (visitedAll p ts)
 
-  pub list-join : (ts us : Tys N) (p : ℕ) → listOf p (append ts us) ≡ listOf p ts ++ listOf (p + wordsAll ts) us
+  pub visited-join : (ts us : Tys N) (p : ℕ) → visitedAll p (append ts us) ≡ visitedAll p ts ++ visitedAll (p + wordsAll ts) us
   unfolding visitedFrom append wordsAll tokens
-  list-join nil us p = rw (add-zero p)
-  list-join (cons t ts) us p =
+  visited-join nil us p = rw (add-zero p)
+  visited-join (cons t ts) us p =
       let e : p + words t + wordsAll ts ≡ p + wordsAll (cons t ts) = omega (arith, words-cons t ts) in
-      positions-append (visitedFrom p t) (visitedAll (p + words t) (append ts us))
-      ∙ ap (λ (l : List ℕ). positions (visitedFrom p t) ++ l) (list-join ts us (p + words t))
-      ∙ sym (append-assoc (positions (visitedFrom p t)) (listOf (p + words t) ts) (listOf (p + words t + wordsAll ts) us))
-      ∙ rw (sym (positions-append (visitedFrom p t) (visitedAll (p + words t) ts)), e)
-
-  list-snoc : (ts : Tys N) (t : Ty N) (p : ℕ) → listOf p (snoc ts t) ≡ positions (visitedAll p ts ++ visitedFrom (p + wordsAll ts) t)
-  unfolding visitedFrom snoc wordsAll tokens
-  list-snoc nil t p = rw (add-zero p, append-nil (visitedFrom p t))
-  list-snoc (cons u us) t p =
-      let e : p + words u + wordsAll us ≡ p + wordsAll (cons u us) = omega (arith, words-cons u us) in
-      positions-append (visitedFrom p u) (visitedAll (p + words u) (snoc us t))
-      ∙ ap (λ (l : List ℕ). positions (visitedFrom p u) ++ l) (list-snoc us t (p + words u))
-      ∙ sym (positions-append (visitedFrom p u) (visitedAll (p + words u) us ++ visitedFrom (p + words u + wordsAll us) t))
-      ∙ rw (sym (append-assoc (visitedFrom p u) (visitedAll (p + words u) us) (visitedFrom (p + words u + wordsAll us) t)), e)
+      ap (λ (l : List (Place N)). visitedFrom p t ++ l) (visited-join ts us (p + words t))
+      ∙ sym (append-assoc (visitedFrom p t) (visitedAll (p + words t) ts) (visitedAll (p + words t + wordsAll ts) us))
+      ∙ rw e
 
   -- one type alone
-  list-one : (t : Ty N) (p : ℕ) → listOf p (cons t nil) ≡ positions (visitedFrom p t)
+  visited-one : (t : Ty N) (p : ℕ) → visitedAll p (cons t nil) ≡ visitedFrom p t
   unfolding visitedFrom
-  list-one t p = ap positions (append-nil (visitedFrom p t))
+  visited-one t p = append-nil (visitedFrom p t)
 
-  -- a type's list is its position, and the list of the types that follow its head; a synonym's base is not in it
-  pub list-node : {ws : List ℕ} {name : ℕ → N} {h : Head} {ts : Tys N} {t : Ty N} (at q : ℕ) → Node ws name h ts t → (kind t ≡ 23 → ⊥) → q + wordsAll ts ≡ at + words t
-      → positions (visitedFrom at t) ≡ at ∷ listOf q ts
+  visited-snoc : (ts : Tys N) (t : Ty N) (p : ℕ) → visitedAll p (snoc ts t) ≡ visitedAll p ts ++ visitedFrom (p + wordsAll ts) t
+  unfolding visitedFrom snoc wordsAll tokens
+  visited-snoc nil t p = rw (add-zero p) (visited-one t p)
+  visited-snoc (cons u us) t p =
+      let e : p + words u + wordsAll us ≡ p + wordsAll (cons u us) = omega (arith, words-cons u us) in
+      ap (λ (l : List (Place N)). visitedFrom p u ++ l) (visited-snoc us t (p + words u))
+      ∙ sym (append-assoc (visitedFrom p u) (visitedAll (p + words u) us) (visitedFrom (p + words u + wordsAll us) t))
+      ∙ rw e
+
+  -- a synonym's list is its place, and the list of its display
+  pub visited-synonym : {t : Ty N} (at : ℕ) (d b : Ty N) → t ≡ TSynonym d b → visitedFrom at t ≡ place at t ∷ visitedAll (at + 1) (cons d nil)
+  unfolding visitedFrom
+  visited-synonym at d b g = rw (g, visited-one d (at + 1))
+
+  -- a type's list is its place, and the list of the types that follow its head; a synonym's base is not in it
+  pub visited-node : {ws : List ℕ} {name : ℕ → N} {h : Head} {ts : Tys N} {t : Ty N} (at q : ℕ) → Node ws name h ts t → (kind t ≡ 23 → ⊥) → q + wordsAll ts ≡ at + words t
+      → visitedFrom at t ≡ place at t ∷ visitedAll q ts
   unfolding visitedFrom words wordsAll tokens
-  list-node at q (plain w) k e = refl
-  list-node at q (ident x) k e = refl
-  list-node at q (path p) k e = refl
-  list-node at q (apply n b ts) k e =
+  visited-node at q (plain w) k e = refl
+  visited-node at q (ident x) k e = refl
+  visited-node at q (path p) k e = refl
+  visited-node at q (apply n b ts) k e =
       let z : q ≡ at + 2 = omega (arith, words-cons b ts, length-append (tokens b) (tokensAll ts)) in rw z
-  list-node at q (ref t) k e = let z : q ≡ at + 1 = omega (arith, words-one t) in rw (z, list-one t (at + 1))
-  list-node at q (refMut t) k e = let z : q ≡ at + 1 = omega (arith, words-one t) in rw (z, list-one t (at + 1))
-  list-node at q (impl t) k e = let z : q ≡ at + 1 = omega (arith, words-one t) in rw (z, list-one t (at + 1))
-  list-node at q (dyn t) k e = let z : q ≡ at + 1 = omega (arith, words-one t) in rw (z, list-one t (at + 1))
-  list-node at q (tuple n ts) k e = let z : q ≡ at + 2 = omega arith in rw z
-  list-node at q (function n ts t) k e =
-      let z : q ≡ at + 2 = omega (arith, words-snoc ts t, length-append (tokensAll ts) (tokens t)) in rw (z, list-snoc ts t (at + 2))
-  list-node at q (both l r) k e =
+  visited-node at q (ref t) k e = let z : q ≡ at + 1 = omega (arith, words-one t) in rw (z, visited-one t (at + 1))
+  visited-node at q (refMut t) k e = let z : q ≡ at + 1 = omega (arith, words-one t) in rw (z, visited-one t (at + 1))
+  visited-node at q (impl t) k e = let z : q ≡ at + 1 = omega (arith, words-one t) in rw (z, visited-one t (at + 1))
+  visited-node at q (dyn t) k e = let z : q ≡ at + 1 = omega (arith, words-one t) in rw (z, visited-one t (at + 1))
+  visited-node at q (tuple n ts) k e = let z : q ≡ at + 2 = omega arith in rw z
+  visited-node at q (function n ts t) k e =
+      let z : q ≡ at + 2 = omega (arith, words-snoc ts t, length-append (tokensAll ts) (tokens t)) in rw (z, visited-snoc ts t (at + 2))
+  visited-node at q (both l r) k e =
       let z : q ≡ at + 1 = omega (arith, words-cons l (cons r nil), words-one r, length-append (tokens l) (tokens r)) in
       rw (z, append-nil (visitedFrom (at + 1 + words l) r))
-  list-node at q (array s t) k e = let z : q ≡ at + 2 = omega (arith, words-one t) in rw (z, list-one t (at + 2))
-  list-node at q (synonym d b) k e = absurd (k refl)
-  list-node at q (meta x d) k e = let z : q ≡ at + 2 = omega (arith, words-one d) in rw (z, list-one d (at + 2))
+  visited-node at q (array s t) k e = let z : q ≡ at + 2 = omega (arith, words-one t) in rw (z, visited-one t (at + 2))
+  visited-node at q (synonym d b) k e = absurd (k refl)
+  visited-node at q (meta x d) k e = let z : q ≡ at + 2 = omega (arith, words-one d) in rw (z, visited-one d (at + 2))

@@ -18,6 +18,7 @@ use Rattle.encoding.proofs.TypeKinds.{type-kind}
 use Rattle.encoding.proofs.Inside.{head-lies}
 use Rattle.encoding.proofs.HeadWords.{words-kids, words-end}
 use Rattle.trees.specs.Encode.{words, wordsAll, tokens}
+use Rattle.trees.specs.Places.{place}
 use Rattle.trees.proofs.Nodes.{node-below, words-cons, one-read}
 use Rattle.trees.proofs.Renaming.{type-words, numbered}
 use Rattle.trees.proofs.Heads.{head-here}
@@ -25,17 +26,16 @@ use Rattle.writing.specs.declared.Spot.{Spot}
 use Rattle.writing.specs.Written.{Readable, EndsAt}
 use Rattle.writing.proofs.Accepted.{type-here, synonym-head}
 use Rattle.writing.proofs.Skipping.{first-of, types-fit}
-use Rattle.visits.specs.Visited.{visitedFrom, visitedAll, positions}
+use Rattle.visits.specs.Visited.{visitedFrom, visitedAll}
 use Rattle.visits.specs.Calls.{Due, Visited}
-use Rattle.visits.proofs.Lists.{append, types-join, positions-append, listOf, list-join, list-node}
+use Rattle.visits.proofs.Lists.{append, types-join, positions-append, listOf, visited-join, visited-node}
 
 -- the list of a type and of those behind it, by the types that follow its head
-list-behind : (at : ℕ) (vs : Tys Bytes) (t : Ty Bytes) (us : Tys Bytes) (q : ℕ) (ts : Tys Bytes) → vs ≡ cons t us → positions (visitedFrom at t) ≡ at ∷ listOf q ts
+list-behind : (at : ℕ) (vs : Tys Bytes) (t : Ty Bytes) (us : Tys Bytes) (q : ℕ) (ts : Tys Bytes) → vs ≡ cons t us → visitedFrom at t ≡ place at t ∷ visitedAll q ts
     → q + wordsAll ts ≡ at + words t → listOf at vs ≡ at ∷ listOf q (append ts us)
 unfolding visitedFrom
 list-behind at vs t us q ts g own e =
-    ap (listOf at) g ∙ positions-append (visitedFrom at t) (visitedAll (at + words t) us)
-    ∙ rw (own, list-join ts us q, e)
+    ap (listOf at) g ∙ rw (own, visited-join ts us q, e)
 
 -- the same of a synonym, whose display alone is visited
 synonym-list : (at : ℕ) (d b : Ty Bytes) (us : Tys Bytes) (n : ℕ) {vs ts : Tys Bytes} → vs ≡ cons (TSynonym d b) us → ts ≡ cons d nil → n ≡ at + words (TSynonym d b)
@@ -46,7 +46,7 @@ synonym-list at d b us n g h e =
     ∙ rw (e, h, append-nil (visitedFrom (at + 1) d))
 
 module _ (ws pairs : List ℕ) (text : Bytes) where
-  types-words : (k p : ℕ) {ts : Tys Bytes} {n : ℕ} → readTypes (typeAt ws pairs text) k p ≡ got ts n → n ≡ p + wordsAll ts
+  pub types-words : (k p : ℕ) {ts : Tys Bytes} {n : ℕ} → readTypes (typeAt ws pairs text) k p ≡ got ts n → n ≡ p + wordsAll ts
   unfolding readTypes wordsAll tokens
   types-words zero p {ts} {n} e = let z : ts ≡ nil = cc in let y : p ≡ n = cc in rw z (omega arith)
   types-words (suc k) p {ts} {n} e =
@@ -163,7 +163,7 @@ module _ {ws pairs : List ℕ} {text : Bytes} {at due : ℕ} {o : List ℕ} {pos
             let lies = head-lies (nameCount pairs) ws place e in
             let m₁ = type-words ws pairs text place (f .reads) in
             let m₂ = types-words ws pairs text (kids h) q (b .reads) in
-            let own = list-node place q (b .node) (λ z. k (sym (type-kind ws pairs text place (f .reads)) ∙ z)) (sym m₂ ∙ m₁) in
+            let own = visited-node place q (b .node) (λ z. k (sym (type-kind ws pairs text place (f .reads)) ∙ z)) (sym m₂ ∙ m₁) in
             let c : kids h + (left - 1) ≡ left - 1 + kids h = omega arith in
             let joined = rw c at (types-join (typeAt ws pairs text) (kids h) (left - 1) q (b .reads) (f .reads₂)) in
             let fit = types-fit ws pairs text (left - 1 + kids h) q (lies .ends) (record { types = append ts us; reads = joined }) in
