@@ -36,7 +36,7 @@ use Rattle.pieces.proofs.Passes.{BegunAt, not-begun}
 use Rattle.pieces.proofs.Fronts.{Behind, behind-got, whole-left, Kind, a-struct, an-enum, a-synonym, a-use, kind-of}
 use Rattle.visits.specs.Visited.{visitedFrom, visitedPieces, entered, visitedDeclaration, positions}
 use Rattle.pieces.specs.declared.Whole.the-variants.{ADeclaration}
-use Rattle.visits.specs.Calls.{enteredAfter, enteredWalk, Ahead, Going, Entered, AllVisited, Due, Visited}
+use Rattle.visits.specs.Passes.{enteredAfter, enteredWalk, Ahead, Going, Entered, AllVisited, Due, Visited}
 use Rattle.visits.proofs.Lists.{listOf, positions-append}
 
 module _ {N : Type 0} where

@@ -26,7 +26,7 @@ use Rattle.writing.specs.Written.{Readable, EndsAt}
 use Rattle.writing.proofs.Accepted.{type-here, synonym-head}
 use Rattle.writing.proofs.Skipping.{first-of, types-fit}
 use Rattle.visits.specs.Visited.{visitedFrom, visitedAll, positions}
-use Rattle.visits.specs.Calls.{Due, Visited}
+use Rattle.visits.specs.Passes.{Due, Visited}
 use Rattle.visits.proofs.Lists.{append, types-join, positions-append, listOf, list-join, list-node}
 
 -- the list of a type and of those behind it, by the types that follow its head
