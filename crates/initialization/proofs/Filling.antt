@@ -40,7 +40,8 @@ use Rattle.shapes.specs.Shapes.{IsObject, IsObjectOrPointer}
 use Rattle.shapes.specs.Initialization.{ObjectType, PtrType, orThis, newUnderlying, TypeAtInitialization}
 use Rattle.rebuild.specs.declared.RebuildAnswer.{RebuildAnswer}
 use Rattle.rebuild.specs.declared.RebuildAnswer.the-variants.{Length, Refused}
-use Rattle.rebuild.specs.Calls.{Laid, roomOf, zeros, laidDown, sameWords, Fills}
+use Rattle.rebuild.specs.Calls.{Laid, roomOf, zeros, laidDown}
+use Rattle.rebuild.specs.Attempts.{sameWords, Fills}
 use Rattle.rebuild.proofs.Calls.{down-over, down-deep, down-front, shallow}
 use Rattle.initialization.specs.declared.Initial.{Initial}
 use Rattle.initialization.specs.declared.Initial.the-variants.{OfArray, Unchanged}

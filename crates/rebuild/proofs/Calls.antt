@@ -26,7 +26,8 @@ use Rattle.rebuild.specs.declared.RebuildAnswer.the-variants.{Length, Re
 use Rattle.rebuild.specs.declared.Attempt.{Attempt}
 use Rattle.rebuild.specs.declared.Attempt.the-variants.{Answered, NoRoom}
 use Rattle.rebuild.specs.Laid.{Rebuilds, rebuilt, full, ruleList, Ruled}
-use Rattle.rebuild.specs.Calls.{sameWords, Laid, roomOf, zeros, laidDown, ruledBy, LaidRebuilds, Attempted, answered, noRoom, Fills}
+use Rattle.rebuild.specs.Calls.{Laid, roomOf, zeros, laidDown, ruledBy}
+use Rattle.rebuild.specs.Attempts.{sameWords, LaidRebuilds, Attempted, answered, noRoom, Fills}
 use Rattle.rebuild.proofs.Types.{came, filled}
 
 -- more words would lie there than there is room

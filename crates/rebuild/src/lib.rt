@@ -12,7 +12,8 @@ ghost use Rattle.writing.specs.Written.{Readable};
 ghost use Rattle.rules.specs.Table.{Fits, foundFrom};
 ghost use Rattle.rules.specs.Scans.{Spans};
 ghost use Rattle.rebuild.specs.Laid.{Lays, GivesTo, Settles, Ruled, mapping, WordRebuilds, PartsRebuild, TypeRebuilds, TypesRebuild};
-ghost use Rattle.rebuild.specs.Calls.{sameWords, zeros, laidDown};
+ghost use Rattle.rebuild.specs.Calls.{zeros, laidDown};
+ghost use Rattle.rebuild.specs.Attempts.{sameWords};
 use encoding::Refusal;
 use rules::Found;
 

@@ -35,7 +35,8 @@ use Rattle.rules.proofs.Lists.{check-tables}
 use Rattle.rules.proofs.Nowhere.{none-gives-way}
 use Rattle.rebuild.specs.declared.RebuildAnswer.{RebuildAnswer}
 use Rattle.rebuild.specs.Laid.{ruleList, mapping, Ruled}
-use Rattle.rebuild.specs.Calls.{Laid, laidDown, laidType, sameWords, typeRebuilt, Fills}
+use Rattle.rebuild.specs.Calls.{Laid, laidDown, laidType, typeRebuilt}
+use Rattle.rebuild.specs.Attempts.{sameWords, Fills}
 use Rattle.rebuild.proofs.Calls.{both-given, shallow}
 use Rattle.pieces.specs.Pieces.{Piece, own, type, pieces, declarationTokens, encodeDeclaration}
 use Rattle.pieces.specs.WithTypes.{pieceWith}

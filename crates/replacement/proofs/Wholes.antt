@@ -23,7 +23,8 @@ use Rattle.rebuild.specs.declared.Attempt.{Attempt}
 use Rattle.rebuild.specs.declared.RebuildAnswer.{RebuildAnswer}
 use Rattle.rebuild.specs.declared.RebuildAnswer.the-variants.{Refused}
 use Rattle.rebuild.specs.Laid.{ruleList, mapping}
-use Rattle.rebuild.specs.Calls.{Laid, laidDown, laidType, Attempted, Fills}
+use Rattle.rebuild.specs.Calls.{Laid, laidDown, laidType}
+use Rattle.rebuild.specs.Attempts.{Attempted, Fills}
 use Rattle.rebuild.proofs.Calls.{tree-stops, tree-over, rules-stop-it, whole-filled}
 use Rattle.rebuild_declaration.specs.Calls.{declarationIn, laidDeclaration}
 use Rattle.pieces.specs.declared.Whole.{Whole}
