@@ -41,7 +41,8 @@ use Rattle.rebuild.proofs.Calls.{both-given, shallow}
 use Rattle.pieces.specs.Pieces.{Piece, own, type, pieces, declarationTokens, encodeDeclaration}
 use Rattle.pieces.specs.WithTypes.{pieceWith}
 use Rattle.pieces.proofs.Encoded.{declaration-run}
-use Rattle.rebuild_declaration.specs.Laying.{encodePieces, deepestPiece, topPieces}
+use Rattle.rebuild_declaration.specs.Laying.{deepestPiece, topPieces}
+use Rattle.rebuild_declaration.specs.Steps.{encodePieces}
 use Rattle.rebuild_declaration.specs.Calls.{declarationIn, laidDeclaration, declarationRebuilt}
 use Rattle.rebuild_declaration.proofs.Pieces.{encode-none, encode-own, encode-type, declaration-words, declaration-depth}
 use Rattle.pieces.specs.declared.Whole.{Whole}
