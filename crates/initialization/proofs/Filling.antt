@@ -35,7 +35,7 @@ use Rattle.replace.proofs.Depths.{within, tree-deep}
 use Rattle.rules.specs.Scans.{Spans, depthOf}
 use Rattle.classes.specs.Matches.{argument}
 use Rattle.classes.specs.Steps.{when, andThen}
-use Rattle.shapes.specs.Asked.{acceptance}
+use Rattle.shapes.specs.Accepted.{acceptance}
 use Rattle.shapes.specs.Shapes.{IsObject, IsObjectOrPointer}
 use Rattle.shapes.specs.Initialization.{ObjectType, PtrType, orThis, newUnderlying, TypeAtInitialization}
 use Rattle.rebuild.specs.declared.RebuildAnswer.{RebuildAnswer}

@@ -10,7 +10,7 @@ ghost use Rattle.encoding.specs.Types.{typeAt};
 ghost use Rattle.trees.specs.Numbered.{treeAt};
 ghost use Rattle.writing.specs.Written.{Readable};
 ghost use Rattle.rules.specs.Scans.{depthOf};
-ghost use Rattle.shapes.specs.Asked.{acceptance};
+ghost use Rattle.shapes.specs.Accepted.{acceptance};
 ghost use Rattle.shapes.specs.Initialization.{newUnderlying};
 ghost use Rattle.rebuild.specs.Calls.{laidDown};
 ghost use Rattle.rebuild.specs.Attempts.{Fills};

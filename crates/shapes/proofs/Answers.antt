@@ -25,7 +25,8 @@ use Rattle.writing.specs.Written.{Readable}
 use Rattle.wrappers.specs.Asked.{Judges}
 use Rattle.shapes.specs.declared.ShapeAnswer.{ShapeAnswer}
 use Rattle.shapes.specs.declared.ShapeAnswer.the-variants.{Refused}
-use Rattle.shapes.specs.Asked.{shapeAnswer, acceptance}
+use Rattle.shapes.specs.Asked.{shapeAnswer}
+use Rattle.shapes.specs.Accepted.{acceptance}
 
 -- ---- accepting
 
