@@ -17,7 +17,8 @@ use Rattle.encoding.specs.declared.Refusal.the-variants.{LeftOver, TooDeep, Buf
 use Rattle.encoding.specs.declared.Check.{Check}
 use Rattle.encoding.specs.declared.Check.the-variants.{Passed, Failed}
 use Rattle.encoding.specs.Refusals.{pick, given, refused, mapAnswer, unless}
-use Rattle.encoding.specs.Reading.{Reading, got, stop, mapReading, whole}
+use Rattle.encoding.specs.Reading.{Reading, got, stop, whole}
+use Rattle.encoding.specs.Scans.{mapReading}
 use Rattle.encoding.specs.Tables.{nameBytes, nameCount, checkTables}
 use Rattle.encoding.specs.Heads.{readHead}
 use Rattle.encoding.specs.Types.{readNode, readType}

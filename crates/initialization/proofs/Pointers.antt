@@ -12,7 +12,7 @@ use Rattle.rast.specs.Tree.{Ty, Tys, Primitive, TIdentifier, TypeFromPath, Type
 use Rattle.rast.specs.DeclarationToString.{Expand}
 use Rattle.rast.proofs.BytesLaws.{and-false, and-true}
 use Rattle.encoding.specs.declared.PathAt.{PathAt}
-use Rattle.encoding.specs.Heads.{InsidePath}
+use Rattle.encoding.specs.HeadWords.{InsidePath}
 use Rattle.encoding.specs.Refusals.{pick}
 use Rattle.encoding.specs.Reading.{got}
 use Rattle.encoding.specs.Tables.{nameBytes, nameCount}

@@ -1,6 +1,6 @@
 // Parts of the type that an encoding holds: where each stands, and the part of the caller's words itself.
 ghost use mathlib.Core.Path.{_≡_};
-ghost use Rattle.encoding.specs.Tables.{Good};
+ghost use Rattle.encoding.specs.Tested.{Good};
 ghost use Rattle.encoding.specs.Types.{typeAt};
 ghost use Rattle.writing.specs.Written.{Readable};
 ghost use Rattle.classes.specs.Asked.{Finds};

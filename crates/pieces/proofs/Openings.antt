@@ -11,7 +11,8 @@ use Rattle.rast.specs.Declaration.{Attribute, TypeParamDecl, Fields, EnumCase, 
 use Rattle.encoding.specs.declared.Refusal.the-variants.{UnknownWord}
 use Rattle.encoding.specs.declared.PathAt.{PathAt}
 use Rattle.encoding.specs.Refusals.{pick}
-use Rattle.encoding.specs.Reading.{Reading, got, stop, _>>=_, mapReading, readWord, readBelow}
+use Rattle.encoding.specs.Reading.{Reading, got, stop, _>>=_, readWord, readBelow}
+use Rattle.encoding.specs.Scans.{mapReading}
 use Rattle.encoding.specs.Heads.{readPath}
 use Rattle.encoding.specs.Types.{rootOf, pathOf}
 use Rattle.encoding.specs.Declarations.{structHead, enumHead, synonymHead, useHead, readList, readCounted, visibilityOf, readVisibility, readName, readAttribute, readParameter, readFields, readCase, readStruct, readEnum, readTypeSynonym, readUse, declarationAfter, readDeclaration}

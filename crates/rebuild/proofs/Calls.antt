@@ -10,7 +10,8 @@ use Rattle.rast.specs.Bytes.{Bytes}
 use Rattle.encoding.specs.declared.Refusal.{Refusal}
 use Rattle.encoding.specs.declared.Refusal.the-variants.{LeftOver, TooDeep, BufferTooShort}
 use Rattle.encoding.specs.Refusals.{Answer, given, refused}
-use Rattle.encoding.specs.Reading.{Reading, got, stop, mapReading, whole}
+use Rattle.encoding.specs.Reading.{Reading, got, stop, whole}
+use Rattle.encoding.specs.Scans.{mapReading}
 use Rattle.encoding.proofs.Tables.{impossible}
 use Rattle.output.proofs.Laws.{sets-front}
 use Rattle.encoding.proofs.Reading.{map-got}

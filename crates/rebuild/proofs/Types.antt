@@ -8,7 +8,8 @@ use Rattle.rast.specs.Bytes.{Bytes}
 use Rattle.rast.specs.Tree.{Ty, Tys, nil, cons, count}
 use Rattle.encoding.specs.Reading.{Reading, got}
 use Rattle.encoding.specs.Tables.{nameBytes, nameCount}
-use Rattle.encoding.specs.Heads.{readHead, kids, typesBelow, ownEnd}
+use Rattle.encoding.specs.Heads.{readHead}
+use Rattle.encoding.specs.HeadWords.{kids, typesBelow, ownEnd}
 use Rattle.encoding.specs.Types.{readTypes}
 use Rattle.encoding.proofs.Tables.{impossible}
 use Rattle.encoding.proofs.Inside.{head-lies}

@@ -6,7 +6,8 @@ use native.Mathlib.Omega.{arith}
 use lib.ListN.{length, take, drop, length-map}
 use Rattle.rast.specs.Tree.{Ty}
 use Rattle.encoding.specs.declared.Refusal.{Refusal}
-use Rattle.encoding.specs.Reading.{Reading, got, stop, mapReading}
+use Rattle.encoding.specs.Reading.{Reading, got, stop}
+use Rattle.encoding.specs.Scans.{mapReading}
 use Rattle.encoding.specs.Tables.{nameCount}
 use Rattle.encoding.proofs.Tables.{impossible}
 use Rattle.encoding.proofs.Types.{bind-got}

@@ -16,8 +16,8 @@ use Rattle.encoding.specs.declared.Check.the-variants.{Passed, Failed}
 use Rattle.encoding.specs.declared.Refusal.the-variants.{LeftOver}
 use Rattle.encoding.specs.declared.Scan.the-variants.{At}
 use Rattle.encoding.specs.Refusals.{pick, given, refused, unless}
-use Rattle.encoding.specs.Reading.{Reading, got, stop, mapReading, readBelow, readWord, whole}
-use Rattle.encoding.specs.Scans.{ended}
+use Rattle.encoding.specs.Reading.{Reading, got, stop, readBelow, readWord, whole}
+use Rattle.encoding.specs.Scans.{ended, mapReading}
 use Rattle.encoding.specs.Tables.{checkTables, nameBytes}
 use Rattle.encoding.specs.Declarations.{readList}
 use Rattle.encoding.proofs.Tables.{impossible}

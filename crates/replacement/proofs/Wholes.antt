@@ -9,8 +9,8 @@ use Rattle.encoding.specs.declared.Refusal.{Refusal}
 use Rattle.encoding.specs.declared.Refusal.the-variants.{LeftOver}
 use Rattle.encoding.specs.declared.Scan.the-variants.{At, Refused as Halted}
 use Rattle.encoding.specs.Refusals.{given, refused}
-use Rattle.encoding.specs.Reading.{Reading, got, stop, mapReading}
-use Rattle.encoding.specs.Scans.{ended}
+use Rattle.encoding.specs.Reading.{Reading, got, stop}
+use Rattle.encoding.specs.Scans.{ended, mapReading}
 use Rattle.encoding.proofs.Tables.{impossible}
 use Rattle.trees.specs.Numbered.{treeAt}
 use Rattle.writing.specs.Written.{Readable}

@@ -7,7 +7,7 @@ ghost use lib.ListN.{length};
 ghost use Rattle.encoding.specs.Refusals.{unless};
 ghost use Rattle.encoding.specs.Scans.{ended};
 ghost use Rattle.encoding.specs.declared.Scan.the-variants.{At};
-ghost use Rattle.encoding.specs.Tables.{Good};
+ghost use Rattle.encoding.specs.Tested.{Good};
 ghost use Rattle.writing.specs.Written.{Readable};
 ghost use Rattle.replace.specs.Rules.{checkAll};
 ghost use Rattle.rebuild.specs.Laid.{Ruled, mapping};

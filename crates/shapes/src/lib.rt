@@ -5,7 +5,7 @@ ghost use lib.ListN.{length};
 ghost use Rattle.rast.specs.Bytes.{_or_};
 ghost use Rattle.encoding.specs.Refusals.{given, mapAnswer};
 ghost use Rattle.encoding.specs.Reading.{whole};
-ghost use Rattle.encoding.specs.Tables.{Good};
+ghost use Rattle.encoding.specs.Tested.{Good};
 ghost use Rattle.encoding.specs.Types.{typeAt, typeOf};
 ghost use Rattle.writing.specs.Written.{Readable};
 ghost use Rattle.wrappers.specs.Asked.{Judges};

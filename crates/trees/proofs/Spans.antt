@@ -14,7 +14,8 @@ use Rattle.encoding.specs.declared.Head.{Head}
 use Rattle.encoding.specs.declared.Head.the-variants.{Plain, Name, FromPath, Apply, Ref, RefMut, Impl, Dyn, Tuple, Function, Both, ArrayOf, Synonym, Meta}
 use Rattle.encoding.specs.Refusals.{pick}
 use Rattle.encoding.specs.Reading.{Reading, got, _>>=_, readWord, readBelow, readNames}
-use Rattle.encoding.specs.Heads.{headKind, readPath, pathHead, headAfter, readHead, kids}
+use Rattle.encoding.specs.Heads.{readPath, pathHead, headAfter, readHead}
+use Rattle.encoding.specs.HeadWords.{headKind, kids}
 use Rattle.encoding.specs.Types.{primitives, rootOf, pathOf, sizeOf, readTypes, readType}
 use Rattle.encoding.proofs.Tables.{impossible, everyBelow, every-at}
 use Rattle.encoding.proofs.Heads.{head-at}

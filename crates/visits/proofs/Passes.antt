@@ -11,7 +11,8 @@ use Rattle.output.proofs.Laws.{wrote-nothing, wrote-then, wrote-as, wrote-kept}
 use Rattle.encoding.specs.declared.Head.{Head}
 use Rattle.encoding.specs.Tables.{nameBytes, nameCount}
 use Rattle.encoding.specs.Reading.{got}
-use Rattle.encoding.specs.Heads.{readHead, kids, HeadHere, typesBelow, ownEnd}
+use Rattle.encoding.specs.Heads.{readHead}
+use Rattle.encoding.specs.HeadWords.{kids, HeadHere, typesBelow, ownEnd}
 use Rattle.encoding.specs.Types.{readTypes, readNode, readType, typeAt}
 use Rattle.encoding.proofs.Types.{Made₂, bind-got, made₂-got, node-of, type-lies}
 use Rattle.encoding.proofs.TypeKinds.{type-kind}
