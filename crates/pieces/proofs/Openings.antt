@@ -19,7 +19,8 @@ use Rattle.encoding.specs.Declarations.{structHead, enumHead, synonymHead, useH
 use Rattle.encoding.proofs.Reading.{map-same}
 use Rattle.measure.proofs.Texts.{bind-assoc, bind-same}
 use Rattle.trees.specs.Renamed.{renamedSize}
-use Rattle.trees.specs.Encode.{Token, word, name, size, renamedToken, rootWord, names, pathTokens}
+use Rattle.trees.specs.Encode.{Token, word, name, size, rootWord, names, pathTokens}
+use Rattle.trees.specs.Tokens.{renamedToken}
 use Rattle.trees.proofs.Spans.{path-names, path-root}
 use Rattle.trees.proofs.Renaming.{map-on, names-renamed}
 use Rattle.pieces.specs.declared.After.{After}

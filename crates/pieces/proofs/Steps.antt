@@ -17,7 +17,8 @@ use Rattle.encoding.specs.Declarations.{readList, readCounted, visibilityOf, re
 use Rattle.encoding.proofs.Tables.{impossible}
 use Rattle.encoding.proofs.Types.{bind-got}
 use Rattle.encoding.proofs.Inside.{There, word-there, below-there}
-use Rattle.trees.specs.Encode.{Token, word, name, tokenWord, renamedToken}
+use Rattle.trees.specs.Encode.{Token, word, name, tokenWord}
+use Rattle.trees.specs.Tokens.{renamedToken}
 use Rattle.trees.specs.Runs.{Run}
 use Rattle.trees.proofs.Runs.{run-one, run-two}
 use Rattle.trees.proofs.Spans.{next-there}

@@ -16,7 +16,8 @@ use Rattle.encoding.proofs.Inside.{head-lies}
 use Rattle.encoding.proofs.HeadWords.{plain-below, plain-end}
 use Rattle.output.proofs.Laws.{part-length, part-more}
 use Rattle.encoding.proofs.Types.{types-count}
-use Rattle.trees.specs.Encode.{tokensAll, encode, encodeAll, words, wordsAll}
+use Rattle.trees.specs.Encode.{tokensAll, encode, words, wordsAll}
+use Rattle.trees.specs.Tokens.{encodeAll}
 use Rattle.trees.specs.Numbered.{treeAt}
 use Rattle.trees.proofs.Nodes.{Below, First, first-type}
 use Rattle.trees.proofs.Spans.{node-spells, encode-cons}

@@ -14,7 +14,8 @@ use Rattle.encoding.specs.Types.{readTypes, readNode, readType}
 use Rattle.encoding.proofs.Tables.{impossible}
 use Rattle.encoding.proofs.Types.{bind-got, types-count}
 use Rattle.encoding.proofs.Inside.{head-lies}
-use Rattle.trees.specs.Encode.{encode, encodeAll, words, wordsAll}
+use Rattle.trees.specs.Encode.{encode, words, wordsAll}
+use Rattle.trees.specs.Tokens.{encodeAll}
 use Rattle.trees.specs.Runs.{Run}
 use Rattle.trees.specs.Numbered.{treeAt}
 use Rattle.trees.proofs.Nodes.{Node, node-below, first-type, words-nil, words-cons}

@@ -22,7 +22,8 @@ use Rattle.encoding.specs.Types.{rootOf, pathOf, sizeOf, readTypes, readNode, r
 use Rattle.encoding.proofs.Tables.{impossible}
 use Rattle.encoding.proofs.Types.{type-end}
 use Rattle.trees.specs.Renamed.{renamedPath, renamedSize, renamed, renamedAll}
-use Rattle.trees.specs.Encode.{Token, word, name, size, tokenWord, renamedToken, flagsWord, rootWord, names, pathTokens, tokens, tokensAll, words, wordsAll, encode, encodeAll}
+use Rattle.trees.specs.Encode.{Token, word, name, size, tokenWord, flagsWord, rootWord, names, pathTokens, tokens, tokensAll, words, wordsAll, encode}
+use Rattle.trees.specs.Tokens.{renamedToken, encodeAll}
 use Rattle.trees.specs.Numbered.{treeAt}
 use Rattle.trees.specs.Runs.{Run}
 use Rattle.trees.proofs.Spans.{type-stands}

@@ -22,7 +22,8 @@ use Rattle.encoding.proofs.Heads.{head-at}
 use Rattle.encoding.proofs.Inside.{Holds, holds-on, holds-pick, There, Next, Names, word-holds, below-holds, names-hold, head-lies}
 use Rattle.encoding.proofs.TypeKinds.{head-kind}
 use Rattle.encoding.proofs.Types.{bind-got, made₂-got, snoc, types-count, count-snoc}
-use Rattle.trees.specs.Encode.{name, size, tokenWord, primitiveWord, flagsWord, rootWord, names, pathTokens, tokens, tokensAll, encode, encodeAll}
+use Rattle.trees.specs.Encode.{name, size, tokenWord, primitiveWord, flagsWord, rootWord, names, pathTokens, tokens, tokensAll, encode}
+use Rattle.trees.specs.Tokens.{encodeAll}
 use Rattle.trees.proofs.Nodes.{Node, plain, ident, path, apply, ref, refMut, impl, dyn, tuple, function, both, array, synonym, meta, node-below}
 use Rattle.trees.specs.Runs.{Run}
 use Rattle.trees.proofs.Runs.{run-none, run-one, run-two, run-part, run-join}

@@ -18,7 +18,8 @@ use Rattle.encoding.specs.Types.{typeAt}
 use Rattle.encoding.specs.Declarations.{declarationAt}
 use Rattle.encoding.proofs.Tables.{impossible}
 use Rattle.encoding.proofs.Types.{bind-got, type-lies}
-use Rattle.trees.specs.Encode.{Token, tokenWord, renamedToken, words}
+use Rattle.trees.specs.Encode.{Token, tokenWord, words}
+use Rattle.trees.specs.Tokens.{renamedToken}
 use Rattle.trees.proofs.Renaming.{type-words}
 use Rattle.trees.proofs.Nodes.{one-read}
 use Rattle.writing.specs.declared.Spot.{Spot}
