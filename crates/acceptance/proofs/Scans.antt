@@ -6,8 +6,10 @@ use native.Mathlib.Omega.{arith}
 use Rattle.encoding.specs.declared.Refusal.{Refusal}
 use Rattle.encoding.specs.declared.Head.{Head}
 use Rattle.encoding.specs.Reading.{Reading, got, stop}
-use Rattle.encoding.specs.Tables.{nameLength, nameCount}
-use Rattle.encoding.specs.Heads.{kids, readHead}
+use Rattle.encoding.specs.Tables.{nameCount}
+use Rattle.encoding.specs.Tested.{nameLength}
+use Rattle.encoding.specs.Heads.{readHead}
+use Rattle.encoding.specs.HeadWords.{kids}
 use Rattle.encoding.proofs.Tables.{impossible}
 use Rattle.measure.specs.Lengths.{ownLength, modeOf, exact}
 use Rattle.measure.proofs.Steps.{OwnLeaf, OwnNode}

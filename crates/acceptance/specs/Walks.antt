@@ -5,7 +5,7 @@ use mathlib.Core.List.{List, map}
 use Rattle.encoding.specs.declared.Refusal.{Refusal}
 use Rattle.encoding.specs.declared.Head.{Head}
 use Rattle.encoding.specs.Reading.{Reading, got, stop}
-use Rattle.encoding.specs.Heads.{kids}
+use Rattle.encoding.specs.HeadWords.{kids}
 use Rattle.measure.specs.declared.Pass.{Pass}
 use Rattle.measure.specs.declared.Step.{Step as PassStep}
 use Rattle.measure.specs.declared.Step.the-variants.{On as PassOn, Ended as PassEnded, Halt as PassHalt}

@@ -1,6 +1,5 @@
 -- The numbers that the exported calls give: below 2^63 the answer, from there on 2^63 and document 01's number of the refusal.
-use Prim.Native.Nat.{ℕ, _+_, _*_, _^_, _≤_}
-use mathlib.Core.Path.{_≡_}
+use Prim.Native.Nat.{ℕ, _+_, _*_, _^_}
 use mathlib.Core.Bool.{Bool}
 use mathlib.Core.List.{List}
 use Rattle.encoding.specs.declared.Refusal.{Refusal}
@@ -70,7 +69,3 @@ partNumber (NoPart r) = refusedNumber r
 
 abbrev pub partCall : Answer Span → ℕ
 partCall x = partNumber (partAnswer x)
-
--- a part that lies within as many words as an encoding may have
-pub record Small (answer : PartAnswer) : Type 0 where
-  pub small : (start length : ℕ) → answer ≡ Part start length → start + length ≤ 8192

@@ -2,7 +2,8 @@
 //
 // They stand apart from the calls so that a wrong number is refused by a small crate.
 ghost use mathlib.Core.Path.{_≡_};
-ghost use Rattle.answer_numbers.specs.Numbers.{refusedNumber, textNumber, soundNumber, rebuildNumber, visitNumber, shapeNumber, partNumber, Small};
+ghost use Rattle.answer_numbers.specs.Numbers.{refusedNumber, textNumber, soundNumber, rebuildNumber, visitNumber, shapeNumber, partNumber};
+ghost use Rattle.answer_numbers.specs.Limits.{Small};
 use encoding::Refusal;
 use parts::PartAnswer;
 use rebuild::RebuildAnswer;

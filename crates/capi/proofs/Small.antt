@@ -18,7 +18,7 @@ use Rattle.parts.specs.declared.PartAnswer.{PartAnswer}
 use Rattle.parts.specs.declared.PartAnswer.the-variants.{Part}
 use Rattle.parts.specs.Answers.{spanIn, partOf, partAnswer}
 use Rattle.parts.proofs.Spans.{part-within}
-use Rattle.answer_numbers.specs.Numbers.{Small}
+use Rattle.answer_numbers.specs.Limits.{Small}
 
 module _ (ws pairs : List ℕ) (text : Bytes) (f : Place Bytes → Option (Place Bytes)) (k : Keeps ws pairs text f) {r : PartAnswer} (e : r ≡ partAnswer (partOf f ws pairs text)) where
   -- where there is a part, there is a type, and its words are few

@@ -10,7 +10,7 @@ ghost use Rattle.shapes.specs.Shapes.{EndsWithNameThatCanAcceptGenerics, IsAuto
 ghost use Rattle.shapes.specs.Parts.{RemoveSynonyms, ExpandAt, ToOwned, MultiArrayUnderlying, BoxUnderlying, ObjectOrPointerUnderlying, RcUnderlying, BoxDynUnderlying, GetBuiltinCollectionElement, ExtractMaybePlacebo, ExtractMaybeUninitArrayElement};
 ghost use Rattle.rebuild_declaration.specs.Calls.{declarationRebuilt};
 ghost use Rattle.parts.specs.Answers.{partOf};
-ghost use Rattle.initialization.specs.Initialized.{typeInitialized};
+ghost use Rattle.initialization.specs.Calls.{typeInitialized};
 ghost use Rattle.visits.specs.Visited.{typeVisits, declarationVisits};
 ghost use Rattle.visits.specs.Calls.{filled as listed};
 ghost use Rattle.answer_numbers.specs.Numbers.{textCall, soundCall, rebuildCall, visitCall, shapeCall, partCall};

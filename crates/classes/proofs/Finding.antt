@@ -22,7 +22,8 @@ use Rattle.encoding.specs.declared.HeadScan.the-variants.{Own, NoHead}
 use Rattle.encoding.specs.Refusals.{pick}
 use Rattle.encoding.specs.Tables.{nameBytes, nameCount}
 use Rattle.encoding.specs.Reading.{Reading, got, stop, readWord}
-use Rattle.encoding.specs.Heads.{headKind, headAfter, readHead, InsideHead}
+use Rattle.encoding.specs.Heads.{headAfter, readHead}
+use Rattle.encoding.specs.HeadWords.{headKind, InsideHead}
 use Rattle.encoding.specs.Scans.{headScan}
 use Rattle.encoding.specs.Types.{pathOf, readTypes, readNode, readType, typeAt}
 use Rattle.encoding.proofs.Head.{the-type}

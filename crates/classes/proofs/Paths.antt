@@ -12,7 +12,7 @@ use Rattle.rast.specs.Tree.{Path, Global, Crate, Self, PMemberSelect, MSels}
 use Rattle.rast.proofs.BytesLaws.{and-left, and-right, and-no, and-yes, and-false, same-self}
 use Rattle.encoding.specs.declared.PathAt.{PathAt}
 use Rattle.encoding.specs.Tables.{fixedNames, nameBytes, nameCount}
-use Rattle.encoding.specs.Heads.{InsidePath}
+use Rattle.encoding.specs.HeadWords.{InsidePath}
 use Rattle.encoding.specs.Types.{rootOf, pathOf}
 use Rattle.encoding.proofs.Tables.{impossible, same-eq, everyBelow, every-at, name-fixed}
 use Rattle.encoding.proofs.Names.{beq-eq}

@@ -11,7 +11,8 @@ use lib.ListN.{length}
 use Rattle.rast.specs.Bytes.{Bytes, _and_}
 use Rattle.rast.specs.Tree.{Path, PrimitiveTy, U8, U16, U32, U64, U128, I8, I16, I32, I64, I128, USIZE, Bool·, Ty, Tys, Primitive, TIdentifier, TypeFromPath, TypeApp, Borrowed, BorrowedMut, ImplType, DynType, TupleType, FnType, IntersectionType, Array, TSynonym, TMetaData, nil, cons, count}
 use Rattle.trees.specs.Renamed.{renamedSize, renamed}
-use Rattle.trees.specs.Encode.{Token, word, name, size, tokenWord, renamedToken, primitiveWord, flagsWord, rootWord, names, pathTokens, tokens, tokensAll, encode}
+use Rattle.trees.specs.Encode.{Token, word, name, size, tokenWord, primitiveWord, flagsWord, rootWord, names, pathTokens, tokens, tokensAll, encode}
+use Rattle.trees.specs.Tokens.{renamedToken}
 use Rattle.trees.proofs.Renaming.{tokens-renamed}
 use Rattle.replace.specs.Same.{sameSize, sameToken, sameTokens, sameType, sameBy}
 use Rattle.comparison.specs.declared.Due.{Due}

@@ -5,7 +5,8 @@ ghost use mathlib.Core.List.{[]};
 ghost use Prim.Native.Nat.{_+_, _≤_, _<_};
 ghost use lib.ListN.{length, take, drop};
 ghost use Rattle.rast.specs.Bytes.{same};
-ghost use Rattle.encoding.specs.Tables.{Good, nameBytes};
+ghost use Rattle.encoding.specs.Tables.{nameBytes};
+ghost use Rattle.encoding.specs.Tested.{Good};
 ghost use Rattle.comparison.specs.Runs.{after, afterKind, agrees, sameRuns};
 ghost use Rattle.comparison.specs.Looks.{apart, alike, looks, toldApart, mayAgree};
 

@@ -16,7 +16,8 @@ use Rattle.rast.specs.DeclarationToString.{Visibility·ToString, Attribute·ToS
 use Rattle.encoding.specs.declared.Refusal.{Refusal}
 use Rattle.encoding.specs.declared.Refusal.the-variants.{UnknownWord}
 use Rattle.encoding.specs.declared.PathAt.{PathAt}
-use Rattle.encoding.specs.Reading.{Reading, got, stop, _>>=_, mapReading, readWord, readBelow}
+use Rattle.encoding.specs.Reading.{Reading, got, stop, _>>=_, readWord, readBelow}
+use Rattle.encoding.specs.Scans.{mapReading}
 use Rattle.encoding.specs.Tables.{nameBytes, nameCount}
 use Rattle.encoding.specs.Heads.{readPath}
 use Rattle.encoding.specs.Types.{pathOf, typeAt}

@@ -9,7 +9,8 @@ use Rattle.rast.specs.Indent.{IND, indent, SeqToString}
 use Rattle.rast.specs.Declaration.{Fields, EnumCase}
 use Rattle.rast.specs.DeclarationToString.{Fields·ToString, structFieldsText, EnumCase·ToString, Use·ToString, Declaration·ToString}
 use Rattle.encoding.specs.Refusals.{pick}
-use Rattle.encoding.specs.Reading.{Reading, got, mapReading}
+use Rattle.encoding.specs.Reading.{Reading, got}
+use Rattle.encoding.specs.Scans.{mapReading}
 use Rattle.encoding.specs.Tables.{nameBytes, nameCount}
 use Rattle.encoding.specs.Types.{typeAt}
 use Rattle.encoding.specs.Declarations.{structHead, enumHead, readCounted, readFields, readCase, readUse, declarationAfter, declarationAt}

@@ -17,7 +17,8 @@ use Rattle.encoding.specs.declared.Refusal.the-variants.{BadLevel}
 use Rattle.encoding.specs.declared.Check.the-variants.{Passed, Failed}
 use Rattle.encoding.specs.Refusals.{mapAnswer, pick}
 use Rattle.encoding.specs.Tables.{checkLevel}
-use Rattle.encoding.specs.Reading.{Reading, got, stop, mapReading, whole}
+use Rattle.encoding.specs.Reading.{Reading, got, stop, whole}
+use Rattle.encoding.specs.Scans.{mapReading}
 use Rattle.encoding.proofs.Tables.{impossible}
 use Rattle.encoding.proofs.Answers.{filled-done}
 use Rattle.text.specs.declared.TextAnswer.{TextAnswer}

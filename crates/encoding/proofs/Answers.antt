@@ -13,7 +13,8 @@ use Rattle.encoding.specs.declared.Check.{Check}
 use Rattle.encoding.specs.declared.Check.the-variants.{Passed, Failed}
 use Rattle.encoding.specs.Refusals.{Answer, given, refused, mapAnswer, unless}
 use Rattle.encoding.specs.Reading.{Reading, got, stop, whole}
-use Rattle.encoding.specs.Tables.{checkLevel, behind, checkTables, checkCall}
+use Rattle.encoding.specs.Tables.{checkLevel, checkTables}
+use Rattle.encoding.specs.Tested.{behind, checkCall}
 use Rattle.encoding.specs.Filled.{filledBy}
 use Rattle.encoding.proofs.Tables.{impossible}
 

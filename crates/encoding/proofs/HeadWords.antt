@@ -10,7 +10,8 @@ use lib.ListN.{length, getD}
 use Rattle.encoding.specs.declared.Head.{Head}
 use Rattle.encoding.specs.declared.Head.the-variants.{Name, Apply, Tuple, Function, ArrayOf, Meta}
 use Rattle.encoding.specs.Reading.{got, _>>=_, readWord, readBelow, readNames}
-use Rattle.encoding.specs.Heads.{readPath, pathHead, headAfter, readHead, kids, HeadHere, typesBelow, ownEnd}
+use Rattle.encoding.specs.Heads.{readPath, pathHead, headAfter, readHead}
+use Rattle.encoding.specs.HeadWords.{kids, HeadHere, typesBelow, ownEnd}
 use Rattle.encoding.proofs.Inside.{Holds, holds-on, holds-pick, There, Next, Names, word-holds, below-holds, names-hold, head-lies}
 
 -- what the words say of a head that was read

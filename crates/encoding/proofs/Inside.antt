@@ -13,7 +13,8 @@ use Rattle.encoding.specs.declared.Head.{Head}
 use Rattle.encoding.specs.declared.Head.the-variants.{Apply, Tuple, Function}
 use Rattle.encoding.specs.Refusals.{pick}
 use Rattle.encoding.specs.Reading.{Reading, got, stop, _>>=_, readWord, readBelow, readNames}
-use Rattle.encoding.specs.Heads.{readPath, pathHead, headAfter, readHead, InsidePath, InsideHead}
+use Rattle.encoding.specs.Heads.{readPath, pathHead, headAfter, readHead}
+use Rattle.encoding.specs.HeadWords.{InsidePath, InsideHead}
 
 -- P of what was read, if anything was
 abbrev pub Holds : {A : Type 0} → (A → ℕ → Type 0) → Reading A → Type 0

@@ -18,8 +18,8 @@ use Rattle.encoding.specs.declared.PathScan.the-variants.{OwnPath, NoPat
 use Rattle.encoding.specs.declared.Head.{Head}
 use Rattle.encoding.specs.declared.HeadScan.{HeadScan}
 use Rattle.encoding.specs.declared.HeadScan.the-variants.{Own, NoHead}
-use Rattle.encoding.specs.Reading.{Reading, got, stop, readWord, readBelow, readNames, mapReading}
-use Rattle.encoding.specs.Scans.{wordScan, ended, pathScan, headScan}
+use Rattle.encoding.specs.Reading.{Reading, got, stop, readWord, readBelow, readNames}
+use Rattle.encoding.specs.Scans.{wordScan, ended, pathScan, headScan, mapReading}
 use Rattle.encoding.proofs.Tables.{impossible}
 
 -- ---- from an answer to the reading behind it

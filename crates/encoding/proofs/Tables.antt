@@ -15,7 +15,8 @@ use Rattle.rast.proofs.BytesLaws.{and-left, and-right, and-false}
 use Rattle.encoding.specs.declared.Refusal.the-variants.{Overlong, BadPair}
 use Rattle.encoding.specs.declared.Check.the-variants.{Passed, Failed}
 use Rattle.encoding.specs.Refusals.{pick}
-use Rattle.encoding.specs.Tables.{overlong, checkTables, goodPairs, Good, fixedNames, nameBytes, nameLength, nameCount, pairBytes}
+use Rattle.encoding.specs.Tables.{overlong, checkTables, goodPairs, fixedNames, nameBytes, nameCount, pairBytes}
+use Rattle.encoding.specs.Tested.{Good, nameLength}
 
 -- nothing holds where two numbers are one
 pub impossible : {A : Type 0} → _≡_ {A = ℕ} 0 1 → A

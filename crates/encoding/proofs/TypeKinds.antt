@@ -15,7 +15,8 @@ use Rattle.encoding.specs.declared.Head.the-variants.{Plain, Name, FromP
 use Rattle.encoding.specs.Refusals.{pick}
 use Rattle.encoding.specs.Tables.{nameBytes, nameCount}
 use Rattle.encoding.specs.Reading.{Reading, got, stop, _>>=_, readWord, readBelow}
-use Rattle.encoding.specs.Heads.{headKind, readPath, pathHead, headAfter, readHead, InsideHead}
+use Rattle.encoding.specs.Heads.{readPath, pathHead, headAfter, readHead}
+use Rattle.encoding.specs.HeadWords.{headKind, InsideHead}
 use Rattle.encoding.specs.Types.{primitives, readTypes, readNode, readType, typeAt}
 use Rattle.encoding.proofs.Tables.{impossible, everyBelow, every-at}
 use Rattle.encoding.proofs.Heads.{head-at}

@@ -2,7 +2,9 @@ pub mod Refusals
 pub mod Filled
 pub mod Reading
 pub mod Tables
+pub mod Tested
 pub mod Heads
+pub mod HeadWords
 pub mod Scans
 pub mod Types
 pub mod Declarations

@@ -17,11 +17,6 @@ abbrev pub _>>=_ : {A B : Type 0} → Reading A → (A → ℕ → Reading B) �
 got a n >>= f = f a n
 stop r >>= f = stop r
 
--- what was read, made into something else
-unfoldable pub mapReading : {A B : Type 0} → (A → B) → Reading A → Reading B
-mapReading f (got a n) = got (f a) n
-mapReading f (stop r) = stop r
-
 unfoldable pub readWord : List ℕ → ℕ → Reading ℕ
 readWord ws at = pick (ltb at (length ws)) (got (getD ws at 0) (at + 1)) (stop EndsEarly)
 

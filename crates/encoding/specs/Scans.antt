@@ -1,4 +1,4 @@
--- The code's answers, from the readings that they stand for.
+-- The code's answers, from the readings that they stand for, and a reading of something else from one.
 use Prim.Native.Nat.{ℕ}
 use lib.Dec.{eqb}
 use Rattle.encoding.specs.declared.PathAt.{PathAt}
@@ -40,3 +40,8 @@ headOf w x =
 abbrev pub ownWord : ℕ → WordScan → HeadScan
 ownWord w (Word x n) = Own (headOf w x) n
 ownWord w (NoWord r) = NoHead r
+
+-- what was read, made into something else
+unfoldable pub mapReading : {A B : Type 0} → (A → B) → Reading A → Reading B
+mapReading f (got a n) = got (f a) n
+mapReading f (stop r) = stop r

@@ -9,10 +9,12 @@ ghost use Rattle.rast.specs.Tree.{U8};
 ghost use Rattle.rast.specs.ToString.{Primitive·ToString};
 ghost use Rattle.output.specs.Wrote.{Wrote};
 ghost use Rattle.encoding.specs.Refusals.{number};
-ghost use Rattle.encoding.specs.Tables.{checkLevel, checkTables, checkCall, goodPairs, fixedNames, HoldsNames, nameBytes, nameLength, nameCount, Good};
+ghost use Rattle.encoding.specs.Tables.{checkLevel, checkTables, goodPairs, fixedNames, nameBytes, nameCount};
+ghost use Rattle.encoding.specs.Tested.{checkCall, HoldsNames, nameLength, Good};
 ghost use Rattle.encoding.specs.Reading.{readWord, readBelow, readNames};
 ghost use Rattle.encoding.specs.Types.{primitives};
-ghost use Rattle.encoding.specs.Heads.{readPath, pathHead, headAfter, readHead, HeadHere, typesBelow, ownEnd};
+ghost use Rattle.encoding.specs.Heads.{readPath, pathHead, headAfter, readHead};
+ghost use Rattle.encoding.specs.HeadWords.{HeadHere, typesBelow, ownEnd};
 ghost use Rattle.encoding.specs.Scans.{wordScan, ended, pathScan, headScan, headOf, ownWord};
 
 // Document 01's refusals. `Refusals.number` gives the number of each.

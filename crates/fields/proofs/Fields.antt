@@ -16,7 +16,8 @@ use Rattle.output.specs.Laid.{clamp, Laid}
 use Rattle.output.proofs.Passes.{laid-counted}
 use Rattle.doc.proofs.Laying.{indent-length, line-size}
 use Rattle.encoding.specs.declared.Refusal.{Refusal}
-use Rattle.encoding.specs.Reading.{Reading, got, stop, mapReading, readWord}
+use Rattle.encoding.specs.Reading.{Reading, got, stop, readWord}
+use Rattle.encoding.specs.Scans.{mapReading}
 use Rattle.encoding.specs.Tables.{nameBytes, nameCount}
 use Rattle.encoding.specs.Types.{typeAt}
 use Rattle.encoding.specs.Declarations.{readList, readVisibility, readFormal, readField, readNamelessField}

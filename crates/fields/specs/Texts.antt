@@ -7,7 +7,8 @@ use Rattle.rast.specs.Tree.{Ty}
 use Rattle.rast.specs.Indent.{indent}
 use Rattle.rast.specs.Declaration.{NamedFields, NamelessFields}
 use Rattle.rast.specs.DeclarationToString.{Field·ToString, NamelessField·ToString, separatorText, Fields·ToString}
-use Rattle.encoding.specs.Reading.{Reading, got, mapReading}
+use Rattle.encoding.specs.Reading.{Reading, got}
+use Rattle.encoding.specs.Scans.{mapReading}
 use Rattle.encoding.specs.Tables.{nameBytes, nameCount}
 use Rattle.encoding.specs.Types.{typeAt}
 use Rattle.encoding.specs.Declarations.{readCounted, readField, readNamelessField}

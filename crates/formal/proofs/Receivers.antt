@@ -16,7 +16,8 @@ use Rattle.encoding.specs.declared.Refusal.{Refusal}
 use Rattle.encoding.specs.Refusals.{pick}
 use Rattle.encoding.specs.Tables.{fixedNames, nameBytes, nameCount}
 use Rattle.encoding.specs.Reading.{Reading, got, stop, readBelow}
-use Rattle.encoding.specs.Heads.{headAfter, InsidePath}
+use Rattle.encoding.specs.Heads.{headAfter}
+use Rattle.encoding.specs.HeadWords.{InsidePath}
 use Rattle.encoding.specs.Types.{rootOf, pathOf, readNode, readType, typeAt}
 use Rattle.encoding.proofs.Tables.{impossible, same-eq}
 use Rattle.encoding.proofs.Heads.{head-at}

@@ -15,8 +15,10 @@ use Rattle.output.specs.Laid.{Laid, clamp}
 use Rattle.output.proofs.Passes.{laid-wrote, laid-counted}
 use Rattle.encoding.specs.declared.Refusal.{Refusal}
 use Rattle.encoding.specs.Refusals.{pick}
-use Rattle.encoding.specs.Reading.{Reading, got, stop, _>>=_, mapReading, readBelow}
-use Rattle.encoding.specs.Tables.{Good, nameBytes, nameCount, nameLength}
+use Rattle.encoding.specs.Reading.{Reading, got, stop, _>>=_, readBelow}
+use Rattle.encoding.specs.Scans.{mapReading}
+use Rattle.encoding.specs.Tables.{nameBytes, nameCount}
+use Rattle.encoding.specs.Tested.{Good, nameLength}
 use Rattle.encoding.specs.Types.{typeAt}
 use Rattle.encoding.specs.Declarations.{readName, readFormal}
 use Rattle.encoding.proofs.Tables.{impossible, name-length}

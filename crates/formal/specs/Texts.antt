@@ -3,7 +3,8 @@ use Prim.Native.Nat.{ℕ}
 use mathlib.Core.List.{List}
 use Rattle.rast.specs.Bytes.{Bytes, ascii}
 use Rattle.rast.specs.DeclarationToString.{Formal·ToString}
-use Rattle.encoding.specs.Reading.{Reading, got, mapReading}
+use Rattle.encoding.specs.Reading.{Reading, got}
+use Rattle.encoding.specs.Scans.{mapReading}
 use Rattle.encoding.specs.Tables.{nameBytes, nameCount}
 use Rattle.encoding.specs.Types.{typeAt}
 use Rattle.encoding.specs.Declarations.{readFormal}

@@ -1,7 +1,8 @@
 // A named field's name and type: `Formal.ToString`. A field named `self` may show without its type. The type itself is left to the caller, so that it is counted
 // and written at one place, whether a field has a name or not.
 ghost use Rattle.rast.specs.DeclarationToString.{isSelfOwned};
-ghost use Rattle.encoding.specs.Tables.{Good, nameBytes, nameCount};
+ghost use Rattle.encoding.specs.Tables.{nameBytes, nameCount};
+ghost use Rattle.encoding.specs.Tested.{Good};
 ghost use Rattle.encoding.specs.Types.{typeAt};
 ghost use Rattle.measure.specs.declared.Measure.the-variants.{Measured};
 ghost use Rattle.measure.specs.Lengths.{measureOf};

@@ -12,7 +12,8 @@ use Rattle.rast.specs.Bytes.{Bytes, _and_, _or_}
 use Rattle.rast.specs.Tree.{Path, Global, PMemberSelect, Ty, Tys, Primitive, TIdentifier, TypeFromPath, TypeApp, Borrowed, BorrowedMut, ImplType, DynType, TupleType, FnType, IntersectionType, Array, TSynonym, TMetaData, nil, cons, count}
 use Rattle.rast.specs.DeclarationToString.{Expand}
 use Rattle.rast.proofs.BytesLaws.{and-right}
-use Rattle.encoding.specs.Reading.{got, mapReading}
+use Rattle.encoding.specs.Reading.{got}
+use Rattle.encoding.specs.Scans.{mapReading}
 use Rattle.encoding.specs.Tables.{nameBytes}
 use Rattle.encoding.specs.Types.{sizeOf, typeAt}
 use Rattle.encoding.proofs.Tables.{impossible}

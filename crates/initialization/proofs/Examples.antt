@@ -24,7 +24,7 @@ use Rattle.shapes.specs.Initialization.{MaybeUninitType, ObjectType, PtrType, a
 use Rattle.rebuild.specs.declared.RebuildAnswer.{RebuildAnswer}
 use Rattle.rebuild.specs.declared.RebuildAnswer.the-variants.{Length, Refused}
 use Rattle.rebuild.specs.Calls.{laidDown}
-use Rattle.initialization.specs.Initialized.{typeInitialized}
+use Rattle.initialization.specs.Calls.{typeInitialized}
 
 -- words, a buffer's size; the answer, and what the buffer holds, which held 5 before. The text has one name, `Array2`, of number 16.
 abbrev Example : Type 0

@@ -17,7 +17,8 @@ use Rattle.encoding.specs.declared.Refusal.the-variants.{LeftOver, TooDeep, Buf
 use Rattle.encoding.specs.declared.Check.{Check}
 use Rattle.encoding.specs.declared.Check.the-variants.{Passed, Failed}
 use Rattle.encoding.specs.Refusals.{pick, given, refused, mapAnswer, unless}
-use Rattle.encoding.specs.Reading.{Reading, got, stop, mapReading, whole}
+use Rattle.encoding.specs.Reading.{Reading, got, stop, whole}
+use Rattle.encoding.specs.Scans.{mapReading}
 use Rattle.encoding.specs.Tables.{nameBytes, nameCount, checkTables}
 use Rattle.encoding.specs.Heads.{readHead}
 use Rattle.encoding.specs.Types.{readNode, readType}
@@ -35,16 +36,18 @@ use Rattle.replace.proofs.Depths.{within, tree-deep}
 use Rattle.rules.specs.Scans.{Spans, depthOf}
 use Rattle.classes.specs.Matches.{argument}
 use Rattle.classes.specs.Steps.{when, andThen}
-use Rattle.shapes.specs.Asked.{acceptance}
+use Rattle.shapes.specs.Accepted.{acceptance}
 use Rattle.shapes.specs.Shapes.{IsObject, IsObjectOrPointer}
 use Rattle.shapes.specs.Initialization.{ObjectType, PtrType, orThis, newUnderlying, TypeAtInitialization}
 use Rattle.rebuild.specs.declared.RebuildAnswer.{RebuildAnswer}
 use Rattle.rebuild.specs.declared.RebuildAnswer.the-variants.{Length, Refused}
-use Rattle.rebuild.specs.Calls.{Laid, roomOf, zeros, laidDown, sameWords, Fills}
+use Rattle.rebuild.specs.Calls.{Laid, roomOf, zeros, laidDown}
+use Rattle.rebuild.specs.Attempts.{sameWords, Fills}
 use Rattle.rebuild.proofs.Calls.{down-over, down-deep, down-front, shallow}
 use Rattle.initialization.specs.declared.Initial.{Initial}
 use Rattle.initialization.specs.declared.Initial.the-variants.{OfArray, Unchanged}
-use Rattle.initialization.specs.Initialized.{laidInit, wholeInitialized, typeInitialized, typeWithin, pointerWords, uninitWords, initialWords, newArray, Named, Pieces, pieces, unchanged, Becomes, Whole, Shallow}
+use Rattle.initialization.specs.Initialized.{wholeInitialized, typeWithin, pointerWords, uninitWords, initialWords, newArray, Named, Pieces, pieces, unchanged, Becomes, Whole, Shallow}
+use Rattle.initialization.specs.Calls.{laidInit, typeInitialized}
 use Rattle.initialization.proofs.Changes.{one-words, one-depth}
 
 -- ---- the type at initialization, by the new array

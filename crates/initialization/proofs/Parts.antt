@@ -11,7 +11,7 @@ use Rattle.rast.specs.Tree.{Path, Ty, Tys, Primitive, TIdentifier, TypeFromPath
 use Rattle.rast.specs.DeclarationToString.{Expand}
 use Rattle.encoding.specs.declared.Head.{Head}
 use Rattle.encoding.specs.Reading.{got}
-use Rattle.encoding.specs.Heads.{kids}
+use Rattle.encoding.specs.HeadWords.{kids}
 use Rattle.encoding.specs.Types.{readTypes}
 use Rattle.encoding.proofs.Tables.{impossible}
 use Rattle.encoding.proofs.Types.{types-count}

@@ -12,7 +12,7 @@ use Rattle.rast.specs.Tree.{Ty, Tys, Primitive, TIdentifier, TypeFromPath, Type
 use Rattle.rast.specs.DeclarationToString.{Expand}
 use Rattle.rast.proofs.BytesLaws.{and-false, and-true}
 use Rattle.encoding.specs.declared.PathAt.{PathAt}
-use Rattle.encoding.specs.Heads.{InsidePath}
+use Rattle.encoding.specs.HeadWords.{InsidePath}
 use Rattle.encoding.specs.Refusals.{pick}
 use Rattle.encoding.specs.Reading.{got}
 use Rattle.encoding.specs.Tables.{nameBytes, nameCount}
@@ -41,7 +41,7 @@ use Rattle.shapes.specs.Shapes.{IsObject, IsObjectOrPointer}
 use Rattle.shapes.proofs.Pointers.{expanded-tree, pointer-is}
 use Rattle.initialization.specs.declared.Pointer.{Pointer}
 use Rattle.initialization.specs.declared.Pointer.the-variants.{To, NoPointer}
-use Rattle.initialization.specs.Initialized.{nameAt, Member, OfRuntime, partOf, Points}
+use Rattle.initialization.specs.Initialized.{nameAt, Member, OfRuntime, underPointer, Points}
 use Rattle.initialization.proofs.Changes.{type-read, expanded-place}
 
 -- ---- members of `dafny_runtime`
@@ -165,7 +165,7 @@ module _ (ws pairs : List ℕ) (text : Bytes) (r : Readable (treeAt ws pairs 0))
   pointer-like = o .of PtrClass pointer-member .says (Expand type) (r .end) opened
 
   -- the answer to the type that was read
-  part-of : (m : Pointer) → partOf m ≡ found (ObjectOrPointerUnderlying (place 0 type)) → Finds ObjectOrPointerUnderlying (typeAt ws pairs text) 0 (partOf m)
+  part-of : (m : Pointer) → underPointer m ≡ found (ObjectOrPointerUnderlying (place 0 type)) → Finds ObjectOrPointerUnderlying (typeAt ws pairs text) 0 (underPointer m)
   part-of m e = record {
     says = λ t n d.
         let k = type-read ws pairs text 0 (r .reads) in
@@ -174,13 +174,13 @@ module _ (ws pairs : List ℕ) (text : Bytes) (r : Readable (treeAt ws pairs 0))
   }
 
   pub no-pointer-here : (b and same member (ascii "Object")) ≡ false → (b and same member (ascii "Ptr")) ≡ false → Points ws pairs text NoPointer
-  unfolding ObjectOrPointerUnderlying when found partOf
+  unfolding ObjectOrPointerUnderlying when found underPointer
   no-pointer-here h k =
       let z : IsObjectOrPointer type ≡ false = sym (pointer-is type) ∙ rw (sym pointer-like, sym object-is, h, k) refl in
       record { part = part-of NoPointer (rw z refl); name = λ n p e. impossible (cc) }
 
   points-to : (k : ℕ) → b ≡ true → IsObjectOrPointer type ≡ true → k ≡ pick (isOf ObjectClass (Expand type) and eqb at 0) 11 12 → Points ws pairs text (To k (at + 7))
-  unfolding ObjectOrPointerUnderlying expanded argumentOf when partOf IsObject isOf inClass arity
+  unfolding ObjectOrPointerUnderlying expanded argumentOf when underPointer IsObject isOf inClass arity
   points-to k e y n =
       let q : found (argumentAt 0 at (Expand type)) ≡ At (at + 7) = o .argument (Expand type) (r .end) e opened in
       record {

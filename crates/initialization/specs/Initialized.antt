@@ -1,4 +1,4 @@
--- What the call gives: the type at initialization by its words, and the pieces that they are copied from.
+-- The type at initialization where the tables hold, and the pieces that its words are copied from.
 use Prim.Native.Nat.{ℕ, _+_, _-_, _≤_, _<_}
 use mathlib.Core.Path.{_≡_}
 use mathlib.Core.Bool.{Bool, true, false}
@@ -15,7 +15,7 @@ use Rattle.encoding.specs.Tables.{nameBytes, nameCount}
 use Rattle.encoding.specs.Types.{readType, typeAt}
 use Rattle.trees.specs.Encode.{encode}
 use Rattle.trees.specs.Renamed.{renamed}
-use Rattle.trees.specs.Numbered.{treeAt, treeOf}
+use Rattle.trees.specs.Numbered.{treeAt}
 use Rattle.replace.specs.Laying.{depth}
 use Rattle.wrappers.specs.Asked.{Judges}
 use Rattle.classes.specs.declared.Class.{Class}
@@ -28,28 +28,17 @@ use Rattle.classes.specs.Paths.{runtimeMember}
 use Rattle.classes.specs.Steps.{when, andThen, argumentAt}
 use Rattle.shapes.specs.Parts.{ObjectOrPointerUnderlying}
 use Rattle.shapes.specs.Shapes.{IsObject, IsObjectOrPointer}
-use Rattle.shapes.specs.Initialization.{newUnderlying, TypeAtInitialization}
+use Rattle.shapes.specs.Initialization.{newUnderlying}
 use Rattle.rebuild.specs.Calls.{Laid}
 use Rattle.initialization.specs.declared.Initial.{Initial}
 use Rattle.initialization.specs.declared.Initial.the-variants.{OfArray, Unchanged}
 use Rattle.initialization.specs.declared.Pointer.{Pointer}
 use Rattle.initialization.specs.declared.Pointer.the-variants.{To, NoPointer}
-
--- a tree as it stands at initialization: on the way no more words lie there than at the end
-abbrev pub laidInit : (ℕ → Bytes) → Ty ℕ → Laid
-laidInit bytes t = record {
-  words = encode (TypeAtInitialization bytes t);
-  top = length (encode (TypeAtInitialization bytes t));
-  deep = depth (TypeAtInitialization bytes t);
-}
+use Rattle.initialization.specs.Calls.{laidInit}
 
 -- the type that fills the words, as it stands at initialization; the tables hold
 unfoldable pub wholeInitialized : List ℕ → List ℕ → Bytes → Answer Laid
 wholeInitialized words pairs text = mapAnswer (laidInit (nameBytes pairs text)) (whole (length words) (treeAt words pairs 0))
-
--- the type that an encoding holds, as it stands at initialization
-unfoldable pub typeInitialized : List ℕ → List ℕ → Bytes → Answer Laid
-typeInitialized words pairs text = mapAnswer (laidInit (nameBytes pairs text)) (treeOf words pairs text)
 
 -- the type at the front, if it is at most `deep` types deep
 abbrev pub typeWithin : ℕ → List ℕ → List ℕ → Bytes → Reading (Ty Bytes)
@@ -96,13 +85,13 @@ pub record OfRuntime (ws pairs : List ℕ) (text : Bytes) (at : ℕ) (r : Bool) 
   pub argument : (t : Ty Bytes) (n : ℕ) → r ≡ true → typeAt ws pairs text at ≡ got t n → found (argumentAt 0 at t) ≡ At (at + 7)
 
 -- where the type under a pointer stands
-unfoldable pub partOf : Pointer → Found
-partOf (To name at) = At at
-partOf NoPointer = NoPart
+unfoldable pub underPointer : Pointer → Found
+underPointer (To name at) = At at
+underPointer NoPointer = NoPart
 
 -- the pointer that the type at the front is
 pub record Points (ws pairs : List ℕ) (text : Bytes) (r : Pointer) : Type 0 where
-  pub part : Finds ObjectOrPointerUnderlying (typeAt ws pairs text) 0 (partOf r)
+  pub part : Finds ObjectOrPointerUnderlying (typeAt ws pairs text) 0 (underPointer r)
   pub name : (k at : ℕ) → r ≡ To k at → Named (nameBytes pairs text) (treeAt ws pairs 0) k
 
 -- ---- the array

@@ -21,8 +21,8 @@ use Rattle.encoding.specs.declared.Refusal.the-variants.{EndsEarly}
 use Rattle.encoding.specs.declared.Head.the-variants.{Name, Ref}
 use Rattle.encoding.specs.declared.WordScan.{WordScan}
 use Rattle.encoding.specs.declared.WordScan.the-variants.{Word, NoWord}
-use Rattle.encoding.specs.Reading.{Reading, got, stop, _>>=_, mapReading, readWord, readBelow}
-use Rattle.encoding.specs.Scans.{wordScan}
+use Rattle.encoding.specs.Reading.{Reading, got, stop, _>>=_, readWord, readBelow}
+use Rattle.encoding.specs.Scans.{wordScan, mapReading}
 use Rattle.encoding.specs.Tables.{fixedNames, nameBytes, nameCount}
 use Rattle.encoding.specs.Heads.{headAfter, readHead}
 use Rattle.encoding.specs.Types.{primitives, readNode, readType, typeAt}

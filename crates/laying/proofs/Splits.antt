@@ -6,7 +6,8 @@ use native.Mathlib.Omega.{arith}
 use Rattle.rast.specs.Bytes.{Bytes, ascii}
 use Rattle.rast.specs.Indent.{SeqToString}
 use Rattle.encoding.specs.declared.Refusal.{Refusal}
-use Rattle.encoding.specs.Reading.{Reading, got, stop, _>>=_, mapReading, readWord}
+use Rattle.encoding.specs.Reading.{Reading, got, stop, _>>=_, readWord}
+use Rattle.encoding.specs.Scans.{mapReading}
 use Rattle.encoding.specs.Declarations.{readList, readCounted}
 use Rattle.laying.specs.Passes.{Chain, last, _then_, run, listed}
 use Rattle.laying.proofs.Passes.{Runs}

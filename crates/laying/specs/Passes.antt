@@ -8,7 +8,7 @@ use Rattle.rast.specs.Bytes.{Bytes}
 use Rattle.output.specs.Laid.{Laid}
 use Rattle.encoding.specs.declared.Refusal.{Refusal}
 use Rattle.encoding.specs.Reading.{Reading, got, stop, _>>=_}
-use Rattle.encoding.specs.Tables.{Good}
+use Rattle.encoding.specs.Tested.{Good}
 use Rattle.writing.specs.Written.{Room}
 use Rattle.laying.specs.declared.Place.{Place}
 use Rattle.laying.specs.declared.Place.the-variants.{At, Stopped}

@@ -6,7 +6,8 @@ use Rattle.rast.specs.ToString.{Path·ToString, Type·ToString}
 use Rattle.rast.specs.Indent.{indent}
 use Rattle.rast.specs.Doc.{ToDocstringPrefix}
 use Rattle.rast.specs.DeclarationToString.{Visibility·ToString}
-use Rattle.encoding.specs.Reading.{Reading, mapReading}
+use Rattle.encoding.specs.Reading.{Reading}
+use Rattle.encoding.specs.Scans.{mapReading}
 use Rattle.encoding.specs.Tables.{nameBytes, nameCount}
 use Rattle.encoding.specs.Heads.{readPath}
 use Rattle.encoding.specs.Types.{pathOf, typeAt}

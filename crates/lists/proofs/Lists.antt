@@ -14,7 +14,8 @@ use Rattle.rast.specs.DeclarationToString.{derivedText, Attribute·ToString, At
 use Rattle.output.specs.Laid.{clamp}
 use Rattle.doc.proofs.Laying.{indent-length}
 use Rattle.encoding.specs.declared.Refusal.{Refusal}
-use Rattle.encoding.specs.Reading.{Reading, got, stop, _>>=_, mapReading, readWord}
+use Rattle.encoding.specs.Reading.{Reading, got, stop, _>>=_, readWord}
+use Rattle.encoding.specs.Scans.{mapReading}
 use Rattle.encoding.specs.Tables.{nameBytes, nameCount}
 use Rattle.encoding.specs.Types.{typeAt}
 use Rattle.encoding.specs.Declarations.{readList, readCounted, readAttribute, readParameter}

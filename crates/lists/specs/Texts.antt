@@ -4,7 +4,8 @@ use mathlib.Core.List.{List, [], _++_}
 use Rattle.rast.specs.Bytes.{Bytes, ascii}
 use Rattle.rast.specs.Indent.{indent}
 use Rattle.rast.specs.DeclarationToString.{derivedText, Attribute·ToString, Attribute·ToStringMultiple, constraintsText, TypeParamDecl·ToString, TypeParamDecl·ToStringMultiple}
-use Rattle.encoding.specs.Reading.{Reading, mapReading}
+use Rattle.encoding.specs.Reading.{Reading}
+use Rattle.encoding.specs.Scans.{mapReading}
 use Rattle.encoding.specs.Tables.{nameBytes, nameCount}
 use Rattle.encoding.specs.Types.{typeAt}
 use Rattle.encoding.specs.Declarations.{readCounted, readAttribute, readParameter}

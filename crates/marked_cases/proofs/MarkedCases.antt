@@ -35,7 +35,7 @@ use Rattle.shapes.specs.Parts.{expandedAt, expanded, ExpandAt}
 use Rattle.shapes.specs.Initialization.{MaybeUninitType, PtrType, orThis, newUnderlying, TypeAtInitialization}
 use Rattle.parts.specs.Answers.{spanOf, spanIn, partOf, partWords}
 use Rattle.rebuild.specs.Calls.{laidDown, ruledBy, typeRebuilt}
-use Rattle.initialization.specs.Initialized.{typeInitialized}
+use Rattle.initialization.specs.Calls.{typeInitialized}
 use Rattle.marked_cases.specs.MarkedCases.{AllHold, pairs, text, example, littleEndian, exampleFile, exampleText, documented, markedCases}
 
 pub all-hold : AllHold markedCases

@@ -21,7 +21,7 @@ use Rattle.parts.specs.declared.PartAnswer.the-variants.{Part}
 use Rattle.parts.specs.Answers.{partOf, partAnswer, partWords}
 use Rattle.rebuild.specs.declared.RebuildAnswer.the-variants.{Length}
 use Rattle.rebuild.specs.Calls.{laidDown, typeRebuilt}
-use Rattle.initialization.specs.Initialized.{typeInitialized}
+use Rattle.initialization.specs.Calls.{typeInitialized}
 
 -- what a definition gives on some input, and what document 01 says that it gives
 pub record Claim : Type 1 where

@@ -11,8 +11,9 @@ use Rattle.rast.specs.Bytes.{Bytes, ascii}
 use Rattle.rast.specs.Tree.{Path, PMemberSelect, MSels}
 use Rattle.rast.specs.ToString.{Path·ToString}
 use Rattle.encoding.specs.declared.PathAt.{PathAt}
-use Rattle.encoding.specs.Tables.{Good, nameBytes, nameLength, nameCount}
-use Rattle.encoding.specs.Heads.{InsidePath}
+use Rattle.encoding.specs.Tables.{nameBytes, nameCount}
+use Rattle.encoding.specs.Tested.{Good, nameLength}
+use Rattle.encoding.specs.HeadWords.{InsidePath}
 use Rattle.encoding.specs.Types.{rootOf, pathOf}
 use Rattle.encoding.proofs.Tables.{fixed-inside, fixed-length, length-fixed, length-pair, name-length}
 use Rattle.measure.specs.Lengths.{namesLength, pathLength}

@@ -9,7 +9,8 @@ use Rattle.rast.specs.ToString.{Path·ToString, Type·ToString}
 use Rattle.encoding.specs.declared.Refusal.{Refusal}
 use Rattle.encoding.specs.declared.PathAt.{PathAt}
 use Rattle.encoding.specs.Reading.{Reading, got, stop}
-use Rattle.encoding.specs.Tables.{Good, nameBytes, nameCount}
+use Rattle.encoding.specs.Tables.{nameBytes, nameCount}
+use Rattle.encoding.specs.Tested.{Good}
 use Rattle.encoding.specs.Heads.{readPath}
 use Rattle.encoding.specs.Types.{pathOf}
 use Rattle.encoding.proofs.Tables.{impossible}

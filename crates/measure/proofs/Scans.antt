@@ -6,9 +6,10 @@ use native.Mathlib.Omega.{arith}
 use Rattle.encoding.specs.declared.Refusal.{Refusal}
 use Rattle.encoding.specs.declared.Head.{Head}
 use Rattle.encoding.specs.Reading.{Reading, got, stop, readWord, readBelow}
-use Rattle.encoding.specs.Tables.{nameLength}
+use Rattle.encoding.specs.Tested.{nameLength}
 use Rattle.encoding.specs.declared.PathAt.{PathAt}
-use Rattle.encoding.specs.Heads.{kids, readPath}
+use Rattle.encoding.specs.Heads.{readPath}
+use Rattle.encoding.specs.HeadWords.{kids}
 use Rattle.encoding.proofs.Tables.{impossible}
 use Rattle.measure.specs.declared.PathMeasure.{PathMeasure}
 use Rattle.measure.specs.declared.PathMeasure.the-variants.{MeasuredPath, NoPath}

@@ -16,8 +16,9 @@ use Rattle.encoding.specs.declared.Head.{Head}
 use Rattle.encoding.specs.declared.Head.the-variants.{Plain, Name, FromPath, Apply, Ref, RefMut, Impl, Dyn, Tuple, Function, Both, ArrayOf, Synonym, Meta}
 use Rattle.encoding.specs.Refusals.{pick}
 use Rattle.encoding.specs.Reading.{Reading, got, stop, _>>=_}
-use Rattle.encoding.specs.Tables.{Good, nameBytes, nameLength, nameCount}
-use Rattle.encoding.specs.Heads.{kids, InsideHead}
+use Rattle.encoding.specs.Tables.{nameBytes, nameCount}
+use Rattle.encoding.specs.Tested.{Good, nameLength}
+use Rattle.encoding.specs.HeadWords.{kids, InsideHead}
 use Rattle.encoding.specs.Types.{sizeOf, readTypes, readNode}
 use Rattle.encoding.proofs.Tables.{name-length}
 use Rattle.encoding.proofs.Types.{snoc, count-snoc, types-count}

@@ -19,7 +19,8 @@ use Rattle.shapes.specs.Parts.{removedAt, expandedAt, ownedAt, isMap, MaybeUnin
 use Rattle.shapes.specs.Shapes.{IsBox, IsRc, IsBoxDyn, IsMaybeUninit, IsMultiArray, IsObject, IsPointer, IsObjectOrPointer, IsBuiltinCollection}
 use Rattle.parts.specs.declared.Wanted.{Wanted}
 use Rattle.parts.specs.declared.Wanted.the-variants.{Removed, Expanded, Owned, OfMultiArray, OfBox, OfPointer, OfRc, OfBoxDyn, OfCollection, OfPlacebo, OfUninitArray}
-use Rattle.parts.specs.Answers.{Span, spanOf, spanIn, partOf, partFor}
+use Rattle.parts.specs.Answers.{Span, spanOf, spanIn, partOf}
+use Rattle.parts.specs.Asked.{partFor}
 
 -- names 16 to 18: `Array2`, `Set`, `Map`
 abbrev pairs : List ℕ

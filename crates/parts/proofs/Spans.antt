@@ -33,7 +33,8 @@ use Rattle.parts.specs.declared.PartAnswer.{PartAnswer}
 use Rattle.parts.specs.declared.PartAnswer.the-variants.{Part, Refused}
 use Rattle.parts.specs.declared.Wanted.{Wanted}
 use Rattle.parts.specs.declared.Wanted.the-variants.{Removed, Expanded, Owned, OfMultiArray, OfBox, OfPointer, OfRc, OfBoxDyn, OfCollection, OfPlacebo, OfUninitArray}
-use Rattle.parts.specs.Answers.{Span, spanOf, spanIn, partOf, partAnswer, partWords, partFor, Spans}
+use Rattle.parts.specs.Answers.{Span, spanOf, spanIn, partOf, partAnswer, partWords}
+use Rattle.parts.specs.Asked.{partFor, Spans}
 use Rattle.classes.proofs.Children.{Keeps}
 use Rattle.classes.proofs.Finding.{located, nowhere}
 use Rattle.shapes.proofs.Answers.{Accepted, accepted}

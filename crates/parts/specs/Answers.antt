@@ -1,6 +1,5 @@
 -- The answers of the part calls: where the part of the type that an encoding holds stands, and its words.
 use Prim.Native.Nat.{ℕ}
-use mathlib.Core.Path.{_≡_}
 use mathlib.Core.List.{List, []}
 use mathlib.Core.Option.{Option, some, none}
 use lib.ListN.{take, drop}
@@ -8,15 +7,11 @@ use Rattle.rast.specs.Bytes.{Bytes}
 use Rattle.rast.specs.Tree.{Ty}
 use Rattle.encoding.specs.declared.Refusal.the-variants.{NoSuchPart}
 use Rattle.encoding.specs.Refusals.{Answer, given, refused}
-use Rattle.encoding.specs.Reading.{Reading, got}
 use Rattle.encoding.specs.Types.{typeOf}
 use Rattle.trees.specs.Encode.{words}
 use Rattle.trees.specs.Places.{Place, place}
-use Rattle.shapes.specs.Parts.{RemoveSynonyms, ExpandAt, ToOwned, MultiArrayUnderlying, BoxUnderlying, ObjectOrPointerUnderlying, RcUnderlying, BoxDynUnderlying, GetBuiltinCollectionElement, ExtractMaybePlacebo, ExtractMaybeUninitArrayElement}
 use Rattle.parts.specs.declared.PartAnswer.{PartAnswer}
 use Rattle.parts.specs.declared.PartAnswer.the-variants.{Part, Refused}
-use Rattle.parts.specs.declared.Wanted.{Wanted}
-use Rattle.parts.specs.declared.Wanted.the-variants.{Removed, Expanded, Owned, OfMultiArray, OfBox, OfPointer, OfRc, OfBoxDyn, OfCollection, OfPlacebo, OfUninitArray}
 
 -- the words of a part: from where, and how many
 pub record Span : Type 0 where
@@ -44,21 +39,3 @@ partAnswer (refused r) = Refused r
 unfoldable pub partWords : List ℕ → Answer Span → List ℕ
 partWords ws (given s) = take (s .length) (drop (s .start) ws)
 partWords ws (refused r) = []
-
--- the part that a call asks for
-abbrev pub partFor : Wanted → Place Bytes → Option (Place Bytes)
-partFor Removed = RemoveSynonyms
-partFor Expanded = ExpandAt
-partFor Owned = ToOwned
-partFor OfMultiArray = MultiArrayUnderlying
-partFor OfBox = BoxUnderlying
-partFor OfPointer = ObjectOrPointerUnderlying
-partFor OfRc = RcUnderlying
-partFor OfBoxDyn = BoxDynUnderlying
-partFor OfCollection = GetBuiltinCollectionElement
-partFor OfPlacebo = ExtractMaybePlacebo
-partFor OfUninitArray = ExtractMaybeUninitArrayElement
-
--- the answer r gives the part f of the type that was read at 0
-pub record Spans (f : Place Bytes → Option (Place Bytes)) (x : Reading (Ty Bytes)) (r : PartAnswer) : Type 0 where
-  pub says : (t : Ty Bytes) (n : ℕ) → x ≡ got t n → r ≡ partAnswer (spanOf (f (place 0 t)))

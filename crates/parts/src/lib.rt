@@ -1,11 +1,12 @@
 // Parts of the type that an encoding holds: where each stands, and the part of the caller's words itself.
 ghost use mathlib.Core.Path.{_≡_};
-ghost use Rattle.encoding.specs.Tables.{Good};
+ghost use Rattle.encoding.specs.Tested.{Good};
 ghost use Rattle.encoding.specs.Types.{typeAt};
 ghost use Rattle.writing.specs.Written.{Readable};
 ghost use Rattle.classes.specs.Asked.{Finds};
 ghost use Rattle.shapes.specs.Parts.{RemoveSynonyms, ExpandAt, ToOwned, MultiArrayUnderlying, BoxUnderlying, ObjectOrPointerUnderlying, RcUnderlying, BoxDynUnderlying, GetBuiltinCollectionElement, ExtractMaybePlacebo, ExtractMaybeUninitArrayElement};
-ghost use Rattle.parts.specs.Answers.{partOf, partAnswer, partWords, partFor, Spans};
+ghost use Rattle.parts.specs.Answers.{partOf, partAnswer, partWords};
+ghost use Rattle.parts.specs.Asked.{partFor, Spans};
 use classes::Class;
 use classes::Found;
 use encoding::Check;

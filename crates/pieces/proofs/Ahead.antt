@@ -7,7 +7,8 @@ use native.Mathlib.Numerals.{sub-one}
 use lib.ListN.{length}
 use Rattle.rast.specs.Tree.{Ty}
 use Rattle.encoding.specs.declared.Refusal.{Refusal}
-use Rattle.encoding.specs.Reading.{Reading, got, stop, _>>=_, mapReading}
+use Rattle.encoding.specs.Reading.{Reading, got, stop, _>>=_}
+use Rattle.encoding.specs.Scans.{mapReading}
 use Rattle.encoding.specs.Declarations.{readList}
 use Rattle.encoding.proofs.Types.{made₂-got}
 use Rattle.pieces.specs.Pieces.{Piece, runs, typePiece}

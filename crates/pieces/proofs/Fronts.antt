@@ -8,12 +8,13 @@ use Rattle.rast.specs.Tree.{Ty}
 use Rattle.rast.specs.Declaration.{Attribute, TypeParamDecl, Struct, Enum, TypeSynonym, Use, Declaration, StructDecl, EnumDecl, TypeDecl, UseDecl}
 use Rattle.encoding.specs.declared.Refusal.the-variants.{UnknownWord}
 use Rattle.encoding.specs.Refusals.{pick}
-use Rattle.encoding.specs.Reading.{Reading, got, stop, _>>=_, mapReading, readWord, readBelow}
+use Rattle.encoding.specs.Reading.{Reading, got, stop, _>>=_, readWord, readBelow}
+use Rattle.encoding.specs.Scans.{mapReading}
 use Rattle.encoding.specs.Heads.{readPath}
 use Rattle.encoding.specs.Declarations.{structHead, enumHead, synonymHead, useHead, readCounted, readName, readAttribute, readParameter, readFields, readCase, readStruct, readEnum, readTypeSynonym, readUse, declarationAfter, readDeclaration}
 use Rattle.encoding.proofs.Tables.{impossible}
 use Rattle.encoding.proofs.Types.{bind-got, made-got}
-use Rattle.trees.specs.Encode.{renamedToken}
+use Rattle.trees.specs.Tokens.{renamedToken}
 use Rattle.pieces.specs.declared.After.{After}
 use Rattle.pieces.specs.declared.After.the-variants.{FieldList, CaseList, OneType, NoMore}
 use Rattle.pieces.specs.Pieces.{Piece, owned, casePieces, heading, front, pieces, titleTokens}

@@ -11,14 +11,16 @@ use Rattle.rast.specs.Declaration.{Attribute, TypeParamDecl, Fields, EnumCase, 
 use Rattle.encoding.specs.declared.Refusal.the-variants.{UnknownWord}
 use Rattle.encoding.specs.declared.PathAt.{PathAt}
 use Rattle.encoding.specs.Refusals.{pick}
-use Rattle.encoding.specs.Reading.{Reading, got, stop, _>>=_, mapReading, readWord, readBelow}
+use Rattle.encoding.specs.Reading.{Reading, got, stop, _>>=_, readWord, readBelow}
+use Rattle.encoding.specs.Scans.{mapReading}
 use Rattle.encoding.specs.Heads.{readPath}
 use Rattle.encoding.specs.Types.{rootOf, pathOf}
 use Rattle.encoding.specs.Declarations.{structHead, enumHead, synonymHead, useHead, readList, readCounted, visibilityOf, readVisibility, readName, readAttribute, readParameter, readFields, readCase, readStruct, readEnum, readTypeSynonym, readUse, declarationAfter, readDeclaration}
 use Rattle.encoding.proofs.Reading.{map-same}
 use Rattle.measure.proofs.Texts.{bind-assoc, bind-same}
 use Rattle.trees.specs.Renamed.{renamedSize}
-use Rattle.trees.specs.Encode.{Token, word, name, size, renamedToken, rootWord, names, pathTokens}
+use Rattle.trees.specs.Encode.{Token, word, name, size, rootWord, names, pathTokens}
+use Rattle.trees.specs.Tokens.{renamedToken}
 use Rattle.trees.proofs.Spans.{path-names, path-root}
 use Rattle.trees.proofs.Renaming.{map-on, names-renamed}
 use Rattle.pieces.specs.declared.After.{After}

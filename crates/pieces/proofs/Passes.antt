@@ -7,8 +7,8 @@ use lib.ListN.{length, length-map}
 use Rattle.rast.specs.Bytes.{Bytes}
 use Rattle.encoding.specs.declared.Refusal.{Refusal}
 use Rattle.encoding.specs.declared.Scan.the-variants.{Refused}
-use Rattle.encoding.specs.Reading.{Reading, got, stop, _>>=_, mapReading}
-use Rattle.encoding.specs.Scans.{ended}
+use Rattle.encoding.specs.Reading.{Reading, got, stop, _>>=_}
+use Rattle.encoding.specs.Scans.{ended, mapReading}
 use Rattle.encoding.specs.Tables.{nameBytes, nameCount}
 use Rattle.encoding.specs.Types.{typeAt}
 use Rattle.encoding.specs.Declarations.{declarationAt}

@@ -11,8 +11,8 @@ use Rattle.encoding.specs.declared.Refusal.the-variants.{UnknownWord}
 use Rattle.encoding.specs.declared.Scan.{Scan}
 use Rattle.encoding.specs.declared.Scan.the-variants.{At, Refused}
 use Rattle.encoding.proofs.Reading.{scan-got}
-use Rattle.encoding.specs.Reading.{Reading, got, stop, _>>=_, mapReading, readWord, readBelow, readNames}
-use Rattle.encoding.specs.Scans.{ended}
+use Rattle.encoding.specs.Reading.{Reading, got, stop, _>>=_, readWord, readBelow, readNames}
+use Rattle.encoding.specs.Scans.{ended, mapReading}
 use Rattle.encoding.specs.Declarations.{readList, readCounted, readAttribute, readName, structHead, enumHead, synonymHead, useHead}
 use Rattle.encoding.proofs.Tables.{impossible}
 use Rattle.encoding.proofs.Types.{made₂-got}

@@ -11,12 +11,14 @@ use Rattle.rast.specs.Tree.{Ty}
 use Rattle.rast.specs.Declaration.{Fields, NamedFields, NamelessFields}
 use Rattle.encoding.specs.declared.Refusal.{Refusal}
 use Rattle.encoding.specs.Refusals.{pick}
-use Rattle.encoding.specs.Reading.{Reading, got, stop, _>>=_, mapReading, readWord, readBelow}
+use Rattle.encoding.specs.Reading.{Reading, got, stop, _>>=_, readWord, readBelow}
+use Rattle.encoding.specs.Scans.{mapReading}
 use Rattle.encoding.specs.Declarations.{readList, readCounted, visibilityOf, readVisibility, readName, readParameter, readFormal, readField, readNamelessField, readFields, readCase}
 use Rattle.encoding.proofs.Tables.{impossible}
 use Rattle.encoding.proofs.Types.{bind-got}
 use Rattle.encoding.proofs.Inside.{There, word-there, below-there}
-use Rattle.trees.specs.Encode.{Token, word, name, tokenWord, renamedToken}
+use Rattle.trees.specs.Encode.{Token, word, name, tokenWord}
+use Rattle.trees.specs.Tokens.{renamedToken}
 use Rattle.trees.specs.Runs.{Run}
 use Rattle.trees.proofs.Runs.{run-one, run-two}
 use Rattle.trees.proofs.Spans.{next-there}

@@ -3,7 +3,7 @@ ghost use mathlib.Core.Path.{_≡_};
 ghost use mathlib.Core.Bool.{true};
 ghost use Prim.Native.Nat.{_^_, _≤_, _<_};
 ghost use lib.ListN.{length};
-ghost use Rattle.encoding.specs.Tables.{Good};
+ghost use Rattle.encoding.specs.Tested.{Good};
 ghost use Rattle.encoding.specs.Types.{typeAt};
 ghost use Rattle.encoding.specs.Declarations.{readList, readCounted, declarationAt};
 ghost use Rattle.encoding.specs.Scans.{ended};

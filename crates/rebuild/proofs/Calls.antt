@@ -10,7 +10,8 @@ use Rattle.rast.specs.Bytes.{Bytes}
 use Rattle.encoding.specs.declared.Refusal.{Refusal}
 use Rattle.encoding.specs.declared.Refusal.the-variants.{LeftOver, TooDeep, BufferTooShort}
 use Rattle.encoding.specs.Refusals.{Answer, given, refused}
-use Rattle.encoding.specs.Reading.{Reading, got, stop, mapReading, whole}
+use Rattle.encoding.specs.Reading.{Reading, got, stop, whole}
+use Rattle.encoding.specs.Scans.{mapReading}
 use Rattle.encoding.proofs.Tables.{impossible}
 use Rattle.output.proofs.Laws.{sets-front}
 use Rattle.encoding.proofs.Reading.{map-got}
@@ -26,7 +27,8 @@ use Rattle.rebuild.specs.declared.RebuildAnswer.the-variants.{Length, Re
 use Rattle.rebuild.specs.declared.Attempt.{Attempt}
 use Rattle.rebuild.specs.declared.Attempt.the-variants.{Answered, NoRoom}
 use Rattle.rebuild.specs.Laid.{Rebuilds, rebuilt, full, ruleList, Ruled}
-use Rattle.rebuild.specs.Calls.{sameWords, Laid, roomOf, zeros, laidDown, ruledBy, LaidRebuilds, Attempted, answered, noRoom, Fills}
+use Rattle.rebuild.specs.Calls.{Laid, roomOf, zeros, laidDown, ruledBy}
+use Rattle.rebuild.specs.Attempts.{sameWords, LaidRebuilds, Attempted, answered, noRoom, Fills}
 use Rattle.rebuild.proofs.Types.{came, filled}
 
 -- more words would lie there than there is room

@@ -8,14 +8,16 @@ use Rattle.rast.specs.Bytes.{Bytes}
 use Rattle.rast.specs.Tree.{Ty, Tys, nil, cons, count}
 use Rattle.encoding.specs.Reading.{Reading, got}
 use Rattle.encoding.specs.Tables.{nameBytes, nameCount}
-use Rattle.encoding.specs.Heads.{readHead, kids, typesBelow, ownEnd}
+use Rattle.encoding.specs.Heads.{readHead}
+use Rattle.encoding.specs.HeadWords.{kids, typesBelow, ownEnd}
 use Rattle.encoding.specs.Types.{readTypes}
 use Rattle.encoding.proofs.Tables.{impossible}
 use Rattle.encoding.proofs.Inside.{head-lies}
 use Rattle.encoding.proofs.HeadWords.{plain-below, plain-end}
 use Rattle.output.proofs.Laws.{part-length, part-more}
 use Rattle.encoding.proofs.Types.{types-count}
-use Rattle.trees.specs.Encode.{tokensAll, encode, encodeAll, words, wordsAll}
+use Rattle.trees.specs.Encode.{tokensAll, encode, words, wordsAll}
+use Rattle.trees.specs.Tokens.{encodeAll}
 use Rattle.trees.specs.Numbered.{treeAt}
 use Rattle.trees.proofs.Nodes.{Below, First, first-type}
 use Rattle.trees.proofs.Spans.{node-spells, encode-cons}

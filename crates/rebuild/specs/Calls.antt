@@ -1,6 +1,5 @@
 -- What the calls that rebuild give: the answer, and what the buffer holds afterwards.
-use Prim.Native.Nat.{ℕ, _<_, min}
-use mathlib.Core.Path.{_≡_}
+use Prim.Native.Nat.{ℕ, min}
 use mathlib.Core.List.{List, _++_}
 use lib.Dec.{ltb}
 use lib.ListN.{length, drop, replicate}
@@ -8,18 +7,14 @@ use Rattle.rast.specs.Bytes.{Bytes}
 use Rattle.rast.specs.Tree.{Ty}
 use Rattle.encoding.specs.declared.Refusal.the-variants.{TooDeep, BufferTooShort}
 use Rattle.encoding.specs.Refusals.{pick, Answer, given, refused, unless}
-use Rattle.encoding.specs.Reading.{Reading, got, whole}
+use Rattle.encoding.specs.Reading.{whole}
 use Rattle.trees.specs.Encode.{encode}
 use Rattle.trees.specs.Numbered.{treeAt}
 use Rattle.replace.specs.Replace.{Replace}
 use Rattle.replace.specs.Laying.{depth, peak}
 use Rattle.replace.specs.Rules.{Rule, checkAll, rulesOf, mappingOf}
-use Rattle.rebuild.specs.declared.Rebuilt.{Rebuilt}
-use Rattle.rebuild.specs.Laid.{Rebuilds}
 use Rattle.rebuild.specs.declared.RebuildAnswer.{RebuildAnswer}
 use Rattle.rebuild.specs.declared.RebuildAnswer.the-variants.{Length, Refused}
-use Rattle.rebuild.specs.declared.Attempt.{Attempt}
-use Rattle.rebuild.specs.declared.Attempt.the-variants.{Answered, NoRoom}
 
 -- a rebuilt tree: its words, the most words that lay there while they were laid down, and its depth
 pub record Laid : Type 0 where
@@ -47,10 +42,6 @@ laidDown o (refused r) = (Refused r, o)
 abbrev pub laidType : (Ty ℕ → Ty ℕ) → Ty ℕ → Laid
 laidType m t = record { words = encode (Replace m t); top = peak m t; deep = depth (Replace m t) }
 
--- words that are laid down as they stand, of a tree so deep
-abbrev pub sameWords : List ℕ → ℕ → Laid
-sameWords ws d = record { words = ws; top = length ws; deep = d }
-
 -- a tree and rules, or the refusal that comes first
 unfoldable pub ruledBy : {A : Type 0} → (List Rule → A → Laid) → Answer A → Answer (List Rule) → Answer Laid
 ruledBy f (given a) (given rs) = given (f rs a)
@@ -62,16 +53,3 @@ unfoldable pub typeRebuilt : List ℕ → List ℕ → Bytes → List ℕ → An
 typeRebuilt words pairs text rules =
     unless (checkAll words rules pairs text)
     (ruledBy (λ rs. laidType (mappingOf pairs text rs)) (whole (length words) (treeAt words pairs 0)) (rulesOf rules pairs text))
-
--- what was read was laid down at the front of a buffer, or more words would lie there than the limit
-abbrev pub LaidRebuilds : ℕ → List ℕ → Reading Laid → List ℕ → Rebuilt → Type 0
-LaidRebuilds limit o x o′ r = Rebuilds (λ (b : Laid). b .words) (λ (b : Laid). b .top) (λ (b : Laid). b .deep) limit o 0 x o′ r
-
--- what was read, rebuilt within a limit: the call is answered, or more words would lie there
-pub data Attempted (limit : ℕ) (x : Reading Laid) (o o′ : List ℕ) : Attempt → Type 0 where
-  answered : {b : Laid} {n : ℕ} {r : RebuildAnswer} → x ≡ got b n → (r, o′) ≡ laidDown o (given b) → Attempted limit x o o′ (Answered r)
-  noRoom : {b : Laid} {n : ℕ} → x ≡ got b n → limit < b .top → o′ ≡ o → Attempted limit x o o′ NoRoom
-
--- what was read, rebuilt
-pub record Fills (x : Reading Laid) (o o′ : List ℕ) (r : RebuildAnswer) : Type 0 where
-  pub fills : (b : Laid) (n : ℕ) → x ≡ got b n → (r, o′) ≡ laidDown o (given b)

@@ -7,10 +7,11 @@ use Rattle.rast.specs.Bytes.{Bytes}
 use Rattle.rast.specs.Tree.{Ty, Tys}
 use Rattle.encoding.specs.Refusals.{Answer, given as answer, refused}
 use Rattle.encoding.specs.Reading.{Reading, got}
-use Rattle.encoding.specs.Heads.{typesBelow, ownEnd}
+use Rattle.encoding.specs.HeadWords.{typesBelow, ownEnd}
 use Rattle.encoding.specs.Types.{readTypes}
 use Rattle.trees.specs.Numbered.{treeAt}
-use Rattle.trees.specs.Encode.{encode, encodeAll}
+use Rattle.trees.specs.Encode.{encode}
+use Rattle.trees.specs.Tokens.{encodeAll}
 use Rattle.replace.specs.Replace.{Replace, Replaces}
 use Rattle.replace.specs.Laying.{depth, deepest, peak, peaks}
 use Rattle.replace.specs.Rules.{Rule, rulesOf, mappingOf}

@@ -5,14 +5,16 @@ ghost use lib.ListN.{length, getD, take, drop};
 ghost use lib.Seq.{sets};
 ghost use Rattle.encoding.specs.Reading.{got};
 ghost use Rattle.encoding.specs.Refusals.{given};
-ghost use Rattle.encoding.specs.Tables.{Good, nameBytes};
+ghost use Rattle.encoding.specs.Tables.{nameBytes};
+ghost use Rattle.encoding.specs.Tested.{Good};
 ghost use Rattle.encoding.specs.Types.{readTypes};
 ghost use Rattle.trees.specs.Numbered.{treeAt};
 ghost use Rattle.writing.specs.Written.{Readable};
 ghost use Rattle.rules.specs.Table.{Fits, foundFrom};
 ghost use Rattle.rules.specs.Scans.{Spans};
 ghost use Rattle.rebuild.specs.Laid.{Lays, GivesTo, Settles, Ruled, mapping, WordRebuilds, PartsRebuild, TypeRebuilds, TypesRebuild};
-ghost use Rattle.rebuild.specs.Calls.{sameWords, zeros, laidDown};
+ghost use Rattle.rebuild.specs.Calls.{zeros, laidDown};
+ghost use Rattle.rebuild.specs.Attempts.{sameWords};
 use encoding::Refusal;
 use rules::Found;
 

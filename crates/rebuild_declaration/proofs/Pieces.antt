@@ -15,7 +15,8 @@ use Rattle.pieces.specs.WithTypes.{fieldsWith, caseWith, withTypes, pieceWith}
 use Rattle.pieces.proofs.WithTypes.{with-pieces}
 use Rattle.pieces.proofs.Encoded.{runs-append}
 use Rattle.rebuild_declaration.specs.Replacer.{ReplaceTypeParams, ReplaceFields, ReplaceStruct, ReplaceEnumCase, ReplaceEnum, ReplaceTypeDecl, ReplaceUse, ReplaceModDecl}
-use Rattle.rebuild_declaration.specs.Laying.{encodePieces, deepestPiece, topPieces, rebuiltWords, rebuiltDepth}
+use Rattle.rebuild_declaration.specs.Laying.{deepestPiece, topPieces}
+use Rattle.rebuild_declaration.specs.Steps.{encodePieces, rebuiltWords, rebuiltDepth}
 use Rattle.rebuild_declaration.specs.Calls.{laidDeclaration}
 
 encode-append : (ps qs : List (Piece ℕ)) → encodePieces (ps ++ qs) ≡ encodePieces ps ++ encodePieces qs

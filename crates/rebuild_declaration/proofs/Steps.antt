@@ -6,7 +6,8 @@ use native.Mathlib.Omega.{arith}
 use lib.ListN.{length, take, drop, length-map}
 use Rattle.rast.specs.Tree.{Ty}
 use Rattle.encoding.specs.declared.Refusal.{Refusal}
-use Rattle.encoding.specs.Reading.{Reading, got, stop, mapReading}
+use Rattle.encoding.specs.Reading.{Reading, got, stop}
+use Rattle.encoding.specs.Scans.{mapReading}
 use Rattle.encoding.specs.Tables.{nameCount}
 use Rattle.encoding.proofs.Tables.{impossible}
 use Rattle.encoding.proofs.Types.{bind-got}
@@ -37,8 +38,9 @@ use Rattle.rebuild.proofs.Growing.{grown-then, grown-nothing, lays-to, lays-ove
 use Rattle.rebuild.proofs.Types.{came, filled}
 use Rattle.rebuild_declaration.specs.declared.Advance.{Advance}
 use Rattle.rebuild_declaration.specs.declared.Advance.the-variants.{Further, Finished, NoSpace}
-use Rattle.rebuild_declaration.specs.Laying.{topPieces, rebuiltWords, rebuiltDepth, leftIn, Advanced, further, finished, noSpace, fieldAdvance, PiecesRebuild}
-use Rattle.rebuild_declaration.specs.Calls.{declarationIn, laidDeclaration, DeclarationRebuilds}
+use Rattle.rebuild_declaration.specs.Laying.{topPieces}
+use Rattle.rebuild_declaration.specs.Steps.{rebuiltWords, rebuiltDepth, leftIn, Advanced, further, finished, noSpace, fieldAdvance, PiecesRebuild, DeclarationRebuilds}
+use Rattle.rebuild_declaration.specs.Calls.{declarationIn, laidDeclaration}
 use Rattle.rebuild_declaration.proofs.Pieces.{words-append, depth-append, top-append, own-words, one-type, declaration-words, declaration-depth}
 
 -- ---- what a step reads

@@ -12,8 +12,6 @@ use Rattle.encoding.specs.Declarations.{readDeclaration}
 use Rattle.trees.specs.Numbered.{treeAt}
 use Rattle.replace.specs.Rules.{checkAll, rulesOf, mappingOf}
 use Rattle.pieces.specs.Pieces.{pieces, encodeDeclaration}
-use Rattle.rebuild.specs.declared.Rebuilt.{Rebuilt}
-use Rattle.rebuild.specs.Laid.{Rebuilds}
 use Rattle.rebuild.specs.Calls.{Laid, ruledBy}
 use Rattle.rebuild_declaration.specs.Replacer.{ReplaceModDecl}
 use Rattle.rebuild_declaration.specs.Laying.{deepestPiece, topPieces}
@@ -31,6 +29,3 @@ unfoldable pub declarationRebuilt : List ℕ → List ℕ → Bytes → List ℕ
 declarationRebuilt words pairs text rules =
     unless (checkAll words rules pairs text)
     (ruledBy (λ rs. laidDeclaration (mappingOf pairs text rs)) (whole (length words) (declarationIn words pairs)) (rulesOf rules pairs text))
-
-abbrev pub DeclarationRebuilds : (Ty ℕ → Ty ℕ) → ℕ → List ℕ → Reading (Declaration ℕ) → List ℕ → Rebuilt → Type 0
-DeclarationRebuilds m limit o x o′ r = Rebuilds (λ d. laidDeclaration m d .words) (λ d. laidDeclaration m d .top) (λ d. laidDeclaration m d .deep) limit o 0 x o′ r

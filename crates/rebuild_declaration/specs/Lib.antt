@@ -1,3 +1,4 @@
 pub mod Replacer
 pub mod Laying
 pub mod Calls
+pub mod Steps

@@ -1,12 +1,12 @@
 // A declaration rebuilt by rules: its own words are kept, and each of its types is rebuilt.
 ghost use Prim.Native.Nat.{_≤_};
 ghost use lib.ListN.{length};
-ghost use Rattle.encoding.specs.Tables.{Good};
+ghost use Rattle.encoding.specs.Tested.{Good};
 ghost use Rattle.writing.specs.Written.{Readable};
 ghost use Rattle.pieces.specs.Walks.{FieldNext};
 ghost use Rattle.rebuild.specs.Laid.{Ruled, mapping};
-ghost use Rattle.rebuild_declaration.specs.Laying.{leftIn, Advanced, fieldAdvance, PiecesRebuild};
-ghost use Rattle.rebuild_declaration.specs.Calls.{declarationIn, DeclarationRebuilds};
+ghost use Rattle.rebuild_declaration.specs.Steps.{leftIn, Advanced, fieldAdvance, PiecesRebuild, DeclarationRebuilds};
+ghost use Rattle.rebuild_declaration.specs.Calls.{declarationIn};
 use pieces::Next;
 use pieces::Start;
 use pieces::Walk;

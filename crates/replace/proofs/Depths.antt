@@ -6,7 +6,8 @@ use native.Mathlib.Omega.{arith}
 use Rattle.rast.specs.Tree.{Ty, Tys, nil, cons, count}
 use Rattle.encoding.specs.Reading.{Reading, got}
 use Rattle.encoding.specs.Tables.{nameCount}
-use Rattle.encoding.specs.Heads.{readHead, kids}
+use Rattle.encoding.specs.Heads.{readHead}
+use Rattle.encoding.specs.HeadWords.{kids}
 use Rattle.encoding.specs.Types.{readTypes, readNode, readType}
 use Rattle.encoding.proofs.Tables.{impossible}
 use Rattle.encoding.proofs.Types.{bind-got, types-count}

@@ -8,12 +8,14 @@ use Rattle.rast.specs.Tree.{Ty, Tys, nil, cons, count}
 use Rattle.encoding.specs.declared.Head.{Head}
 use Rattle.encoding.specs.Reading.{Reading, got}
 use Rattle.encoding.specs.Tables.{nameCount}
-use Rattle.encoding.specs.Heads.{readHead, kids}
+use Rattle.encoding.specs.Heads.{readHead}
+use Rattle.encoding.specs.HeadWords.{kids}
 use Rattle.encoding.specs.Types.{readTypes, readNode, readType}
 use Rattle.encoding.proofs.Tables.{impossible}
 use Rattle.encoding.proofs.Types.{bind-got, types-count}
 use Rattle.encoding.proofs.Inside.{head-lies}
-use Rattle.trees.specs.Encode.{encode, encodeAll, words, wordsAll}
+use Rattle.trees.specs.Encode.{encode, words, wordsAll}
+use Rattle.trees.specs.Tokens.{encodeAll}
 use Rattle.trees.specs.Runs.{Run}
 use Rattle.trees.specs.Numbered.{treeAt}
 use Rattle.trees.proofs.Nodes.{Node, node-below, first-type, words-nil, words-cons}

@@ -16,8 +16,8 @@ use Rattle.encoding.specs.declared.Check.the-variants.{Passed, Failed}
 use Rattle.encoding.specs.declared.Refusal.the-variants.{LeftOver}
 use Rattle.encoding.specs.declared.Scan.the-variants.{At}
 use Rattle.encoding.specs.Refusals.{pick, given, refused, unless}
-use Rattle.encoding.specs.Reading.{Reading, got, stop, mapReading, readBelow, readWord, whole}
-use Rattle.encoding.specs.Scans.{ended}
+use Rattle.encoding.specs.Reading.{Reading, got, stop, readBelow, readWord, whole}
+use Rattle.encoding.specs.Scans.{ended, mapReading}
 use Rattle.encoding.specs.Tables.{checkTables, nameBytes}
 use Rattle.encoding.specs.Declarations.{readList}
 use Rattle.encoding.proofs.Tables.{impossible}
@@ -35,12 +35,14 @@ use Rattle.rules.proofs.Lists.{check-tables}
 use Rattle.rules.proofs.Nowhere.{none-gives-way}
 use Rattle.rebuild.specs.declared.RebuildAnswer.{RebuildAnswer}
 use Rattle.rebuild.specs.Laid.{ruleList, mapping, Ruled}
-use Rattle.rebuild.specs.Calls.{Laid, laidDown, laidType, sameWords, typeRebuilt, Fills}
+use Rattle.rebuild.specs.Calls.{Laid, laidDown, laidType, typeRebuilt}
+use Rattle.rebuild.specs.Attempts.{sameWords, Fills}
 use Rattle.rebuild.proofs.Calls.{both-given, shallow}
 use Rattle.pieces.specs.Pieces.{Piece, own, type, pieces, declarationTokens, encodeDeclaration}
 use Rattle.pieces.specs.WithTypes.{pieceWith}
 use Rattle.pieces.proofs.Encoded.{declaration-run}
-use Rattle.rebuild_declaration.specs.Laying.{encodePieces, deepestPiece, topPieces}
+use Rattle.rebuild_declaration.specs.Laying.{deepestPiece, topPieces}
+use Rattle.rebuild_declaration.specs.Steps.{encodePieces}
 use Rattle.rebuild_declaration.specs.Calls.{declarationIn, laidDeclaration, declarationRebuilt}
 use Rattle.rebuild_declaration.proofs.Pieces.{encode-none, encode-own, encode-type, declaration-words, declaration-depth}
 use Rattle.pieces.specs.declared.Whole.{Whole}

@@ -9,8 +9,8 @@ use Rattle.encoding.specs.declared.Refusal.{Refusal}
 use Rattle.encoding.specs.declared.Refusal.the-variants.{LeftOver}
 use Rattle.encoding.specs.declared.Scan.the-variants.{At, Refused as Halted}
 use Rattle.encoding.specs.Refusals.{given, refused}
-use Rattle.encoding.specs.Reading.{Reading, got, stop, mapReading}
-use Rattle.encoding.specs.Scans.{ended}
+use Rattle.encoding.specs.Reading.{Reading, got, stop}
+use Rattle.encoding.specs.Scans.{ended, mapReading}
 use Rattle.encoding.proofs.Tables.{impossible}
 use Rattle.trees.specs.Numbered.{treeAt}
 use Rattle.writing.specs.Written.{Readable}
@@ -23,7 +23,8 @@ use Rattle.rebuild.specs.declared.Attempt.{Attempt}
 use Rattle.rebuild.specs.declared.RebuildAnswer.{RebuildAnswer}
 use Rattle.rebuild.specs.declared.RebuildAnswer.the-variants.{Refused}
 use Rattle.rebuild.specs.Laid.{ruleList, mapping}
-use Rattle.rebuild.specs.Calls.{Laid, laidDown, laidType, Attempted, Fills}
+use Rattle.rebuild.specs.Calls.{Laid, laidDown, laidType}
+use Rattle.rebuild.specs.Attempts.{Attempted, Fills}
 use Rattle.rebuild.proofs.Calls.{tree-stops, tree-over, rules-stop-it, whole-filled}
 use Rattle.rebuild_declaration.specs.Calls.{declarationIn, laidDeclaration}
 use Rattle.pieces.specs.declared.Whole.{Whole}

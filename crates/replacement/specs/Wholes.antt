@@ -5,7 +5,8 @@ use lib.ListN.{length}
 use Rattle.rast.specs.Bytes.{Bytes}
 use Rattle.rast.specs.Tree.{Ty}
 use Rattle.encoding.specs.Refusals.{Answer}
-use Rattle.encoding.specs.Reading.{Reading, mapReading, whole}
+use Rattle.encoding.specs.Reading.{Reading, whole}
+use Rattle.encoding.specs.Scans.{mapReading}
 use Rattle.trees.specs.Numbered.{treeAt}
 use Rattle.replace.specs.Rules.{rulesOf, mappingOf}
 use Rattle.rebuild.specs.Calls.{Laid, laidType, ruledBy}

@@ -7,7 +7,7 @@ use lib.ListN.{length}
 use Rattle.rast.specs.Tree.{Ty, Tys, nil, cons}
 use Rattle.encoding.specs.Tables.{nameCount}
 use Rattle.encoding.specs.Reading.{Reading, got}
-use Rattle.encoding.specs.Heads.{HeadHere, typesBelow, ownEnd}
+use Rattle.encoding.specs.HeadWords.{HeadHere, typesBelow, ownEnd}
 use Rattle.encoding.specs.Types.{readTypes}
 use Rattle.encoding.proofs.Inside.{head-lies}
 use Rattle.trees.specs.Numbered.{treeAt}

@@ -15,12 +15,13 @@ use Rattle.encoding.specs.declared.Check.the-variants.{Passed, Failed}
 use Rattle.encoding.specs.declared.Scan.{Scan}
 use Rattle.encoding.specs.declared.Scan.the-variants.{At, Refused}
 use Rattle.encoding.specs.Refusals.{pick, given, refused}
-use Rattle.encoding.specs.Reading.{Reading, got, stop, _>>=_, mapReading, readBelow, whole}
-use Rattle.encoding.specs.Tables.{overlong, goodPairs, checkTables, nameBytes, Good}
+use Rattle.encoding.specs.Reading.{Reading, got, stop, _>>=_, readBelow, whole}
+use Rattle.encoding.specs.Tables.{overlong, goodPairs, checkTables, nameBytes}
+use Rattle.encoding.specs.Tested.{Good}
 use Rattle.encoding.specs.Types.{readTypes, typeAt}
 use Rattle.encoding.specs.Declarations.{readList}
 use Rattle.encoding.proofs.Tables.{impossible, tables-passed}
-use Rattle.encoding.specs.Scans.{ended}
+use Rattle.encoding.specs.Scans.{ended, mapReading}
 use Rattle.encoding.proofs.Reading.{scan-got, scan-stop}
 use Rattle.trees.specs.Renamed.{renamed}
 use Rattle.trees.specs.Numbered.{treeAt}

@@ -2,7 +2,8 @@
 ghost use mathlib.Core.Path.{_≡_};
 ghost use Prim.Native.Nat.{max, _+_, _-_, _*_, _≤_, _<_};
 ghost use lib.ListN.{length, getD, take, drop};
-ghost use Rattle.encoding.specs.Tables.{Good, nameBytes};
+ghost use Rattle.encoding.specs.Tables.{nameBytes};
+ghost use Rattle.encoding.specs.Tested.{Good};
 ghost use Rattle.encoding.specs.Types.{readTypes};
 ghost use Rattle.trees.specs.Numbered.{treeAt};
 ghost use Rattle.replace.specs.Rules.{checkAll};

@@ -13,7 +13,8 @@ use Rattle.encoding.specs.declared.Refusal.the-variants.{LeftOver}
 use Rattle.encoding.specs.declared.Check.{Check}
 use Rattle.encoding.specs.declared.Check.the-variants.{Passed, Failed}
 use Rattle.encoding.specs.Refusals.{pick, Answer, given, refused, mapAnswer, unless}
-use Rattle.encoding.specs.Tables.{Good, checkTables}
+use Rattle.encoding.specs.Tables.{checkTables}
+use Rattle.encoding.specs.Tested.{Good}
 use Rattle.encoding.specs.Reading.{Reading, got, stop, whole}
 use Rattle.encoding.specs.Types.{typeAt, typeOf}
 use Rattle.encoding.proofs.Tables.{impossible, tables-passed}
@@ -25,7 +26,8 @@ use Rattle.writing.specs.Written.{Readable}
 use Rattle.wrappers.specs.Asked.{Judges}
 use Rattle.shapes.specs.declared.ShapeAnswer.{ShapeAnswer}
 use Rattle.shapes.specs.declared.ShapeAnswer.the-variants.{Refused}
-use Rattle.shapes.specs.Asked.{shapeAnswer, acceptance}
+use Rattle.shapes.specs.Asked.{shapeAnswer}
+use Rattle.shapes.specs.Accepted.{acceptance}
 
 -- ---- accepting
 

@@ -25,7 +25,7 @@ use Rattle.classes.specs.declared.Found.the-variants.{At, NoPart}
 use Rattle.classes.specs.Asked.{Finds, found, isFound}
 use Rattle.classes.specs.Classes.{inClass, arity, isOf, first}
 use Rattle.classes.specs.Matches.{applied}
-use Rattle.shapes.specs.Asked.{nameStep, nameKind}
+use Rattle.shapes.specs.Accepted.{nameStep, nameKind}
 use Rattle.shapes.specs.Parts.{removedAt, ownedAt, ObjectOrPointerUnderlying}
 use Rattle.shapes.specs.Shapes.{isFixedNumber, isNumber, isBool, EndsWithNameThatCanAcceptGenerics, IsAutoSize, CanReadWithoutClone, IsRcOrBorrowedRc, IsUninitArray, IsBox, NeedsAsRefForBorrow, IsPointer, IsRc}
 use Rattle.classes.proofs.Children.{ref-below, mut-below, impl-below, dyn-below, display-below, meta-below}

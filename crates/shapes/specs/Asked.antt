@@ -1,30 +1,11 @@
--- What the functions on an accepted type answer, and the public answers.
-use Prim.Native.Nat.{ℕ}
+-- What the shape calls give.
 use mathlib.Core.Bool.{Bool, true, false}
-use lib.Dec.{eqb, ltb}
-use Rattle.rast.specs.Bytes.{_or_}
-use Rattle.encoding.specs.declared.Check.{Check}
-use Rattle.encoding.specs.declared.Check.the-variants.{Passed, Failed}
-use Rattle.encoding.specs.Refusals.{pick, Answer, given, refused}
+use Rattle.encoding.specs.Refusals.{Answer, given, refused}
 use Rattle.shapes.specs.declared.ShapeAnswer.{ShapeAnswer}
 use Rattle.shapes.specs.declared.ShapeAnswer.the-variants.{Yes, No, Refused}
-
--- how many own words stand before the type that `EndsWithNameThatCanAcceptGenerics` goes on to, by a type's kind; an intersection aside
-unfoldable pub nameStep : ℕ → ℕ
-nameStep k =
-    pick (eqb k 15) 1 (pick (eqb k 16) 1 (pick (eqb k 17) 1 (pick (eqb k 18) 1 (pick (eqb k 23) 1 (pick (eqb k 24) 2 0)))))
-
--- the kinds of which it is true outright: numbers of fixed size and names
-unfoldable pub nameKind : ℕ → Bool
-nameKind k = ltb k 10 or eqb k 12 or eqb k 13
 
 -- the answer of a shape call
 abbrev pub shapeAnswer : Answer Bool → ShapeAnswer
 shapeAnswer (given true) = Yes
 shapeAnswer (given false) = No
 shapeAnswer (refused r) = Refused r
-
--- whether there is an answer
-abbrev pub acceptance : {A : Type 0} → Answer A → Check
-acceptance (given a) = Passed
-acceptance (refused r) = Failed r

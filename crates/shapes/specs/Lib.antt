@@ -1,4 +1,5 @@
 pub mod Shapes
 pub mod Parts
 pub mod Asked
+pub mod Accepted
 pub mod Initialization

@@ -15,7 +15,7 @@ use Rattle.encoding.specs.declared.Head.{Head}
 use Rattle.encoding.specs.declared.Head.the-variants.{Plain, Name, FromPath, Apply, Ref, RefMut, Impl, Dyn, Tuple, Function, Both, ArrayOf, Synonym, Meta}
 use Rattle.encoding.specs.Refusals.{pick}
 use Rattle.encoding.specs.Reading.{Reading, got, stop, _>>=_}
-use Rattle.encoding.specs.Heads.{kids}
+use Rattle.encoding.specs.HeadWords.{kids}
 use Rattle.encoding.specs.Types.{readTypes, readNode}
 use Rattle.encoding.proofs.Types.{made₂-got, snoc}
 use Rattle.measure.proofs.Texts.{types-snoc, types-two}

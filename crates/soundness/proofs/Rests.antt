@@ -14,8 +14,10 @@ use Rattle.encoding.specs.declared.Refusal.{Refusal}
 use Rattle.encoding.specs.declared.Refusal.the-variants.{TooDeep}
 use Rattle.encoding.specs.declared.Head.{Head}
 use Rattle.encoding.specs.Reading.{Reading, got, stop, _>>=_}
-use Rattle.encoding.specs.Tables.{Good, nameBytes, nameCount}
-use Rattle.encoding.specs.Heads.{kids, readHead}
+use Rattle.encoding.specs.Tables.{nameBytes, nameCount}
+use Rattle.encoding.specs.Tested.{Good}
+use Rattle.encoding.specs.Heads.{readHead}
+use Rattle.encoding.specs.HeadWords.{kids}
 use Rattle.encoding.specs.Types.{readTypes, readType}
 use Rattle.encoding.proofs.Tables.{impossible}
 use Rattle.encoding.proofs.Types.{bind-got, made₂-got}

@@ -14,7 +14,7 @@ use Rattle.encoding.specs.declared.Head.the-variants.{Apply, Both, ArrayOf}
 use Rattle.encoding.specs.Refusals.{pick}
 use Rattle.encoding.specs.Reading.{Reading, got, stop}
 use Rattle.encoding.specs.Tables.{nameBytes}
-use Rattle.encoding.specs.Heads.{kids}
+use Rattle.encoding.specs.HeadWords.{kids}
 use Rattle.encoding.specs.Types.{sizeOf}
 use Rattle.encoding.proofs.Tables.{impossible}
 use Rattle.measure.specs.Lengths.{Counted, exact}

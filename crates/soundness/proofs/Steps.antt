@@ -16,7 +16,8 @@ use Rattle.encoding.specs.declared.Check.the-variants.{Passed}
 use Rattle.encoding.specs.declared.Head.{Head}
 use Rattle.encoding.specs.Refusals.{pick, given, refused, mapAnswer}
 use Rattle.encoding.specs.Reading.{Reading, got, stop, _>>=_, whole}
-use Rattle.encoding.specs.Tables.{Good, nameBytes, nameCount, checkTables}
+use Rattle.encoding.specs.Tables.{nameBytes, nameCount, checkTables}
+use Rattle.encoding.specs.Tested.{Good}
 use Rattle.encoding.specs.Heads.{readHead}
 use Rattle.encoding.specs.Types.{readTypes, readType, typeAt}
 use Rattle.encoding.proofs.Inside.{HeadLies, head-lies}

@@ -13,8 +13,9 @@ use Rattle.encoding.specs.declared.Head.{Head}
 use Rattle.encoding.specs.declared.Head.the-variants.{Plain, Name, FromPath, Apply, Ref, RefMut, Impl, Dyn, Tuple, Function, Both, ArrayOf, Synonym, Meta}
 use Rattle.encoding.specs.Refusals.{pick}
 use Rattle.encoding.specs.Reading.{Reading, got, stop, _>>=_, readNames}
-use Rattle.encoding.specs.Tables.{Good, nameBytes, nameCount}
-use Rattle.encoding.specs.Heads.{kids}
+use Rattle.encoding.specs.Tables.{nameBytes, nameCount}
+use Rattle.encoding.specs.Tested.{Good}
+use Rattle.encoding.specs.HeadWords.{kids}
 use Rattle.encoding.specs.Types.{pathOf, sizeOf, readTypes, readType}
 use Rattle.measure.specs.Lengths.{Counted}
 use Rattle.measure.specs.Levels.{stacked}

@@ -1,15 +1,12 @@
 -- What the text calls give: the answer, and what the buffer holds afterwards.
 use Prim.Native.Nat.{ℕ}
 use mathlib.Core.List.{List}
-use lib.ListN.{length}
 use Rattle.rast.specs.Bytes.{Bytes}
 use Rattle.rast.specs.ToString.{Path·ToString, Type·ToString}
 use Rattle.encoding.specs.Refusals.{Answer, mapAnswer, unless}
 use Rattle.encoding.specs.Filled.{filledBy}
-use Rattle.encoding.specs.Reading.{whole}
-use Rattle.encoding.specs.Tables.{checkLevel, nameBytes, nameCount}
-use Rattle.encoding.specs.Heads.{readPath}
-use Rattle.encoding.specs.Types.{typeAt, typeOf, pathOf, pathIn}
+use Rattle.encoding.specs.Tables.{checkLevel}
+use Rattle.encoding.specs.Types.{typeOf, pathIn}
 use Rattle.text.specs.declared.TextAnswer.{TextAnswer}
 use Rattle.text.specs.declared.TextAnswer.the-variants.{Length, Refused}
 
@@ -23,12 +20,3 @@ typeText words pairs text level = unless (checkLevel level) (mapAnswer Type·ToS
 
 unfoldable pub pathText : List ℕ → List ℕ → Bytes → ℕ → Answer Bytes
 pathText words pairs text level = unless (checkLevel level) (mapAnswer Path·ToString (pathIn words pairs text))
-
--- ---- the same, where the level and the tables are tested already
-
-abbrev pub wholeTypeText : List ℕ → List ℕ → Bytes → Answer Bytes
-wholeTypeText words pairs text = mapAnswer Type·ToString (whole (length words) (typeAt words pairs text 0))
-
-abbrev pub wholePathText : List ℕ → List ℕ → Bytes → Answer Bytes
-wholePathText words pairs text =
-    mapAnswer Path·ToString (mapAnswer (pathOf words (nameBytes pairs text)) (whole (length words) (readPath (nameCount pairs) words 0)))

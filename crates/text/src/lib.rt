@@ -2,8 +2,9 @@
 ghost use mathlib.Core.Path.{_≡_};
 ghost use Prim.Native.Nat.{_≤_};
 ghost use lib.ListN.{length};
-ghost use Rattle.encoding.specs.Tables.{Good};
-ghost use Rattle.text.specs.Calls.{filled, typeText, pathText, wholeTypeText, wholePathText};
+ghost use Rattle.encoding.specs.Tested.{Good};
+ghost use Rattle.text.specs.Calls.{filled, typeText, pathText};
+ghost use Rattle.text.specs.Wholes.{wholeTypeText, wholePathText};
 use encoding::Check;
 use encoding::Refusal;
 use measure::Measure;

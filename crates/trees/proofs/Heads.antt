@@ -8,7 +8,8 @@ use Rattle.rast.specs.Tree.{Ty}
 use Rattle.encoding.specs.declared.Head.{Head}
 use Rattle.encoding.specs.Tables.{nameCount}
 use Rattle.encoding.specs.Reading.{got}
-use Rattle.encoding.specs.Heads.{readHead, kids, HeadHere, typesBelow, ownEnd}
+use Rattle.encoding.specs.Heads.{readHead}
+use Rattle.encoding.specs.HeadWords.{kids, HeadHere, typesBelow, ownEnd}
 use Rattle.encoding.specs.Types.{readType}
 use Rattle.encoding.proofs.Inside.{head-lies}
 use Rattle.encoding.proofs.HeadWords.{words-kids, words-end}

@@ -11,7 +11,7 @@ use Rattle.encoding.specs.declared.PathAt.{PathAt}
 use Rattle.encoding.specs.declared.Head.{Head}
 use Rattle.encoding.specs.declared.Head.the-variants.{Plain, Name, FromPath, Apply, Ref, RefMut, Impl, Dyn, Tuple, Function, Both, ArrayOf, Synonym, Meta}
 use Rattle.encoding.specs.Reading.{Reading, got, _>>=_}
-use Rattle.encoding.specs.Heads.{kids}
+use Rattle.encoding.specs.HeadWords.{kids}
 use Rattle.encoding.specs.Types.{primitives, pathOf, sizeOf, readTypes, readNode}
 use Rattle.encoding.proofs.Types.{made-got, made₂-got, snoc}
 use Rattle.trees.specs.Encode.{tokens, tokensAll, words, wordsAll}

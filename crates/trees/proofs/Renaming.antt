@@ -14,14 +14,16 @@ use Rattle.encoding.specs.declared.Head.{Head}
 use Rattle.encoding.specs.declared.Head.the-variants.{Plain, Name, FromPath, Apply, Ref, RefMut, Impl, Dyn, Tuple, Function, Both, ArrayOf, Synonym, Meta}
 use Rattle.encoding.specs.declared.PathAt.{PathAt}
 use Rattle.encoding.specs.Refusals.{pick}
-use Rattle.encoding.specs.Reading.{Reading, got, stop, _>>=_, mapReading}
+use Rattle.encoding.specs.Reading.{Reading, got, stop, _>>=_}
+use Rattle.encoding.specs.Scans.{mapReading}
 use Rattle.encoding.specs.Tables.{nameBytes, nameCount}
 use Rattle.encoding.specs.Heads.{readHead}
 use Rattle.encoding.specs.Types.{rootOf, pathOf, sizeOf, readTypes, readNode, readType, typeAt}
 use Rattle.encoding.proofs.Tables.{impossible}
 use Rattle.encoding.proofs.Types.{type-end}
 use Rattle.trees.specs.Renamed.{renamedPath, renamedSize, renamed, renamedAll}
-use Rattle.trees.specs.Encode.{Token, word, name, size, tokenWord, renamedToken, flagsWord, rootWord, names, pathTokens, tokens, tokensAll, words, wordsAll, encode, encodeAll}
+use Rattle.trees.specs.Encode.{Token, word, name, size, tokenWord, flagsWord, rootWord, names, pathTokens, tokens, tokensAll, words, wordsAll, encode}
+use Rattle.trees.specs.Tokens.{renamedToken, encodeAll}
 use Rattle.trees.specs.Numbered.{treeAt}
 use Rattle.trees.specs.Runs.{Run}
 use Rattle.trees.proofs.Spans.{type-stands}

@@ -14,14 +14,16 @@ use Rattle.encoding.specs.declared.Head.{Head}
 use Rattle.encoding.specs.declared.Head.the-variants.{Plain, Name, FromPath, Apply, Ref, RefMut, Impl, Dyn, Tuple, Function, Both, ArrayOf, Synonym, Meta}
 use Rattle.encoding.specs.Refusals.{pick}
 use Rattle.encoding.specs.Reading.{Reading, got, _>>=_, readWord, readBelow, readNames}
-use Rattle.encoding.specs.Heads.{headKind, readPath, pathHead, headAfter, readHead, kids}
+use Rattle.encoding.specs.Heads.{readPath, pathHead, headAfter, readHead}
+use Rattle.encoding.specs.HeadWords.{headKind, kids}
 use Rattle.encoding.specs.Types.{primitives, rootOf, pathOf, sizeOf, readTypes, readType}
 use Rattle.encoding.proofs.Tables.{impossible, everyBelow, every-at}
 use Rattle.encoding.proofs.Heads.{head-at}
 use Rattle.encoding.proofs.Inside.{Holds, holds-on, holds-pick, There, Next, Names, word-holds, below-holds, names-hold, head-lies}
 use Rattle.encoding.proofs.TypeKinds.{head-kind}
 use Rattle.encoding.proofs.Types.{bind-got, made₂-got, snoc, types-count, count-snoc}
-use Rattle.trees.specs.Encode.{name, size, tokenWord, primitiveWord, flagsWord, rootWord, names, pathTokens, tokens, tokensAll, encode, encodeAll}
+use Rattle.trees.specs.Encode.{name, size, tokenWord, primitiveWord, flagsWord, rootWord, names, pathTokens, tokens, tokensAll, encode}
+use Rattle.trees.specs.Tokens.{encodeAll}
 use Rattle.trees.proofs.Nodes.{Node, plain, ident, path, apply, ref, refMut, impl, dyn, tuple, function, both, array, synonym, meta, node-below}
 use Rattle.trees.specs.Runs.{Run}
 use Rattle.trees.proofs.Runs.{run-none, run-one, run-two, run-part, run-join}

@@ -5,7 +5,6 @@ use mathlib.Core.List.{List, [], _∷_, _++_, map}
 use mathlib.Core.Option.{Option, some, none}
 use lib.ListN.{length}
 use Rattle.rast.specs.Tree.{Path, Global, Crate, Self, PMemberSelect, PrimitiveTy, U8, U16, U32, U64, U128, I8, I16, I32, I64, I128, USIZE, Bool·, Ty, Tys, Primitive, TIdentifier, TypeFromPath, TypeApp, Borrowed, BorrowedMut, ImplType, DynType, TupleType, FnType, IntersectionType, Array, TSynonym, TMetaData, nil, cons, count}
-use Rattle.trees.specs.Renamed.{renamedSize}
 
 -- one word: a number, a name, or an array's size
 pub data Token (N : Type 0) : Type 0 where
@@ -19,12 +18,6 @@ tokenWord (word k) = k
 tokenWord (name x) = x
 tokenWord (size none) = 0
 tokenWord (size (some x)) = suc x
-
--- the word by other names
-unfoldable pub renamedToken : {M N : Type 0} → (M → N) → Token M → Token N
-renamedToken f (word k) = word k
-renamedToken f (name x) = name (f x)
-renamedToken f (size s) = size (renamedSize f s)
 
 -- kinds 0 to 11
 unfoldable pub primitiveWord : PrimitiveTy → ℕ
@@ -99,6 +92,3 @@ module _ {N : Type 0} where
 -- the encoding of a type, names by their numbers
 unfoldable pub encode : Ty ℕ → List ℕ
 encode t = map tokenWord (tokens t)
-
-unfoldable pub encodeAll : Tys ℕ → List ℕ
-encodeAll ts = map tokenWord (tokensAll ts)

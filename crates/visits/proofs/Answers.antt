@@ -21,7 +21,8 @@ use Rattle.visits.specs.declared.VisitAnswer.the-variants.{Count, Refuse
 use Rattle.pieces.specs.declared.Whole.{Whole}
 use Rattle.pieces.specs.declared.Whole.the-variants.{AType}
 use Rattle.visits.specs.Visited.{visited, visitedFrom, positions}
-use Rattle.visits.specs.Calls.{filled, Due, Visited, heldVisits, Fills, AllVisited, wholeVisits}
+use Rattle.visits.specs.Calls.{filled}
+use Rattle.visits.specs.Passes.{Due, Visited, heldVisits, Fills, AllVisited, wholeVisits}
 use Rattle.pieces.specs.Ends.{Held, heldAt}
 use Rattle.visits.proofs.Lists.{listOf}
 

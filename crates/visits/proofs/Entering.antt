@@ -18,7 +18,8 @@ use Rattle.encoding.specs.Types.{typeAt}
 use Rattle.encoding.specs.Declarations.{declarationAt}
 use Rattle.encoding.proofs.Tables.{impossible}
 use Rattle.encoding.proofs.Types.{bind-got, type-lies}
-use Rattle.trees.specs.Encode.{Token, tokenWord, renamedToken, words}
+use Rattle.trees.specs.Encode.{Token, tokenWord, words}
+use Rattle.trees.specs.Tokens.{renamedToken}
 use Rattle.trees.proofs.Renaming.{type-words}
 use Rattle.trees.proofs.Nodes.{one-read}
 use Rattle.writing.specs.declared.Spot.{Spot}
@@ -36,7 +37,7 @@ use Rattle.pieces.proofs.Passes.{BegunAt, not-begun}
 use Rattle.pieces.proofs.Fronts.{Behind, behind-got, whole-left, Kind, a-struct, an-enum, a-synonym, a-use, kind-of}
 use Rattle.visits.specs.Visited.{visitedFrom, visitedPieces, entered, visitedDeclaration, positions}
 use Rattle.pieces.specs.declared.Whole.the-variants.{ADeclaration}
-use Rattle.visits.specs.Calls.{enteredAfter, enteredWalk, Ahead, Going, Entered, AllVisited, Due, Visited}
+use Rattle.visits.specs.Passes.{enteredAfter, enteredWalk, Ahead, Going, Entered, AllVisited, Due, Visited}
 use Rattle.visits.proofs.Lists.{listOf, positions-append}
 
 module _ {N : Type 0} where

@@ -11,7 +11,8 @@ use Rattle.output.proofs.Laws.{wrote-nothing, wrote-then, wrote-as, wrote-kept}
 use Rattle.encoding.specs.declared.Head.{Head}
 use Rattle.encoding.specs.Tables.{nameBytes, nameCount}
 use Rattle.encoding.specs.Reading.{got}
-use Rattle.encoding.specs.Heads.{readHead, kids, HeadHere, typesBelow, ownEnd}
+use Rattle.encoding.specs.Heads.{readHead}
+use Rattle.encoding.specs.HeadWords.{kids, HeadHere, typesBelow, ownEnd}
 use Rattle.encoding.specs.Types.{readTypes, readNode, readType, typeAt}
 use Rattle.encoding.proofs.Types.{Made₂, bind-got, made₂-got, node-of, type-lies}
 use Rattle.encoding.proofs.TypeKinds.{type-kind}
@@ -27,7 +28,7 @@ use Rattle.writing.specs.Written.{Readable, EndsAt}
 use Rattle.writing.proofs.Accepted.{type-here, synonym-head}
 use Rattle.writing.proofs.Skipping.{first-of, types-fit}
 use Rattle.visits.specs.Visited.{visitedFrom, visitedAll}
-use Rattle.visits.specs.Calls.{Due, Visited}
+use Rattle.visits.specs.Passes.{Due, Visited}
 use Rattle.visits.proofs.Lists.{append, types-join, positions-append, listOf, visited-join, visited-node}
 
 -- the list of a type and of those behind it, by the types that follow its head

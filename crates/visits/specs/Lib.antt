@@ -1,3 +1,4 @@
 pub mod Fold
 pub mod Visited
 pub mod Calls
+pub mod Passes

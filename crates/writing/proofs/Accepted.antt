@@ -12,7 +12,8 @@ use Rattle.encoding.specs.declared.Head.the-variants.{Plain, Name, FromPath, Ap
 use Rattle.encoding.specs.declared.PathAt.{PathAt}
 use Rattle.encoding.specs.Tables.{nameBytes, nameCount}
 use Rattle.encoding.specs.Reading.{got, _>>=_, readWord, readBelow, readNames}
-use Rattle.encoding.specs.Heads.{readPath, pathHead, headAfter, readHead, InsidePath}
+use Rattle.encoding.specs.Heads.{readPath, pathHead, headAfter, readHead}
+use Rattle.encoding.specs.HeadWords.{InsidePath}
 use Rattle.encoding.specs.Types.{primitives, pathOf, readNode, readType, typeAt}
 use Rattle.encoding.proofs.Tables.{impossible}
 use Rattle.encoding.proofs.Heads.{head-at, head-plain, head-other, past-six}

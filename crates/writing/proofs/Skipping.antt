@@ -12,7 +12,8 @@ use Rattle.encoding.specs.declared.Head.{Head}
 use Rattle.encoding.specs.declared.Head.the-variants.{Plain, Name, FromPath, Apply, Ref, RefMut, Impl, Dyn, Tuple, Function, Both, ArrayOf, Synonym, Meta}
 use Rattle.encoding.specs.Tables.{nameBytes, nameCount}
 use Rattle.encoding.specs.Reading.{Reading, got}
-use Rattle.encoding.specs.Heads.{readHead, kids, HeadHere, typesBelow, ownEnd}
+use Rattle.encoding.specs.Heads.{readHead}
+use Rattle.encoding.specs.HeadWords.{kids, HeadHere, typesBelow, ownEnd}
 use Rattle.encoding.specs.Types.{readTypes, readNode, readType, typeAt}
 use Rattle.encoding.proofs.Types.{Made₂, bind-got, made-got, made₂-got, node-of, type-lies}
 use Rattle.encoding.proofs.Inside.{head-lies}

@@ -1,4 +1,4 @@
-use Rattle.encoding.specs.Tables.{checkCall}
+use Rattle.encoding.specs.Tested.{checkCall}
 use mathlib.Core.Path.{_∙_, sym}
 use borrow.Author.Needs.{needs}
 use Rattle.encoding.proofs.check_call.Statement.{statement}

@@ -2,7 +2,7 @@ use Prim.Native.Nat.{_+_}
 use mathlib.Core.Path.{_≡_, refl}
 use borrow.Author.Tests.{ne-eqb}
 use lib.ListN.{getD}
-use Rattle.encoding.specs.Heads.{ownEnd}
+use Rattle.encoding.specs.HeadWords.{ownEnd}
 use Rattle.encoding.proofs.HeadWords.{end-inside, word-inside}
 use native.Mathlib.Omega.{arith}
 use Rattle.encoding.proofs.own_end.Statement.{statement}

@@ -2,7 +2,7 @@ use Prim.Native.Nat.{_+_, _≤_}
 use mathlib.Core.Path.{_≡_, refl, sym, _∙_}
 use borrow.Author.Tests.{le-ltb, ne-eqb}
 use lib.ListN.{getD}
-use Rattle.encoding.specs.Heads.{typesBelow, ownEnd}
+use Rattle.encoding.specs.HeadWords.{typesBelow, ownEnd}
 use Rattle.encoding.proofs.HeadWords.{end-inside, plain-below, plain-end, word-inside}
 use native.Mathlib.Omega.{arith}
 use Rattle.encoding.proofs.pass_head.Statement.{statement}

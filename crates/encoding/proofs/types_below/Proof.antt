@@ -1,7 +1,7 @@
 use Prim.Native.Nat.{_+_}
 use mathlib.Core.Path.{refl}
 use borrow.Author.Tests.{lt-ltb, le-ltb, ne-eqb}
-use Rattle.encoding.specs.Heads.{typesBelow, ownEnd}
+use Rattle.encoding.specs.HeadWords.{typesBelow, ownEnd}
 use Rattle.encoding.proofs.HeadWords.{end-inside, word-inside}
 use native.Mathlib.Omega.{arith}
 use Rattle.encoding.proofs.types_below.Statement.{statement}

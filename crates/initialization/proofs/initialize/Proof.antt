@@ -1,5 +1,5 @@
 use mathlib.Core.Path.{ap, refl, subst}
-use Rattle.initialization.specs.Initialized.{Points, partOf}
+use Rattle.initialization.specs.Initialized.{Points, underPointer}
 use Rattle.initialization.proofs.Filling.{stays, whole-readable}
 use Rattle.initialization.proofs.Changes.{no-pointer}
 use borrow.Author.Needs.{needs}
@@ -33,10 +33,10 @@ same-length-2 : tie.Need-same-length-2
 same-length-2 c = search needs
 
 returns-2 : tie.Need-returns-2
-unfolding partOf
+unfolding underPointer
 returns-2 c =
     let s = c .before .before .before .before .before .before .before .before .before .before .before in let a = s .args in
-    stays (a .words .now) (a .pairs .now) (a .text .now) (s .pre .2) (no-pointer (a .words .now) (a .pairs .now) (a .text .now) (whole-readable (s .pre .2)) (c .before .before .before .before .before .before .find-pointer .ensures .part) (ap partOf (c .before .before .before .before .enum-told .given .1))) refl (c .before .before .copy-unaltered .ensures)
+    stays (a .words .now) (a .pairs .now) (a .text .now) (s .pre .2) (no-pointer (a .words .now) (a .pairs .now) (a .text .now) (whole-readable (s .pre .2)) (c .before .before .before .before .before .before .find-pointer .ensures .part) (ap underPointer (c .before .before .before .before .enum-told .given .1))) refl (c .before .before .copy-unaltered .ensures)
 
 pub initialize-spec : {M : Type 1} → statement M
 initialize-spec =

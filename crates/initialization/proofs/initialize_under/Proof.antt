@@ -1,7 +1,7 @@
 use mathlib.Core.Path.{refl, subst}
 use Rattle.encoding.specs.Tables.{nameBytes}
 use Rattle.shapes.specs.Initialization.{newUnderlying}
-use Rattle.initialization.specs.Initialized.{Becomes, partOf}
+use Rattle.initialization.specs.Initialized.{Becomes, underPointer}
 use Rattle.initialization.proofs.Filling.{stays, whole-readable}
 use Rattle.initialization.proofs.Changes.{pointed-becomes, pointed-readable}
 use borrow.Author.Needs.{needs}
@@ -9,7 +9,7 @@ use Rattle.initialization.proofs.initialize_under.Statement.{statement}
 use Rattle.initialization.proofs.initialize_under.Tie as tie
 
 array-at-requires : tie.Need-array-at-requires
-unfolding partOf
+unfolding underPointer
 array-at-requires c κs =
     let s = c .before .before .before .before in let a = s .args in
     (s .pre .0, pointed-readable (a .words .now) (a .pairs .now) (a .text .now) (whole-readable (s .pre .2)) (s .pre .3 .part) refl)
@@ -18,7 +18,7 @@ enum-known-start : tie.Need-enum-known-start
 enum-known-start c = search needs
 
 change-requires : tie.Need-change-requires
-unfolding partOf
+unfolding underPointer
 change-requires c κs =
     let s = c .before .before .before .before .before .before .before .before .before in let a = s .args in
     let b = subst (Becomes (newUnderlying (nameBytes (a .pairs .now) (a .text .now))) 1 (a .words .now) (a .pairs .now) (a .at)) (c .before .before .start .given .1) (c .before .before .before .before .array-at .ensures) in
@@ -40,7 +40,7 @@ same-length-2 : tie.Need-same-length-2
 same-length-2 c = search needs
 
 returns-2 : tie.Need-returns-2
-unfolding partOf
+unfolding underPointer
 returns-2 c =
     let s = c .before .before .before .before .before .before .before .before .before .before .before in let a = s .args in
     stays (a .words .now) (a .pairs .now) (a .text .now) (s .pre .2) (pointed-becomes (a .words .now) (a .pairs .now) (a .text .now) (whole-readable (s .pre .2)) (s .pre .3 .part) refl (c .before .before .before .before .before .before .array-at .ensures)) (c .before .before .before .before .enum-told .given .1) (c .before .before .copy-unaltered .ensures)

@@ -1,7 +1,7 @@
 use Prim.Native.Nat.{_+_, _-_, _*_, _^_, _≤_}
 use mathlib.Core.Path.{_≡_, refl, sym, ap, _∙_}
 use lib.ListN.{length, take, drop}
-use Rattle.encoding.specs.Tables.{nameLength}
+use Rattle.encoding.specs.Tested.{nameLength}
 use Rattle.encoding.specs.Reading.{readBelow, readNames}
 use Rattle.encoding.proofs.Reading.{word-got, word-stop, names-more as reads-more, names-stop, names-none as reads-none}
 use Rattle.encoding.proofs.Inside.{below-there}

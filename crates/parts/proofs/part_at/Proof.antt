@@ -1,4 +1,4 @@
-use Rattle.parts.specs.Answers.{partFor}
+use Rattle.parts.specs.Asked.{partFor}
 use Rattle.classes.proofs.Finding.{found-readable}
 use Rattle.parts.proofs.Spans.{part-forward, part-keeps, span-found, span-none}
 use Rattle.parts.proofs.part_at.Statement.{statement}

@@ -1,4 +1,4 @@
-use Rattle.parts.specs.Answers.{partFor}
+use Rattle.parts.specs.Asked.{partFor}
 use Rattle.shapes.proofs.Answers.{accepted, accepted-readable, not-accepted}
 use Rattle.parts.proofs.Spans.{part-given, part-refused}
 use Rattle.parts.proofs.part_in.Statement.{statement}

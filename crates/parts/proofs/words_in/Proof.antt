@@ -1,4 +1,4 @@
-use Rattle.parts.specs.Answers.{partFor}
+use Rattle.parts.specs.Asked.{partFor}
 use Rattle.parts.proofs.Spans.{part-keeps, part-within, words-given, words-refused}
 use Rattle.parts.proofs.words_in.Statement.{statement}
 use borrow.Author.Needs.{needs}

@@ -1,5 +1,5 @@
 use Prim.Native.Nat.{_*_, _+_, _-_, _<_, _≤_, ℕ}
-use Rattle.encoding.specs.Heads.{typesBelow}
+use Rattle.encoding.specs.HeadWords.{typesBelow}
 use Rattle.encoding.specs.Types.{readTypes}
 use Rattle.trees.proofs.Heads.{head-here, tree-here}
 use Rattle.rebuild.proofs.Growing.{lays-over, lays-to}

@@ -1,6 +1,7 @@
 use Rattle.encoding.specs.Refusals.{given}
 use Rattle.rebuild.proofs.Calls.{down-over}
-use Rattle.rebuild.specs.Calls.{laidDown, sameWords}
+use Rattle.rebuild.specs.Calls.{laidDown}
+use Rattle.rebuild.specs.Attempts.{sameWords}
 use lib.ListN.{length}
 use lib.Seq.{take-length}
 use mathlib.Core.Path.{_∙_, ap}

@@ -1,4 +1,4 @@
-use Rattle.shapes.specs.Asked.{nameKind}
+use Rattle.shapes.specs.Accepted.{nameKind}
 use Rattle.shapes.proofs.is_name_kind.Statement.{statement}
 use borrow.Author.Tests.{le-ltb, lt-ltb, ne-eqb}
 use mathlib.Core.Path.{refl}

@@ -1,4 +1,4 @@
-use Rattle.shapes.specs.Asked.{nameStep}
+use Rattle.shapes.specs.Accepted.{nameStep}
 use Rattle.shapes.proofs.name_step.Statement.{statement}
 use borrow.Author.Tests.{ne-eqb}
 use mathlib.Core.Path.{refl}

@@ -5,7 +5,7 @@ use Rattle.encoding.proofs.Answers.{filled-failed, filled-passed, map-unless}
 use Rattle.encoding.proofs.Tables.{tables-passed}
 use Rattle.pieces.specs.declared.Whole.the-variants.{AType}
 use Rattle.visits.specs.declared.VisitAnswer.the-variants.{Count, Refused}
-use Rattle.visits.specs.Calls.{wholeVisits}
+use Rattle.visits.specs.Passes.{wholeVisits}
 use Rattle.visits.specs.Visited.{typeVisits}
 use Rattle.visits.proofs.type_visit.Statement.{statement}
 use borrow.Author.Needs.{needs}

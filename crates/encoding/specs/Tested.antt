@@ -1,0 +1,36 @@
+-- The tests of a call as one, what tables that passed them keep, and how the code holds the fixed names.
+use Prim.Native.Nat.{ℕ, _+_, _*_, _-_, _≤_, _<_}
+use mathlib.Core.Path.{_≡_}
+use mathlib.Core.Bool.{true}
+use mathlib.Core.List.{List, []}
+use lib.Dec.{ltb}
+use lib.ListN.{length, getD, take, drop}
+use Rattle.rast.specs.Bytes.{Bytes}
+use Rattle.encoding.specs.declared.Check.{Check}
+use Rattle.encoding.specs.declared.Check.the-variants.{Passed, Failed}
+use Rattle.encoding.specs.Refusals.{pick}
+use Rattle.encoding.specs.Tables.{checkLevel, goodPairs, checkTables, fixedNames}
+
+-- the second of two tests, if the first passed
+abbrev pub behind : Check → Check → Check
+behind Passed c = c
+behind (Failed r) c = Failed r
+
+-- what is tested before anything is printed: the level, then the tables
+unfoldable pub checkCall : List ℕ → List ℕ → Bytes → ℕ → Check
+checkCall words pairs text level = behind (checkLevel level) (checkTables words pairs text)
+
+-- the letters hold each fixed name from its start on, as long as its length says
+pub record HoldsNames (letters : Bytes) (starts lengths : List ℕ) : Type 0 where
+  pub part : (k : ℕ) → k < 16 → take (getD lengths k 0) (drop (getD starts k 0) letters) ≡ getD fixedNames k []
+  pub count : (k : ℕ) → k < 16 → getD lengths k 0 ≡ length (getD fixedNames k [])
+  pub inside : (k : ℕ) → k < 16 → getD starts k 0 + getD lengths k 0 ≤ 75
+  pub size : length letters ≡ 75
+
+-- how long a name is, by the table of pairs alone
+unfoldable pub nameLength : List ℕ → ℕ → ℕ
+nameLength pairs x = pick (ltb x 16) (length (getD fixedNames x [])) (getD pairs (2 * (x - 16) + 1) 0)
+
+-- the pairs keep the table's rule
+abbrev pub Good : List ℕ → Bytes → Type 0
+Good pairs text = goodPairs pairs 0 (length text) ≡ true

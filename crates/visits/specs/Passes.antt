@@ -1,0 +1,106 @@
+-- What a pass over accepted types and declarations needs and does, and what it lays down for a whole encoding.
+use Prim.Native.Nat.{ℕ, _≤_}
+use mathlib.Core.Path.{_≡_}
+use mathlib.Core.List.{List}
+use lib.ListN.{length}
+use Rattle.rast.specs.Bytes.{Bytes}
+use Rattle.rast.specs.Tree.{Tys}
+use Rattle.output.specs.Wrote.{Wrote}
+use Rattle.encoding.specs.Refusals.{Answer, mapAnswer}
+use Rattle.encoding.specs.Reading.{got, whole}
+use Rattle.encoding.specs.Types.{readTypes, typeAt}
+use Rattle.writing.specs.declared.Spot.{Spot}
+use Rattle.writing.specs.Written.{Readable}
+use Rattle.trees.specs.Places.{place}
+use Rattle.pieces.specs.declared.After.{After}
+use Rattle.pieces.specs.declared.After.the-variants.{FieldList, CaseList, OneType, NoMore}
+use Rattle.pieces.specs.declared.Walk.{Walk}
+use Rattle.pieces.specs.Pieces.{Piece}
+use Rattle.pieces.specs.Walks.{leftAt}
+use Rattle.pieces.specs.Ends.{Held, heldAt}
+use Rattle.pieces.specs.declared.Whole.{Whole}
+use Rattle.pieces.specs.declared.Whole.the-variants.{AType, ADeclaration}
+use Rattle.visits.specs.Visited.{visited, visitedAll, visitedPieces, visitedDeclaration, positions}
+
+-- ---- types
+
+-- `due` types stand at `at`, and no more positions were laid down than words passed
+pub record Due (ws pairs : List ℕ) (text : Bytes) (at due pos : ℕ) : Type 0 where
+  pub few : length ws ≤ 8192
+  pub inside : at ≤ length ws
+  pub counted : pos ≤ at
+  pub there : Readable (readTypes (typeAt ws pairs text) due at)
+
+-- they were read to where the pass has come, and their list laid down as far as the buffer goes
+pub record Visited (ws pairs : List ℕ) (text : Bytes) (at due : ℕ) (o : List ℕ) (pos : ℕ) (o′ : List ℕ) (s : Spot) : Type 0 where
+  pub types : Tys Bytes
+  pub reads : readTypes (typeAt ws pairs text) due at ≡ got types (s .next)
+  pub wrote : Wrote o pos (positions (visitedAll at types)) o′ (s .pos)
+  pub counted : s .pos ≤ s .next
+
+-- ---- declarations
+
+-- a walk that ends where the visitor does: a struct's fields are not entered
+abbrev pub enteredAfter : After → After
+enteredAfter FieldList = NoMore
+enteredAfter CaseList = CaseList
+enteredAfter OneType = OneType
+enteredAfter NoMore = NoMore
+
+abbrev pub enteredWalk : Walk → Walk
+enteredWalk w = record { place = w .place; types = w .types; parameters = w .parameters; after = enteredAfter (w .after); kind = w .kind; fields = w .fields; cases = w .cases }
+
+-- what is left to the walk w was accepted
+pub record Ahead (ws pairs : List ℕ) (text : Bytes) (w : Walk) : Type 0 where
+  pub few : length ws ≤ 8192
+  pub inside : w .place ≤ length ws
+  pub there : Readable (leftAt ws pairs text w)
+
+-- on the way from the walk w₀: what is left to w, once laid down behind what was, is the whole list
+pub record Going (ws pairs : List ℕ) (text : Bytes) (w₀ : Walk) (o : List ℕ) (pos : ℕ) (w : Walk) (o′ : List ℕ) (p : ℕ) : Type 0 where
+  pub all : List (Piece Bytes)
+  pub rest : List (Piece Bytes)
+  pub end : ℕ
+  pub reads : leftAt ws pairs text w₀ ≡ got all end
+  pub left : leftAt ws pairs text w ≡ got rest end
+  pub lays : (o″ : List ℕ) (p″ : ℕ) → Wrote o′ p (positions (visitedPieces (w .place) rest)) o″ p″ → Wrote o pos (positions (visitedPieces (w₀ .place) all)) o″ p″
+  pub few : length ws ≤ 8192
+  pub inside : w .place ≤ length ws
+  pub counted : p ≤ w .place
+  pub kept : length o′ ≡ length o
+
+-- nothing is left to the walk
+abbrev pub Done : Walk → Type 0
+Done w = (w .types ≡ 0) × (w .parameters ≡ 0) × (w .after ≡ NoMore) × (w .fields ≡ 0) × (w .cases ≡ 0)
+
+-- its list was laid down
+pub record Entered (ws pairs : List ℕ) (text : Bytes) (w : Walk) (o o′ : List ℕ) (p : ℕ) : Type 0 where
+  pub pieces : List (Piece Bytes)
+  pub end : ℕ
+  pub reads : leftAt ws pairs text w ≡ got pieces end
+  pub wrote : Wrote o 0 (positions (visitedPieces (w .place) pieces)) o′ p
+  pub counted : p ≤ length ws
+
+-- ---- what an encoding holds
+
+-- the visit list of a type or a declaration
+abbrev pub heldVisits : (what : Whole) → Held what → List ℕ
+heldVisits AType t = positions (visited (place 0 t))
+heldVisits ADeclaration d = positions (visitedDeclaration d)
+
+-- what an encoding holds fills its words
+pub record Fills (what : Whole) (ws pairs : List ℕ) (text : Bytes) : Type 0 where
+  pub value : Held what
+  pub reads : heldAt what ws pairs text ≡ got value (length ws)
+
+-- the visit list of what an encoding holds was laid down
+pub record AllVisited (what : Whole) (ws pairs : List ℕ) (text : Bytes) (o o′ : List ℕ) (p : ℕ) : Type 0 where
+  pub value : Held what
+  pub end : ℕ
+  pub reads : heldAt what ws pairs text ≡ got value end
+  pub wrote : Wrote o 0 (heldVisits what value) o′ p
+  pub counted : p ≤ length ws
+
+-- the list of a tree that fills the words, where the tables are tested already
+abbrev pub wholeVisits : Whole → List ℕ → List ℕ → Bytes → Answer (List ℕ)
+wholeVisits what words pairs text = mapAnswer (heldVisits what) (whole (length words) (heldAt what words pairs text))
