@@ -1,8 +1,10 @@
 -- Laws of answers: mapped, behind a test, and laid into a buffer.
 use Prim.Native.Nat.{ℕ, _≤_, _<_}
 use mathlib.Core.Path.{_≡_, refl, ap, _∙_}
+use mathlib.Core.Bool.{Bool, true, false}
 use mathlib.Core.List.{List}
-use borrow.Author.Tests.{le-leb, lt-leb, eq-eqb, ne-eqb}
+use borrow.Author.Tests.{eqb-true, le-leb, lt-leb, eq-eqb, ne-eqb}
+use lib.Dec.{eqb}
 use lib.ListN.{length}
 use lib.Seq.{sets}
 use Rattle.output.proofs.Laws.{sets-front}
@@ -11,7 +13,7 @@ use Rattle.encoding.specs.declared.Refusal.{Refusal}
 use Rattle.encoding.specs.declared.Refusal.the-variants.{LeftOver, BufferTooShort}
 use Rattle.encoding.specs.declared.Check.{Check}
 use Rattle.encoding.specs.declared.Check.the-variants.{Passed, Failed}
-use Rattle.encoding.specs.Refusals.{Answer, given, refused, mapAnswer, unless}
+use Rattle.encoding.specs.Refusals.{pick, Answer, given, refused, mapAnswer, unless}
 use Rattle.encoding.specs.Reading.{Reading, got, stop, whole}
 use Rattle.encoding.specs.Tables.{checkLevel, checkTables}
 use Rattle.encoding.specs.Tested.{behind, checkCall}
@@ -27,6 +29,17 @@ pub map-unless : {A B : Type 0} (f : A → B) (c : Check) (x : Answer A) → map
 unfolding mapAnswer unless
 map-unless f Passed x = refl
 map-unless f (Failed r) x = refl
+
+-- what is given behind a test was read to the end
+pub given-whole : {A : Type 0} (c : Check) (size : ℕ) (x : Reading A) {a : A} → unless c (whole size x) ≡ given a → (c ≡ Passed) × (x ≡ got a size)
+unfolding unless whole
+given-whole (Failed k) size x e = impossible (cc)
+given-whole Passed size (stop k) e = impossible (cc)
+given-whole Passed size (got u n) {a} e = (refl, fit (eqb n size) refl e)
+  where
+    fit : (t : Bool) → eqb n size ≡ t → pick t (given u) (refused LeftOver) ≡ given a → got u n ≡ got a size
+    fit true k e = let i : u ≡ a = cc in let j = eqb-true n size k in cc
+    fit false k e = impossible (cc)
 
 -- ---- what is tested before anything is printed
 

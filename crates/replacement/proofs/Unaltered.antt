@@ -4,23 +4,21 @@ use mathlib.Core.Path.{_≡_, refl, ap, sym, _∙_, subst}
 use mathlib.Core.List.{List, [], _∷_, map}
 use native.Mathlib.Omega.{arith}
 use borrow.Author.Tests.{eqb-true}
-use mathlib.Core.Bool.{Bool, true, false}
+use mathlib.Core.Bool.{true}
 use lib.Dec.{eqb}
 use lib.ListN.{length, getD}
 use lib.Seq.{take-all}
 use Rattle.rast.specs.Bytes.{Bytes}
 use Rattle.rast.specs.Tree.{Ty}
 use Rattle.rast.specs.Declaration.{Declaration}
-use Rattle.encoding.specs.declared.Check.{Check}
-use Rattle.encoding.specs.declared.Check.the-variants.{Passed, Failed}
-use Rattle.encoding.specs.declared.Refusal.the-variants.{LeftOver}
 use Rattle.encoding.specs.declared.Scan.the-variants.{At}
-use Rattle.encoding.specs.Refusals.{pick, given, refused, unless}
-use Rattle.encoding.specs.Reading.{Reading, got, stop, readBelow, readWord, whole}
+use Rattle.encoding.specs.Refusals.{given, unless}
+use Rattle.encoding.specs.Reading.{Reading, got, readBelow, readWord, whole}
 use Rattle.encoding.specs.Scans.{ended, mapReading}
 use Rattle.encoding.specs.Tables.{checkTables, nameBytes}
 use Rattle.encoding.specs.Declarations.{readList}
 use Rattle.encoding.proofs.Tables.{impossible}
+use Rattle.encoding.proofs.Answers.{given-whole}
 use Rattle.trees.specs.Encode.{encode, words}
 use Rattle.trees.specs.Runs.{Run}
 use Rattle.trees.specs.Numbered.{treeAt, treeOf}
@@ -65,17 +63,6 @@ none-listed (x ∷ y ∷ ys) l e = impossible (omega (arith, l))
 -- words that fill others are these
 filled : (ws b : List ℕ) → Run ws 0 b → length ws ≡ 0 + length b → b ≡ ws
 filled ws b r e = let l : length ws ≤ length b = omega (arith, e) in sym (r .words) ∙ take-all (length b) ws l
-
--- what the words of accepted tables hold was read to their end
-accepted : {A : Type 0} (c : Check) (size : ℕ) (x : Reading A) {a : A} → unless c (whole size x) ≡ given a → (c ≡ Passed) × (x ≡ got a size)
-unfolding unless whole
-accepted (Failed k) size x e = impossible (cc)
-accepted Passed size (stop k) e = impossible (cc)
-accepted Passed size (got u n) {a} e = (refl, fit (eqb n size) refl e)
-  where
-    fit : (t : Bool) → eqb n size ≡ t → pick t (given u) (refused LeftOver) ≡ given a → got u n ≡ got a size
-    fit true k e = let i : u ≡ a = cc in let j = eqb-true n size k in cc
-    fit false k e = impossible (cc)
 
 -- ---- types and declarations
 
@@ -147,12 +134,12 @@ module _ (ws pairs : List ℕ) (text : Bytes) where
 
   pub unaltered : {t : Ty ℕ} → treeOf ws pairs text ≡ given t → typeRebuilt ws pairs text (0 ∷ []) ≡ given (sameWords ws (depth t))
   unfolding treeOf typeRebuilt unless
-  unaltered e = let p = accepted (checkTables ws pairs text) (length ws) (treeAt ws pairs 0) e in rw (check-tables ws (0 ∷ []) pairs text (omega arith), p .0) (type-given (p .1))
+  unaltered e = let p = given-whole (checkTables ws pairs text) (length ws) (treeAt ws pairs 0) e in rw (check-tables ws (0 ∷ []) pairs text (omega arith), p .0) (type-given (p .1))
 
   pub unaltered-declaration : {d : Declaration ℕ} → unless (checkTables ws pairs text) (whole (length ws) (declarationIn ws pairs)) ≡ given d
       → declarationRebuilt ws pairs text (0 ∷ []) ≡ given (sameWords ws (deepestPiece (pieces d)))
   unfolding declarationRebuilt unless
-  unaltered-declaration e = let p = accepted (checkTables ws pairs text) (length ws) (declarationIn ws pairs) e in rw (check-tables ws (0 ∷ []) pairs text (omega arith), p .0) (declaration-given (p .1))
+  unaltered-declaration e = let p = given-whole (checkTables ws pairs text) (length ws) (declarationIn ws pairs) e in rw (check-tables ws (0 ∷ []) pairs text (omega arith), p .0) (declaration-given (p .1))
 
   pub copied : (what : Whole) (m : Ty ℕ → Ty ℕ) (o : List ℕ) {rules o′ : List ℕ} {r : RebuildAnswer} {n : ℕ} → ended (laidBy what ws pairs m) ≡ At n → n ≡ length ws → rules ≡ 0 ∷ [] → (r, o′) ≡ laidDown o (given (sameWords ws 0))
       → (r, o′) ≡ laidDown o (wholeRebuilt what ws pairs text rules)

@@ -1,10 +1,9 @@
 -- Accept, then ask: the public answers by what is asked of the accepted type.
 use Prim.Native.Nat.{ℕ, _≤_}
 use mathlib.Core.Path.{_≡_, refl, ap, sym, _∙_}
-use mathlib.Core.Bool.{Bool, true, false}
+use mathlib.Core.Bool.{Bool}
 use mathlib.Core.List.{List}
-use borrow.Author.Tests.{eq-eqb, ne-eqb, eqb-true}
-use lib.Dec.{eqb}
+use borrow.Author.Tests.{eq-eqb, ne-eqb}
 use lib.ListN.{length}
 use Rattle.rast.specs.Bytes.{Bytes}
 use Rattle.rast.specs.Tree.{Ty}
@@ -12,12 +11,13 @@ use Rattle.encoding.specs.declared.Refusal.{Refusal}
 use Rattle.encoding.specs.declared.Refusal.the-variants.{LeftOver}
 use Rattle.encoding.specs.declared.Check.{Check}
 use Rattle.encoding.specs.declared.Check.the-variants.{Passed, Failed}
-use Rattle.encoding.specs.Refusals.{pick, Answer, given, refused, mapAnswer, unless}
+use Rattle.encoding.specs.Refusals.{Answer, given, refused, mapAnswer, unless}
 use Rattle.encoding.specs.Tables.{checkTables}
 use Rattle.encoding.specs.Tested.{Good}
-use Rattle.encoding.specs.Reading.{Reading, got, stop, whole}
+use Rattle.encoding.specs.Reading.{Reading, got, whole}
 use Rattle.encoding.specs.Types.{typeAt, typeOf}
 use Rattle.encoding.proofs.Tables.{impossible, tables-passed}
+use Rattle.encoding.proofs.Answers.{given-whole}
 use Rattle.encoding.specs.declared.Scan.{Scan}
 use Rattle.encoding.specs.declared.Scan.the-variants.{At, Refused as Unread}
 use Rattle.encoding.specs.Scans.{ended}
@@ -44,15 +44,6 @@ module _ (size : ℕ) where
   unfolding whole
   whole-stopped x e d = rw (scan-stop x e d)
 
-  whole-given : (x : Reading (Ty Bytes)) (t : Ty Bytes) → whole size x ≡ given t → x ≡ got t size
-  unfolding whole
-  whole-given (got u k) t e = go (eqb k size) (eqb-true k size) e
-    where
-      go : (b : Bool) → (b ≡ true → k ≡ size) → pick b (given u) (refused LeftOver) ≡ given t → got u k ≡ got t size
-      go true h d = let q = h refl in let i : u ≡ t = cc in cc
-      go false h d = impossible (cc)
-  whole-given (stop r) t e = impossible (cc)
-
 unless-failed : {A : Type 0} (c : Check) (a : Answer A) {r : Refusal} → c ≡ Failed r → unless c a ≡ refused r
 unfolding unless
 unless-failed Passed a e = impossible (cc)
@@ -62,11 +53,6 @@ unless-passed : {A : Type 0} (c : Check) (a : Answer A) → c ≡ Passed → unl
 unfolding unless
 unless-passed Passed a e = refl
 unless-passed (Failed k) a e = impossible (cc)
-
-unless-given : {A : Type 0} (c : Check) (a : Answer A) {b : A} → unless c a ≡ given b → (c ≡ Passed) × (a ≡ given b)
-unfolding unless
-unless-given Passed a e = (refl, e)
-unless-given (Failed k) a e = impossible (cc)
 
 answer-given : {A : Type 0} (a : Answer A) {c : Check} → c ≡ acceptance a → c ≡ Passed → (B : Type 0) → ((t : A) → a ≡ given t → B) → B
 answer-given (given t) e d B k = k t refl
@@ -97,9 +83,9 @@ module _ (ws pairs : List ℕ) (text : Bytes) where
   unfolding typeOf
   accepted e d =
       answer-given (typeOf ws pairs text) e d (Accepted ws pairs text) λ t i.
-      let u = unless-given (checkTables ws pairs text) (whole (length ws) (typeAt ws pairs text 0)) i in
+      let u = given-whole (checkTables ws pairs text) (length ws) (typeAt ws pairs text 0) i in
       let k = tables-passed ws pairs text (u .0) in
-      record { type = t; good = k .good; few = k .few; reads = whole-given (length ws) (typeAt ws pairs text 0) t (u .1); is = i }
+      record { type = t; good = k .good; few = k .few; reads = u .1; is = i }
 
   pub accepted-readable : Accepted ws pairs text → Readable (typeAt ws pairs text 0)
   accepted-readable a = record { value = a .type; end = length ws; reads = a .reads }

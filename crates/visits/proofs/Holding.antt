@@ -11,11 +11,14 @@ use Rattle.rast.specs.Tree.{Ty, Tys, TSynonym, nil, cons}
 use Rattle.rast.specs.Declaration.{Declaration}
 use Rattle.encoding.specs.declared.Refusal.{Refusal}
 use Rattle.encoding.specs.Reading.{Reading, got, stop, readWord, readBelow}
-use Rattle.encoding.specs.Tables.{nameBytes, nameCount}
-use Rattle.encoding.specs.Heads.{readHead, kids}
-use Rattle.encoding.specs.Types.{readTypes, readNode, readType, typeAt}
-use Rattle.encoding.specs.Declarations.{declarationAt}
+use Rattle.encoding.specs.Tables.{checkTables, nameBytes, nameCount}
+use Rattle.encoding.specs.Heads.{readHead}
+use Rattle.encoding.specs.HeadWords.{kids}
+use Rattle.encoding.specs.Refusals.{given}
+use Rattle.encoding.specs.Types.{readTypes, readNode, readType, typeAt, typeOf}
+use Rattle.encoding.specs.Declarations.{declarationAt, declarationOf}
 use Rattle.encoding.proofs.Tables.{impossible}
+use Rattle.encoding.proofs.Answers.{given-whole}
 use Rattle.encoding.proofs.Types.{bind-got, made₂-got, node-of, type-lies}
 use Rattle.encoding.proofs.TypeKinds.{kind, type-kind}
 use Rattle.encoding.proofs.Inside.{head-lies}
@@ -34,7 +37,7 @@ use Rattle.pieces.specs.Walks.{leftAt, moved, readEntry, readTwo, Stepped, type
 use Rattle.pieces.proofs.Steps.{own-step, due-step, end-step, halt-step}
 use Rattle.pieces.proofs.Fronts.{behind-got}
 use Rattle.visits.specs.Visited.{visited, visitedFrom, visitedAll, visitedPieces, visitedDeclaration}
-use Rattle.visits.specs.Calls.{enteredWalk}
+use Rattle.visits.specs.Passes.{enteredWalk}
 use Rattle.visits.proofs.Lists.{visited-synonym, visited-node}
 use Rattle.visits.proofs.Passes.{types-words}
 use Rattle.visits.proofs.Entering.{visited-behind, entered-left, not-begun-read}
@@ -190,3 +193,16 @@ module _ (ws pairs : List ℕ) (text : Bytes) (x : Place Bytes) where
           let l = entered-left ws pairs text e h in
           rw (l .list) at (left-held (length ws) (enteredWalk (opened o k)) (omega arith) (l .reads))
       go (stop r) h = absurd (not-begun-read ws pairs text {k = r} (ap started (sym h)) refl (record { value = d; end = n; reads = e }))
+
+-- ---- what an encoding holds
+
+module _ (ws pairs : List ℕ) (text : Bytes) {x : Place Bytes} where
+  -- at each place of a type's visit list the words hold the type that is listed there
+  pub type-visits-hold : {t : Ty Bytes} → typeOf ws pairs text ≡ given t → List·Memᴰ x (visited (place 0 t)) → Holding ws pairs text x
+  unfolding typeOf
+  type-visits-hold {t} e m = type-held ws pairs text x (place 0 t) (given-whole (checkTables ws pairs text) (length ws) (typeAt ws pairs text 0) e .1) m
+
+  -- and at each place of a declaration's
+  pub declaration-visits-hold : {d : Declaration Bytes} → declarationOf ws pairs text ≡ given d → List·Memᴰ x (visitedDeclaration d) → Holding ws pairs text x
+  unfolding declarationOf
+  declaration-visits-hold e m = declaration-held ws pairs text x (given-whole (checkTables ws pairs text) (length ws) (declarationAt ws pairs text 0) e .1) m
