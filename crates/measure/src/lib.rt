@@ -299,7 +299,8 @@ fn own_after(words: &[u32], pairs: &[u32], bound: usize, w: u32, at: usize) -> O
     }
 }
 
-// The head at `at`. A name, the most frequent head besides plain types, is tested for by itself, and so needs no jump by a table.
+// The head at `at`. Plain types and names, the most frequent heads, need no jump by a table. They are told from the others by an order: a test for equality would
+// become one more entry of the table.
 fn scan_own(words: &[u32], pairs: &[u32], bound: usize, at: usize) -> OwnScan
     requires { ⌜ (bound ≡ nameCount (now pairs)) × (length (now words) ≤ 8192) ⌝ }
     ensures { λ r. ⌜ Scanned (now (words .entry)) (now (pairs .entry)) (readHead bound (now (words .entry)) at) r ⌝ }
@@ -308,10 +309,10 @@ fn scan_own(words: &[u32], pairs: &[u32], bound: usize, at: usize) -> OwnScan
         return OwnScan::NoNode(Refusal::EndsEarly);
     }
     let w = words[at];
-    if w < 12 {
-        return own_leaf(at + 1, encoding::primitive_length(w));
-    }
-    if w == 12 {
+    if w < 13 {
+        if w < 12 {
+            return own_leaf(at + 1, encoding::primitive_length(w));
+        }
         return own_name(words, pairs, bound, at + 1);
     }
     own_after(words, pairs, bound, w, at + 1)

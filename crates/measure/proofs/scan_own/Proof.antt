@@ -1,5 +1,5 @@
 use Prim.Native.Nat.{_+_}
-use mathlib.Core.Path.{refl, _∙_}
+use mathlib.Core.Path.{_≡_, refl, _∙_}
 use lib.ListN.{getD}
 use Rattle.encoding.specs.declared.Head.the-variants.{Plain}
 use Rattle.encoding.specs.Heads.{headAfter}
@@ -34,9 +34,9 @@ own-leaf-requires c κs = search needs
 returns-2 : tie.Need-returns-2
 unfolding ownLength
 returns-2 c =
-    let a = c .before .before .before .before .before .before .before .args in
+    let a = c .before .before .before .before .before .before .before .before .args in
     scanned-leaf (a .words .now) (a .pairs .now) (Plain _)
-    (head-at (a .bound) (a .words .now) (a .at) (c .before .before .before .before .if1 .left) ∙ head-plain (a .bound) (a .words .now) (getD (a .words .now) (a .at) 0) (a .at + 1) (c .before .before .if2 .taken))
+    (head-at (a .bound) (a .words .now) (a .at) (c .before .before .before .before .before .if1 .left) ∙ head-plain (a .bound) (a .words .now) (getD (a .words .now) (a .at) 0) (a .at + 1) (c .before .before .if3 .taken))
     (c .own-leaf .ensures) refl (c .before .primitive-length .ensures .0) (omega (arith, c .before .primitive-length .ensures .1))
 
 add-own-name : tie.Need-add-own-name
@@ -49,20 +49,21 @@ returns-3 : tie.Need-returns-3
 unfolding headAfter
 returns-3 c =
     let a = c .before .before .before .before .before .before .before .args in
-    scanned-as (a .words .now) (a .pairs .now) (head-at (a .bound) (a .words .now) (a .at) (c .before .before .before .before .if1 .left) ∙ rw (c .before .if3 .taken)) (c .own-name .ensures)
+    let e : getD (a .words .now) (a .at) 0 ≡ 12 = omega (arith, c .before .if3 .left, c .before .before .if2 .taken) in
+    scanned-as (a .words .now) (a .pairs .now) (head-at (a .bound) (a .words .now) (a .at) (c .before .before .before .before .if1 .left) ∙ rw e) (c .own-name .ensures)
 
 add-own-after : tie.Need-add-own-after
 add-own-after c = search needs
 
 own-after-requires : tie.Need-own-after-requires
 own-after-requires c κs =
-    let s = c .before .before .before .before .before .before in
-    (omega (arith, c .if3 .left, c .before .if2 .left), s .pre .0, s .pre .1)
+    let s = c .before .before .before .before .before in
+    (omega (arith, c .if2 .left), s .pre .0, s .pre .1)
 
 returns-4 : tie.Need-returns-4
 returns-4 c =
-    let a = c .before .before .before .before .before .before .before .args in
-    scanned-as (a .words .now) (a .pairs .now) (head-at (a .bound) (a .words .now) (a .at) (c .before .before .before .before .if1 .left)) (c .own-after .ensures)
+    let a = c .before .before .before .before .before .before .args in
+    scanned-as (a .words .now) (a .pairs .now) (head-at (a .bound) (a .words .now) (a .at) (c .before .before .before .if1 .left)) (c .own-after .ensures)
 
 pub scan-own-spec : {M : Type 1} → statement M
 scan-own-spec =
