@@ -16,7 +16,7 @@ use Rattle.encoding.specs.declared.Refusal.the-variants.{Overlong, BadPa
 use Rattle.encoding.specs.declared.Check.the-variants.{Passed, Failed}
 use Rattle.encoding.specs.Refusals.{pick}
 use Rattle.encoding.specs.Tables.{overlong, checkTables, goodPairs, fixedNames, nameBytes, nameCount, pairBytes}
-use Rattle.encoding.specs.Tested.{Good, nameLength}
+use Rattle.encoding.specs.Tested.{Good, digitAt, nameLength}
 
 -- nothing holds where two numbers are one
 pub impossible : {A : Type 0} → _≡_ {A = ℕ} 0 1 → A
@@ -51,30 +51,28 @@ every-at f (suc n) e k h = go (ℕ-discrete k n) (every-at f n (and-right (f n) 
 unfoldable pub starts : List ℕ
 starts = 0 ∷ 48 ∷ 72 ∷ 70 ∷ 12 ∷ 51 ∷ 43 ∷ 54 ∷ 57 ∷ 32 ∷ 16 ∷ 64 ∷ 29 ∷ 0 ∷ 74 ∷ 60 ∷ []
 
-unfoldable pub lengths : List ℕ
-lengths = 0 ∷ 3 ∷ 2 ∷ 2 ∷ 4 ∷ 3 ∷ 5 ∷ 3 ∷ 3 ∷ 11 ∷ 13 ∷ 6 ∷ 3 ∷ 12 ∷ 1 ∷ 4 ∷ []
-
 unfoldable pub letters : Bytes
 letters = ascii "MaybePlacebosyncdafny_runtimePtrMaybeUninitboxedstdArcBoxmemselfObjectRcrc_"
 
-pub fixed-part : (k : ℕ) → k < 16 → take (getD lengths k 0) (drop (getD starts k 0) letters) ≡ getD fixedNames k []
-unfolding everyBelow same starts lengths letters fixedNames ascii _and_
+pub fixed-part : (k : ℕ) → k < 16 → take (length (getD fixedNames k [])) (drop (getD starts k 0) letters) ≡ getD fixedNames k []
+unfolding everyBelow same starts letters fixedNames ascii _and_
 fixed-part k h =
-    same-eq (take (getD lengths k 0) (drop (getD starts k 0) letters)) (getD fixedNames k [])
-    (every-at (λ i. same (take (getD lengths i 0) (drop (getD starts i 0) letters)) (getD fixedNames i [])) 16 refl k h)
+    same-eq (take (length (getD fixedNames k [])) (drop (getD starts k 0) letters)) (getD fixedNames k [])
+    (every-at (λ i. same (take (length (getD fixedNames i [])) (drop (getD starts i 0) letters)) (getD fixedNames i [])) 16 refl k h)
 
-pub fixed-length : (k : ℕ) → k < 16 → getD lengths k 0 ≡ length (getD fixedNames k [])
-unfolding everyBelow lengths fixedNames ascii _and_
+-- the digits are the lengths
+pub fixed-length : (k : ℕ) → k < 16 → digitAt 4738751849383076400 k ≡ length (getD fixedNames k [])
+unfolding everyBelow digitAt fixedNames ascii _and_
 fixed-length k h =
-    eqb-true (getD lengths k 0) (length (getD fixedNames k []))
-    (every-at (λ i. eqb (getD lengths i 0) (length (getD fixedNames i []))) 16 refl k h)
+    eqb-true (digitAt 4738751849383076400 k) (length (getD fixedNames k []))
+    (every-at (λ i. eqb (digitAt 4738751849383076400 i) (length (getD fixedNames i []))) 16 refl k h)
 
 -- each fixed name lies within the letters
-pub fixed-inside : (k : ℕ) → k < 16 → getD starts k 0 + getD lengths k 0 ≤ 75
-unfolding everyBelow starts lengths _and_
+pub fixed-inside : (k : ℕ) → k < 16 → getD starts k 0 + length (getD fixedNames k []) ≤ 75
+unfolding everyBelow starts fixedNames ascii _and_
 fixed-inside k h =
-    leb-true (getD starts k 0 + getD lengths k 0) 75
-    (every-at (λ i. leb (getD starts i 0 + getD lengths i 0) 75) 16 refl k h)
+    leb-true (getD starts k 0 + length (getD fixedNames k [])) 75
+    (every-at (λ i. leb (getD starts i 0 + length (getD fixedNames i [])) 75) 16 refl k h)
 
 -- ---- pairs
 

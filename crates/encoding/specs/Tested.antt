@@ -1,5 +1,5 @@
 -- The tests of a call as one, what tables that passed them keep, and how the code holds the fixed names.
-use Prim.Native.Nat.{ℕ, _+_, _*_, _-_, _≤_, _<_}
+use Prim.Native.Nat.{ℕ, _+_, _*_, _-_, _^_, _/_, _%_, _≤_, _<_}
 use mathlib.Core.Path.{_≡_}
 use mathlib.Core.Bool.{true}
 use mathlib.Core.List.{List, []}
@@ -20,11 +20,14 @@ behind (Failed r) c = Failed r
 unfoldable pub checkCall : List ℕ → List ℕ → Bytes → ℕ → Check
 checkCall words pairs text level = behind (checkLevel level) (checkTables words pairs text)
 
--- the letters hold each fixed name from its start on, as long as its length says
-pub record HoldsNames (letters : Bytes) (starts lengths : List ℕ) : Type 0 where
-  pub part : (k : ℕ) → k < 16 → take (getD lengths k 0) (drop (getD starts k 0) letters) ≡ getD fixedNames k []
-  pub count : (k : ℕ) → k < 16 → getD lengths k 0 ≡ length (getD fixedNames k [])
-  pub inside : (k : ℕ) → k < 16 → getD starts k 0 + getD lengths k 0 ≤ 75
+-- the digit at a place, from the right, of a number's hexadecimal digits
+unfoldable pub digitAt : ℕ → ℕ → ℕ
+digitAt table place = table / 2 ^ (4 * place) % 16
+
+-- the letters hold each fixed name from its start on
+pub record HoldsNames (letters : Bytes) (starts : List ℕ) : Type 0 where
+  pub part : (k : ℕ) → k < 16 → take (length (getD fixedNames k [])) (drop (getD starts k 0) letters) ≡ getD fixedNames k []
+  pub inside : (k : ℕ) → k < 16 → getD starts k 0 + length (getD fixedNames k []) ≤ 75
   pub size : length letters ≡ 75
 
 -- how long a name is, by the table of pairs alone

@@ -10,7 +10,7 @@ ghost use Rattle.rast.specs.ToString.{Primitive·ToString};
 ghost use Rattle.output.specs.Wrote.{Wrote};
 ghost use Rattle.encoding.specs.Refusals.{number};
 ghost use Rattle.encoding.specs.Tables.{checkLevel, checkTables, goodPairs, fixedNames, nameBytes, nameCount};
-ghost use Rattle.encoding.specs.Tested.{checkCall, HoldsNames, nameLength, Good};
+ghost use Rattle.encoding.specs.Tested.{checkCall, HoldsNames, digitAt, nameLength, Good};
 ghost use Rattle.encoding.specs.Reading.{readWord, readBelow, readNames};
 ghost use Rattle.encoding.specs.Types.{primitives};
 ghost use Rattle.encoding.specs.Heads.{readPath, pathHead, headAfter, readHead};
@@ -118,11 +118,29 @@ pub fn check_call(words: &[u32], pairs: &[u32], text: &[u8], level: u32) -> Chec
     }
 }
 
-// The sixteen fixed names stand one behind the other in `fixed_names`: where each starts, and how long it is. The string is laid out in pieces of 16, 8, 2 and 1
+// The sixteen fixed names stand one behind the other in `fixed_names`: where each starts. The string is laid out in pieces of 16, 8, 2 and 1
 // bytes, and their order is such that each name lies in one piece: a load over two pieces that were just stored would wait for both.
 const STARTS: [u8; 16] = [0, 48, 72, 70, 12, 51, 43, 54, 57, 32, 16, 64, 29, 0, 74, 60];
 
-const LENGTHS: [u8; 16] = [0, 3, 2, 2, 4, 3, 5, 3, 3, 11, 13, 6, 3, 12, 1, 4];
+// How long each fixed name is, a hexadecimal digit for each from the right. An array would be laid out at each use, and what is read from it would wait for that;
+// the branches by a name's length would wait with it.
+const LENGTHS: u64 = 0x41c36db335342230;
+
+// The digit at `place` from the right of a table of hexadecimal digits.
+pub fn digit(table: u64, place: u32) -> usize
+    requires { ⌜ place < 16 ⌝ }
+    ensures { λ r. ⌜ r ≡ digitAt table place ⌝ }
+{
+    ((table >> (4 * place)) % 16) as usize
+}
+
+// How long a fixed name is.
+fn fixed_length(name: u32) -> usize
+    requires { ⌜ name < 16 ⌝ }
+    ensures { λ r. ⌜ r ≡ length (getD fixedNames name []) ⌝ }
+{
+    digit(LENGTHS, name)
+}
 
 // How many names there are: the fixed ones, and one for each pair.
 pub fn name_count(pairs: &[u32]) -> usize
@@ -137,7 +155,7 @@ pub fn name_length(pairs: &[u32], name: u32) -> usize
     ensures { λ r. ⌜ r ≡ nameLength (now (pairs .entry)) name ⌝ }
 {
     if name < 16 {
-        return LENGTHS[name as usize] as usize;
+        return fixed_length(name);
     }
     let i = (name - 16) as usize;
     pairs[2 * i + 1] as usize
@@ -147,16 +165,14 @@ pub fn name_length(pairs: &[u32], name: u32) -> usize
 pub struct FixedNames {
     pub letters: [u8; 75],
     pub starts: [u8; 16],
-    pub lengths: [u8; 16],
 }
 
 pub fn fixed_names() -> FixedNames
-    ensures { λ r. ⌜ HoldsNames (r .letters) (r .starts) (r .lengths) ⌝ }
+    ensures { λ r. ⌜ HoldsNames (r .letters) (r .starts) ⌝ }
 {
     FixedNames {
         letters: *b"MaybePlacebosyncdafny_runtimePtrMaybeUninitboxedstdArcBoxmemselfObjectRcrc_",
         starts: STARTS,
-        lengths: LENGTHS,
     }
 }
 
@@ -164,30 +180,24 @@ pub fn fixed_names() -> FixedNames
 pub fn put_fixed(
     letters: &[u8; 75],
     starts: &[u8; 16],
-    lengths: &[u8; 16],
-    name: usize,
+    name: u32,
     out: &mut [u8],
     pos: usize,
 ) -> usize
-    requires { ⌜ HoldsNames (now letters) (now starts) (now lengths) × (name < 16) × (pos + length (getD fixedNames name []) ≤ length (now out)) ⌝ }
+    requires { ⌜ HoldsNames (now letters) (now starts) × (name < 16) × (pos + length (getD fixedNames name []) ≤ length (now out)) ⌝ }
     ensures { λ r. ⌜ Wrote (now (out .entry)) pos (getD fixedNames name []) (now (out .exit)) r ⌝ }
 {
-    let start = starts[name] as usize;
-    let count = lengths[name] as usize;
-    output::put_part(letters, start, count, out, pos)
+    let start = starts[name as usize] as usize;
+    output::put_part(letters, start, fixed_length(name), out, pos)
 }
 
 // The same, from tables of its own.
-fn put_one_fixed(name: usize, out: &mut [u8], pos: usize) -> usize
+fn put_one_fixed(name: u32, out: &mut [u8], pos: usize) -> usize
     requires { ⌜ (name < 16) × (pos + length (getD fixedNames name []) ≤ length (now out)) ⌝ }
     ensures { λ r. ⌜ Wrote (now (out .entry)) pos (getD fixedNames name []) (now (out .exit)) r ⌝ }
 {
-    let FixedNames {
-        letters,
-        starts,
-        lengths,
-    } = fixed_names();
-    put_fixed(&letters, &starts, &lengths, name, out, pos)
+    let FixedNames { letters, starts } = fixed_names();
+    put_fixed(&letters, &starts, name, out, pos)
 }
 
 // The bytes of a name that stands in the text.
@@ -209,20 +219,20 @@ pub fn put_name(pairs: &[u32], text: &[u8], name: u32, out: &mut [u8], pos: usiz
     ensures { λ r. ⌜ Wrote (now (out .entry)) pos (nameBytes (now (pairs .entry)) (now (text .entry)) name) (now (out .exit)) r ⌝ }
 {
     if name < 16 {
-        return put_one_fixed(name as usize, out, pos);
+        return put_one_fixed(name, out, pos);
     }
     put_pair(pairs, text, name, out, pos)
 }
 
-// How long the plain types' texts are, by their kinds.
-const PRIMITIVE_LENGTHS: [u8; 12] = [2, 3, 3, 3, 4, 2, 3, 3, 3, 4, 5, 4];
+// How long the plain types' texts are, a digit for each kind from the right.
+const PRIMITIVE_LENGTHS: u64 = 0x454333243332;
 
 // How long a plain type's text is.
 pub fn primitive_length(kind: u32) -> usize
     requires { ⌜ kind < 12 ⌝ }
     ensures { λ r. ⌜ (r ≡ length (Primitive·ToString (getD primitives kind U8))) × (r ≤ 5) ⌝ }
 {
-    PRIMITIVE_LENGTHS[kind as usize] as usize
+    digit(PRIMITIVE_LENGTHS, kind)
 }
 
 pub fn same_bytes(a: &[u8], b: &[u8]) -> bool

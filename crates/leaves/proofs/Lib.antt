@@ -1,3 +1,2 @@
--- Laws of plain types and of a path's text.
+-- Laws of a path's text.
 pub mod Paths
-pub mod Plain

@@ -1,3 +1,6 @@
+use mathlib.Core.Path.{ap, _∙_}
+use Prim.Native.Nat.{ℕ}
+use lib.ListN.{drop, getD, take}
 use Rattle.output.proofs.Laws.{wrote-as}
 use native.Mathlib.Omega.{arith}
 use borrow.Author.Needs.{needs}
@@ -12,20 +15,15 @@ cast-start c =
     let s = c .before .before in
     omega (arith, s .pre .0 .inside (s .args .name) (s .pre .1))
 
-element-copy-out-count : tie.Need-element-copy-out-count
-element-copy-out-count c = search needs
-
-cast-count : tie.Need-cast-count
-cast-count c =
-    let s = c .before .before .before in
-    omega (arith, s .pre .0 .inside (s .args .name) (s .pre .1))
+fixed-length-requires : tie.Need-fixed-length-requires
+fixed-length-requires c κs = search needs
 
 put-part-requires : tie.Need-put-part-requires
 put-part-requires c κs =
     let s = c .before .before .before .before .before in
     let h = s .pre .0 in
-    let name = s .args .name in
-    (omega (arith, h .inside name (s .pre .1), h .size), omega (arith, h .count name (s .pre .1), s .pre .2))
+    let n = c .before .fixed-length .ensures in
+    (omega (arith, n, h .inside (s .args .name) (s .pre .1), h .size), omega (arith, n, s .pre .2))
 
 same-length : tie.Need-same-length
 same-length c = search needs
@@ -33,7 +31,7 @@ same-length c = search needs
 returns : tie.Need-returns
 returns c =
     let s = c .before .before .before .before .before .before .before .before in
-    wrote-as (s .pre .0 .part (s .args .name) (s .pre .1)) (c .before .before .put-part .ensures)
+    wrote-as (ap (λ (n : ℕ). take n (drop (getD (s .args .starts .now) (s .args .name) 0) (s .args .letters .now))) (c .before .before .before .before .fixed-length .ensures) ∙ s .pre .0 .part (s .args .name) (s .pre .1)) (c .before .before .put-part .ensures)
 
 pub put-fixed-spec : {M : Type 1} → statement M
 put-fixed-spec =
@@ -41,8 +39,7 @@ put-fixed-spec =
     (tie.spec
     element-copy-out-start
     cast-start
-    element-copy-out-count
-    cast-count
+    fixed-length-requires
     put-part-requires
     same-length
     returns)

@@ -16,14 +16,14 @@ shared-slice-read-w c = type-there (c .before .before .before .before .before .a
 add-t13 : tie.Need-add-t13
 add-t13 c = omega (arith, type-there (c .before .before .before .before .before .before .args .words .now) (c .before .before .before .before .before .before .args .pairs .now) (c .before .before .before .before .before .before .args .text .now) (c .before .before .before .before .before .before .args .at) (c .before .before .before .before .before .before .pre .1), c .before .before .before .before .before .before .pre .0 .few)
 
-put-plain-requires : tie.Need-put-plain-requires
-put-plain-requires c κs = (c .before .if1 .taken, plain-room (c .before .before .before .before .before .before .before .args .words .now) (c .before .before .before .before .before .before .before .args .pairs .now) (c .before .before .before .before .before .before .before .args .text .now) (c .before .before .before .before .before .before .before .args .at) (c .before .before .before .before .before .before .before .pre .1) (c .before .if1 .taken))
+put-primitive-requires : tie.Need-put-primitive-requires
+put-primitive-requires c κs = (c .before .if1 .taken, plain-room (c .before .before .before .before .before .before .before .args .words .now) (c .before .before .before .before .before .before .before .args .pairs .now) (c .before .before .before .before .before .before .before .args .text .now) (c .before .before .before .before .before .before .before .args .at) (c .before .before .before .before .before .before .before .pre .1) (c .before .if1 .taken))
 
 same-length : tie.Need-same-length
 same-length c = search needs
 
 returns : tie.Need-returns
-returns c = plain-came (c .before .before .before .before .before .before .before .before .before .before .args .words .now) (c .before .before .before .before .before .before .before .before .before .before .args .pairs .now) (c .before .before .before .before .before .before .before .before .before .before .args .text .now) (c .before .before .before .before .before .before .before .before .before .before .args .at) (c .before .before .before .before .before .before .before .before .before .before .pre .1) (c .before .before .before .before .if1 .taken) (c .before .before .put-plain .ensures)
+returns c = plain-came (c .before .before .before .before .before .before .before .before .before .before .args .words .now) (c .before .before .before .before .before .before .before .before .before .before .args .pairs .now) (c .before .before .before .before .before .before .before .before .before .before .args .text .now) (c .before .before .before .before .before .before .before .before .before .before .args .at) (c .before .before .before .before .before .before .before .before .before .before .pre .1) (c .before .before .before .before .if1 .taken) (c .before .before .put-primitive .ensures)
 
 add-t17 : tie.Need-add-t17
 add-t17 c = omega (arith, type-there (c .before .before .before .before .before .before .before .args .words .now) (c .before .before .before .before .before .before .before .args .pairs .now) (c .before .before .before .before .before .before .before .args .text .now) (c .before .before .before .before .before .before .before .args .at) (c .before .before .before .before .before .before .before .pre .1), c .before .before .before .before .before .before .before .pre .0 .few)
@@ -56,7 +56,7 @@ write-borrow-spec =
     mul-w
     shared-slice-read-w
     add-t13
-    put-plain-requires
+    put-primitive-requires
     same-length
     returns
     add-t17

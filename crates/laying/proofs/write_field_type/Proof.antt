@@ -17,14 +17,14 @@ shared-slice-read-w c = type-there (c .before .before .before .before .before .a
 add-t15 : tie.Need-add-t15
 add-t15 c = omega (arith, type-there (c .before .before .before .before .before .before .args .words .now) (c .before .before .before .before .before .before .args .pairs .now) (c .before .before .before .before .before .before .args .text .now) (c .before .before .before .before .before .before .args .at) (c .before .before .before .before .before .before .pre .1), c .before .before .before .before .before .before .pre .0 .few)
 
-put-plain-requires : tie.Need-put-plain-requires
-put-plain-requires c κs = (c .before .if1 .taken, plain-room (c .before .before .before .before .before .before .before .args .words .now) (c .before .before .before .before .before .before .before .args .pairs .now) (c .before .before .before .before .before .before .before .args .text .now) (c .before .before .before .before .before .before .before .args .at) (c .before .before .before .before .before .before .before .pre .1) (c .before .if1 .taken))
+put-primitive-requires : tie.Need-put-primitive-requires
+put-primitive-requires c κs = (c .before .if1 .taken, plain-room (c .before .before .before .before .before .before .before .args .words .now) (c .before .before .before .before .before .before .before .args .pairs .now) (c .before .before .before .before .before .before .before .args .text .now) (c .before .before .before .before .before .before .before .args .at) (c .before .before .before .before .before .before .before .pre .1) (c .before .if1 .taken))
 
 same-length : tie.Need-same-length
 same-length c = search needs
 
 returns : tie.Need-returns
-returns c = plain-came (c .before .before .before .before .before .before .before .before .before .before .args .words .now) (c .before .before .before .before .before .before .before .before .before .before .args .pairs .now) (c .before .before .before .before .before .before .before .before .before .before .args .text .now) (c .before .before .before .before .before .before .before .before .before .before .args .at) (c .before .before .before .before .before .before .before .before .before .before .pre .1) (c .before .before .before .before .if1 .taken) (c .before .before .put-plain .ensures)
+returns c = plain-came (c .before .before .before .before .before .before .before .before .before .before .args .words .now) (c .before .before .before .before .before .before .before .before .before .before .args .pairs .now) (c .before .before .before .before .before .before .before .before .before .before .args .text .now) (c .before .before .before .before .before .before .before .before .before .before .args .at) (c .before .before .before .before .before .before .before .before .before .before .pre .1) (c .before .before .before .before .if1 .taken) (c .before .before .put-primitive .ensures)
 
 add-t19 : tie.Need-add-t19
 add-t19 c = omega (arith, type-there (c .before .before .before .before .before .before .before .args .words .now) (c .before .before .before .before .before .before .before .args .pairs .now) (c .before .before .before .before .before .before .before .args .text .now) (c .before .before .before .before .before .before .before .args .at) (c .before .before .before .before .before .before .before .pre .1), c .before .before .before .before .before .before .before .pre .0 .few)
@@ -77,7 +77,7 @@ write-field-type-spec =
     mul-w
     shared-slice-read-w
     add-t15
-    put-plain-requires
+    put-primitive-requires
     same-length
     returns
     add-t19
