@@ -64,6 +64,7 @@ fn cases() -> Vec<Case<'static>> {
         case("doc of newlines", 16, vec![with_doc(&[b'\n'; 16_000])]),
         case("random mix", 2, random_mix(8, 4, 5)),
         case("another mix", 1, random_mix(108, 6, 3)),
+        case("third mix", 3, random_mix(208, 5, 4)),
         case("most words", 0, vec![many_fields(8_192)]),
         case("most of all", 0, vec![most_of_all()]),
     ]

@@ -73,6 +73,7 @@ fn cases() -> Vec<Case<'static>> {
         case("hidden bases", vec![hidden_bases(4_000)]),
         case("random mix", random_mix(7, 8, 4)),
         case("another mix", random_mix(107, 5, 7)),
+        case("third mix", random_mix(207, 7, 5)),
         case("most words", vec![many_children(8_192)]),
         case("most pairs", vec![most_pairs()]),
         case("most text", vec![most_text()]),

@@ -177,6 +177,7 @@ fn cases() -> Vec<Case> {
         cases.push(Case::new(kind, "gauge types", gauge_types()));
         cases.push(Case::new(kind, "shaped types", shaped_types(10, 6)));
         cases.push(Case::new(kind, "other shapes", shaped_types(110, 9)));
+        cases.push(Case::new(kind, "third shapes", shaped_types(210, 7)));
         cases.push(Case::new(kind, "8,192 words", vec![wrapped(8_192)]));
     }
     cases
@@ -188,6 +189,7 @@ fn visits() -> Vec<Case> {
         Case::new(types, "gauge types", gauge_types()),
         Case::new(types, "shaped types", shaped_types(10, 6)),
         Case::new(types, "other shapes", shaped_types(110, 9)),
+        Case::new(types, "third shapes", shaped_types(210, 7)),
         Case::new(types, "1,024 words", vec![list_of_synonyms(1_024)]),
         Case::new(types, "8,192 words", vec![list_of_synonyms(8_192)]),
         Case::new(declarations, "a struct", vec![a_struct()]),
@@ -203,8 +205,10 @@ fn soundness() -> Vec<Case> {
         case("gauge types", sound(gauge_types())),
         case("shaped types", shaped_types(10, 6)),
         case("other shapes", shaped_types(110, 9)),
+        case("third shapes", shaped_types(210, 7)),
         case("nested mix", sound(nested_mix(11, 10, 4))),
         case("another mix", sound(nested_mix(111, 6, 6))),
+        case("third mix", sound(nested_mix(211, 8, 5))),
         case("8,192 words", sound(vec![list_of_synonyms(8_192)])),
         case("nested paths", sound(vec![nested_paths(8_192)])),
     ]
