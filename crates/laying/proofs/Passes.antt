@@ -248,3 +248,30 @@ module _ {write : Bool} {o : List ℕ} {p : ℕ} {whole : Reading Bytes} {o₁ :
       ready = ready-last (ready-next more (came-bytes n l));
       ends = λ o″ r w. a .ends o″ r (went-runs (listed-more item separator left at h) (went-then c (went-then (came-bytes n l) (went-last w))));
     }
+
+-- ---- a loop over a list
+
+-- how a loop over a list of n items has come so far: at least one is left
+pub record Turn (item : ℕ → Reading Bytes) (separator : Bytes) (write : Bool) (o : List ℕ) (p n at : ℕ) (o₁ : List ℕ) (p₁ left place : ℕ) : Type 0 where
+  pub some : 0 < left
+  pub along : Along write o p (listed item separator n at) o₁ p₁ (listed item separator left place)
+
+pub turn-start : {item : ℕ → Reading Bytes} {separator : Bytes} {write : Bool} {o : List ℕ} {p n at : ℕ} → 0 < n → Ready write o p (listed item separator n at) → Turn item separator write o p n at o p n at
+turn-start h r = record { some = h; along = along-start r }
+
+module _ {item : ℕ → Reading Bytes} {separator : Bytes} {write : Bool} {o : List ℕ} {p n at : ℕ} {o₁ : List ℕ} {p₁ left place : ℕ} (t : Turn item separator write o p n at o₁ p₁ left place) where
+  pub turn-item : Ready write o₁ p₁ (item place)
+  turn-item = along-item item separator left place (t .along) (t .some)
+
+  pub turn-stop : {o₂ : List ℕ} {r : Place} {k : Refusal} → Went write o₁ p₁ (item place) o₂ r → r ≡ Stopped k → Went write o p (listed item separator n at) o₂ r
+  turn-stop w e = along-stop item separator left place (t .along) (t .some) w e
+
+  module _ {o₂ : List ℕ} {next p₂ : ℕ} (c : Came write o₁ p₁ (item place) o₂ next p₂) where
+    pub turn-last : left - 1 ≡ 0 → Came write o p (listed item separator n at) o₂ next p₂
+    turn-last e = came-to (along-last item separator left place (t .along) (omega (arith, t .some)) (came c)) refl
+
+    pub turn-gap : (left - 1 ≡ 0 → ⊥) → Fits write o₂ p₂ separator
+    turn-gap e = along-gap item separator left place (t .along) (omega (arith, t .some)) c
+
+    pub turn-next : {o₃ : List ℕ} {p₃ : ℕ} → (left - 1 ≡ 0 → ⊥) → Laid write o₂ p₂ separator o₃ p₃ → Turn item separator write o p n at o₃ p₃ (left - 1) next
+    turn-next e l = record { some = omega (arith, t .some); along = along-next item separator left place (t .along) (omega (arith, t .some)) c l }
