@@ -14,7 +14,7 @@ use Rattle.rast.specs.Indent.{indent}
 use Rattle.rast.specs.Doc.{ToDocstringPrefix}
 use Rattle.rast.specs.DeclarationToString.{Visibility·ToString}
 use Rattle.output.specs.Wrote.{Wrote}
-use Rattle.output.specs.Laid.{clamp, Laid}
+use Rattle.output.specs.Laid.{clamp, Laid, Fits}
 use Rattle.output.proofs.Passes.{clamp-twice, laid-wrote, laid-counted}
 use Rattle.encoding.specs.declared.Refusal.{Refusal}
 use Rattle.encoding.specs.declared.Refusal.the-variants.{EndsEarly}
@@ -42,7 +42,7 @@ use Rattle.laying.specs.declared.Place.{Place}
 use Rattle.laying.specs.declared.Place.the-variants.{At, Stopped}
 use Rattle.laying.specs.Passes.{Chain, last, _then_, run, Ready, Came, Went, Counts, came}
 use Rattle.laying.specs.Texts.{visibilityAt, nameAt, typeTextAt, docAt}
-use Rattle.laying.proofs.Passes.{Runs, ReadyChain, AlongChain, chain-start, came-as, came-at, came-bytes, came-to, counts-bytes, ready-as, ready-bytes, ready-first, ready-last, ready-next, ready-runs, stops-here, went-last, went-runs, went-then}
+use Rattle.laying.proofs.Passes.{Runs, AlongChain, came-as, came-at, came-bytes, chain-fits, chain-laid, chain-start, counts-bytes, last-came, last-ready, ready-as, ready-bytes, stops-here, went-last, went-runs, went-then}
 use Rattle.laying.proofs.Splits.{map-made, text-before, counted-got, counted-none, counted-stop}
 
 -- ---- what a scan says
@@ -234,20 +234,19 @@ module _ (ws pairs : List ℕ) (text : Bytes) (at : ℕ) {o : List ℕ} {p : ℕ
     named-came c = came-at (let e : at + 1 + 1 ≡ at + 2 = omega arith in e) (came-as (sym (named-text 63 ws pairs text at type-there k)) c)
 
   module _ (k : getD ws at 0 ≡ 15) where
-    borrow-chain : ReadyChain true o p (got (ascii "&") (at + 1) then λ q. last (typeTextAt ws pairs text (at + 1)))
-    borrow-chain = ready-runs (borrow-accepted ws pairs text at type-there k r) r
+    borrow-chain : AlongChain true o p (typeTextAt ws pairs text at) o p (got (ascii "&") (at + 1) then λ q. last (typeTextAt ws pairs text (at + 1)))
+    borrow-chain = chain-start (borrow-accepted ws pairs text at type-there k r) r
 
     pub borrow-room : p + 1 ≤ length o
     unfolding ascii
-    borrow-room = ready-bytes (ready-first borrow-chain) .room refl
+    borrow-room = chain-fits borrow-chain .room refl
 
     module _ {o′ : List ℕ} {p′ : ℕ} (w : Wrote o p (ascii "&") o′ p′) where
       pub borrow-ready : Ready true o′ p′ (typeTextAt ws pairs text (at + 1))
-      borrow-ready = ready-last (ready-next borrow-chain (came-bytes (at + 1) (laid-wrote refl w)))
+      borrow-ready = last-ready (chain-laid borrow-chain (laid-wrote refl w))
 
       pub borrow-came : {o″ : List ℕ} {n q : ℕ} → Came true o′ p′ (typeTextAt ws pairs text (at + 1)) o″ n q → Came true o p (typeTextAt ws pairs text at) o″ n q
-      borrow-came c =
-          came-to (went-runs (borrow-accepted ws pairs text at type-there k r) (went-then (came-bytes (at + 1) (laid-wrote refl w)) (went-last (came c)))) refl
+      borrow-came c = last-came (chain-laid borrow-chain (laid-wrote refl w)) c
 
 -- the empty name is no doc
 pub no-doc-text : (pairs : List ℕ) (text : Bytes) (x : ℕ) (ind : Bytes) → x ≡ 0 → [] ≡ ToDocstringPrefix (nameBytes pairs text x) ind
@@ -286,6 +285,9 @@ module _ {ws : List ℕ} {at : ℕ} {x : Reading Bytes} {none : Bytes} {some : �
   module _ {o : List ℕ} {p : ℕ} (r : Ready true o p x) where
     pub count-there : at < length ws
     count-there = word-of ws at x (λ k d. f .when-refused d) r
+
+    pub none-fits : getD ws at 0 ≡ 0 → Fits true o p none
+    none-fits z = ready-bytes (ready-as (f .when-none (word-in ws at count-there) z) r)
 
     pub there-none : {o′ : List ℕ} {p′ : ℕ} → getD ws at 0 ≡ 0 → Laid true o p none o′ p′ → Came true o p x o′ (at + 1) p′
     there-none z l = came-as (sym (f .when-none (word-in ws at count-there) z)) (came-bytes (at + 1) l)
