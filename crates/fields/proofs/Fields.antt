@@ -28,7 +28,7 @@ use Rattle.laying.proofs.Leaves.{CountFirst, counted-first}
 use Rattle.laying.proofs.Splits.{split₂, listed-read, listed-same, around, within-same}
 use Rattle.fields.specs.declared.Entry.{Entry}
 use Rattle.fields.specs.declared.Entry.the-variants.{Named, Inline, Lined}
-use Rattle.fields.specs.Texts.{lineText, isNamed, entryGap, listFront, listEnd, noFields, namelessEntry, fieldAt, restAt, entryAt, entriesAt, someAt, namedAt, namelessFieldsAt, listAt}
+use Rattle.fields.specs.Texts.{lineText, isNamed, entryGap, listFront, listEnd, noFields, namelessEntry, fieldAt, restAt, entryAt, entriesAt, someAt, listAt}
 
 -- the indent of the next level
 pub indent-more : (level : ℕ) → indent (level + 1) ≡ indent level ++ IND
