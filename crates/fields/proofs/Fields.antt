@@ -59,9 +59,9 @@ end-size level = let n = line-size level in let l = length-append (lineText leve
 pub laid-size : {p q n : ℕ} {b : Bytes} → clamp q ≡ clamp (p + n) → n ≡ length b → Laid false [] p b [] q
 laid-size {p} c e = laid-counted refl (c ∙ ap (λ (m : ℕ). clamp (p + m)) e)
 
--- the length of a text that a flag decides
-pub size-of : (f : Bool → Bytes) {named b : Bool} {n : ℕ} → named ≡ b → length (f b) ≡ n → n ≡ length (f named)
-size-of f e d = sym d ∙ ap (λ (c : Bool). length (f c)) (sym e)
+-- the length of a text, by what is known of what decides it
+pub size-of : {A : Type 0} (f : A → Bytes) {a b : A} {n : ℕ} → a ≡ b → length (f b) ≡ n → n ≡ length (f a)
+size-of {A} f e d = sym d ∙ ap (λ (c : A). length (f c)) (sym e)
 
 pub room-as : (p : ℕ) (o : List ℕ) {b c : Bytes} → b ≡ c → p + length b ≤ length o → p + length c ≤ length o
 room-as p o e h = subst (λ (x : Bytes). p + length x ≤ length o) e h
