@@ -26,8 +26,8 @@ use Rattle.encoding.proofs.Reading.{map-same}
 use Rattle.laying.specs.Passes.{Chain, last, _then_, run, Ready}
 use Rattle.laying.specs.Texts.{nameAt, typeTextAt, pathTextAt, visibilityAt, docAt}
 use Rattle.laying.proofs.Passes.{Runs}
-use Rattle.laying.proofs.Leaves.{BelowThere, below-of}
-use Rattle.laying.proofs.Splits.{map-made, nothing-behind, runs-as, split₃, split-front, text-before, text-behind, listed-read, counted-got, counted-none, counted-stop}
+use Rattle.laying.proofs.Leaves.{BelowThere, below-of, CountFirst, counted-first}
+use Rattle.laying.proofs.Splits.{map-made, nothing-behind, runs-as, split₃, split-front, text-before, text-behind, listed-read}
 use Rattle.lists.specs.Texts.{attributesAt, parametersAt}
 use Rattle.fields.specs.declared.Entry.{Entry}
 use Rattle.fields.specs.declared.Entry.the-variants.{Named}
@@ -209,18 +209,11 @@ module _ (ws pairs : List ℕ) (text : Bytes) where
           line-text (indent level) (EnumCase·ToString (indent level ++ IND) true c)
           ∙ ap (λ (i : Bytes). ascii "\n" ++ i ++ EnumCase·ToString i true c) (sym (indent-more level))
 
-  module _ (level at : ℕ) {n p : ℕ} (e : readWord ws at ≡ got n p) where
-    pub variants-none : n ≡ 0 → variantsAt ws pairs text level at ≡ got [] p
-    unfolding SeqToString ascii
-    variants-none z = counted-none (SeqToString (caseLineText (indent level)) (ascii ",")) ws (readCase bound ws name type) at e z
-
-    pub variants-some : variantsAt ws pairs text level at ≡ casesAt ws pairs text level n p
-    variants-some =
-        counted-got (SeqToString (caseLineText (indent level)) (ascii ",")) ws (readCase bound ws name type) at e
-        ∙ listed-read (caseLineText (indent level)) (ascii ",") (readCase bound ws name type) n p
-
-  pub variants-stop : (level at : ℕ) {k : Refusal} → readWord ws at ≡ stop k → variantsAt ws pairs text level at ≡ stop k
-  variants-stop level at e = counted-stop (SeqToString (caseLineText (indent level)) (ascii ",")) ws (readCase bound ws name type) at e
+  pub variants-first : (level at : ℕ) → CountFirst ws at (variantsAt ws pairs text level at) [] (λ n p. last (casesAt ws pairs text level n p))
+  unfolding SeqToString ascii run
+  variants-first level at =
+      counted-first (SeqToString (caseLineText (indent level)) (ascii ",")) ws (readCase bound ws name type) at
+      (λ n p h. listed-read (caseLineText (indent level)) (ascii ",") (readCase bound ws name type) n p)
 
   -- ---- what a struct, an enum and a type synonym begin with
 

@@ -5,7 +5,7 @@ use mathlib.Core.Bool.{Bool, true, false}
 use mathlib.Core.List.{List, [], _∷_, _++_, append-assoc}
 use native.Mathlib.Numerals.{add-one}
 use native.Mathlib.Omega.{arith}
-use lib.ListN.{length, getD, length-append}
+use lib.ListN.{length, length-append}
 use Rattle.rast.specs.Bytes.{Bytes, ascii}
 use Rattle.rast.specs.Tree.{Ty}
 use Rattle.rast.specs.ToString.{Type·ToString}
@@ -15,22 +15,20 @@ use Rattle.rast.specs.DeclarationToString.{Visibility·ToString, Formal·ToStri
 use Rattle.output.specs.Laid.{clamp, Laid}
 use Rattle.output.proofs.Passes.{laid-counted}
 use Rattle.doc.proofs.Laying.{indent-length, line-size}
-use Rattle.encoding.specs.declared.Refusal.{Refusal}
-use Rattle.encoding.specs.Reading.{Reading, got, stop, readWord}
+use Rattle.encoding.specs.Reading.{Reading, got}
 use Rattle.encoding.specs.Scans.{mapReading}
 use Rattle.encoding.specs.Tables.{nameBytes, nameCount}
 use Rattle.encoding.specs.Types.{typeAt}
 use Rattle.encoding.specs.Declarations.{readList, readVisibility, readFormal, readField, readNamelessField}
-use Rattle.encoding.proofs.Reading.{word-in}
 use Rattle.laying.specs.declared.Place.the-variants.{At}
-use Rattle.laying.specs.Passes.{last, _then_, run, Ready, Came, came, Along}
+use Rattle.laying.specs.Passes.{last, _then_, run, Came, came, Along}
 use Rattle.laying.specs.Texts.{visibilityAt}
 use Rattle.laying.proofs.Passes.{Runs, came-to}
-use Rattle.laying.proofs.Leaves.{word-of}
-use Rattle.laying.proofs.Splits.{split₂, listed-read, listed-same, around, counted-got, counted-none, counted-stop, within-same}
+use Rattle.laying.proofs.Leaves.{CountFirst, counted-first}
+use Rattle.laying.proofs.Splits.{split₂, listed-read, listed-same, around, within-same}
 use Rattle.fields.specs.declared.Entry.{Entry}
 use Rattle.fields.specs.declared.Entry.the-variants.{Named, Inline, Lined}
-use Rattle.fields.specs.Texts.{lineText, isNamed, entryGap, listFront, listEnd, noFields, namelessEntry, fieldAt, restAt, entryAt, entriesAt, someAt, namedAt, namelessFieldsAt, listAt}
+use Rattle.fields.specs.Texts.{lineText, isNamed, entryGap, listFront, listEnd, noFields, namelessEntry, fieldAt, restAt, entryAt, entriesAt, someAt, listAt}
 
 -- the indent of the next level
 pub indent-more : (level : ℕ) → indent (level + 1) ≡ indent level ++ IND
@@ -60,6 +58,10 @@ end-size level = let n = line-size level in let l = length-append (lineText leve
 
 pub laid-size : {p q n : ℕ} {b : Bytes} → clamp q ≡ clamp (p + n) → n ≡ length b → Laid false [] p b [] q
 laid-size {p} c e = laid-counted refl (c ∙ ap (λ (m : ℕ). clamp (p + m)) e)
+
+-- the length of a text, by what is known of what decides it
+pub size-of : {A : Type 0} (f : A → Bytes) {a b : A} {n : ℕ} → a ≡ b → length (f b) ≡ n → n ≡ length (f a)
+size-of {A} f e d = sym d ∙ ap (λ (c : A). length (f c)) (sym e)
 
 pub room-as : (p : ℕ) (o : List ℕ) {b c : Bytes} → b ≡ c → p + length b ≤ length o → p + length c ≤ length o
 room-as p o e h = subst (λ (x : Bytes). p + length x ≤ length o) e h
@@ -123,46 +125,29 @@ module _ (ws pairs : List ℕ) (text : Bytes) where
 
   -- ---- how many, and then these
 
-  module _ (at : ℕ) {n p : ℕ} (e : readWord ws at ≡ got n p) where
-    pub list-none : (entry : Entry) (level : ℕ) → n ≡ 0 → listAt ws pairs text entry level at ≡ got (noFields (isNamed entry)) p
-    unfolding noFields Fields·ToString SeqToString ascii
-    list-none Named level z = counted-none (λ l. Fields·ToString (indent level) true (NamedFields l)) ws (readField bound ws name type) at e z
-    list-none Inline level z = counted-none (λ l. Fields·ToString (indent level) false (NamelessFields l)) ws (readNamelessField bound ws name type) at e z
-    list-none Lined level z = counted-none (λ l. Fields·ToString (indent level) true (NamelessFields l)) ws (readNamelessField bound ws name type) at e z
+  named-some : (level n p : ℕ) → 0 < n → mapReading (λ l. Fields·ToString (indent level) true (NamedFields l)) (readList (readField bound ws name type) n p) ≡ someAt ws pairs text Named level n p
+  unfolding Fields·ToString beginSpace endSpace listFront listEnd
+  named-some level n p h =
+      around (λ l. Fields·ToString (indent level) true (NamedFields l)) (SeqToString Field·ToString (separatorText (indent level) true)) (ascii " {" ++ lineText (level + 1)) (lineText level ++ ascii "}")
+      (λ x l. named-text level (SeqToString Field·ToString (separatorText (indent level) true) (x ∷ l))) (readField bound ws name type) n p h
+      ∙ within-same (ascii " {" ++ lineText (level + 1)) (lineText level ++ ascii "}") p
+      (λ q. mapReading (SeqToString Field·ToString (separatorText (indent level) true)) (readList (readField bound ws name type) n q)) (entriesAt ws pairs text Named level n) (named-read level n p)
 
-    named-some : (level : ℕ) → 0 < n → namedAt ws pairs text level at ≡ someAt ws pairs text Named level n p
-    unfolding Fields·ToString beginSpace endSpace listFront listEnd
-    named-some level h =
-        counted-got (λ l. Fields·ToString (indent level) true (NamedFields l)) ws (readField bound ws name type) at e
-        ∙ around (λ l. Fields·ToString (indent level) true (NamedFields l)) (SeqToString Field·ToString (separatorText (indent level) true)) (ascii " {" ++ lineText (level + 1)) (lineText level ++ ascii "}")
-        (λ x l. named-text level (SeqToString Field·ToString (separatorText (indent level) true) (x ∷ l))) (readField bound ws name type) n p h
-        ∙ within-same (ascii " {" ++ lineText (level + 1)) (lineText level ++ ascii "}") p
-        (λ q. mapReading (SeqToString Field·ToString (separatorText (indent level) true)) (readList (readField bound ws name type) n q)) (entriesAt ws pairs text Named level n) (named-read level n p)
+  nameless-some : (newLine : Bool) (level n p : ℕ) → 0 < n
+      → mapReading (λ l. Fields·ToString (indent level) newLine (NamelessFields l)) (readList (readNamelessField bound ws name type) n p)
+      ≡ run (got (ascii "(") p then λ q. entriesAt ws pairs text (namelessEntry newLine) level n q then λ r. last (got (ascii ")") r))
+  unfolding Fields·ToString ascii
+  nameless-some newLine level n p h =
+      around (λ l. Fields·ToString (indent level) newLine (NamelessFields l)) (SeqToString NamelessField·ToString (separatorText (indent level) newLine)) (ascii "(") (ascii ")") (λ x l. refl)
+      (readNamelessField bound ws name type) n p h
+      ∙ within-same (ascii "(") (ascii ")") p (λ q. mapReading (SeqToString NamelessField·ToString (separatorText (indent level) newLine)) (readList (readNamelessField bound ws name type) n q))
+      (entriesAt ws pairs text (namelessEntry newLine) level n) (nameless-read newLine level n p)
 
-    nameless-some : (newLine : Bool) (level : ℕ) → 0 < n
-        → namelessFieldsAt ws pairs text newLine level at ≡ run (got (ascii "(") p then λ q. entriesAt ws pairs text (namelessEntry newLine) level n q then λ r. last (got (ascii ")") r))
-    unfolding Fields·ToString ascii
-    nameless-some newLine level h =
-        counted-got (λ l. Fields·ToString (indent level) newLine (NamelessFields l)) ws (readNamelessField bound ws name type) at e
-        ∙ around (λ l. Fields·ToString (indent level) newLine (NamelessFields l)) (SeqToString NamelessField·ToString (separatorText (indent level) newLine)) (ascii "(") (ascii ")") (λ x l. refl)
-        (readNamelessField bound ws name type) n p h
-        ∙ within-same (ascii "(") (ascii ")") p (λ q. mapReading (SeqToString NamelessField·ToString (separatorText (indent level) newLine)) (readList (readNamelessField bound ws name type) n q))
-        (entriesAt ws pairs text (namelessEntry newLine) level n) (nameless-read newLine level n p)
-
-    pub list-some : (entry : Entry) (level : ℕ) → 0 < n → listAt ws pairs text entry level at ≡ someAt ws pairs text entry level n p
-    unfolding listFront listEnd
-    list-some Named level h = named-some level h
-    list-some Inline level h = nameless-some false level h
-    list-some Lined level h = nameless-some true level h
-
-  pub list-stop : (entry : Entry) (level at : ℕ) {k : Refusal} → readWord ws at ≡ stop k → listAt ws pairs text entry level at ≡ stop k
-  list-stop Named level at e = counted-stop (λ l. Fields·ToString (indent level) true (NamedFields l)) ws (readField bound ws name type) at e
-  list-stop Inline level at e = counted-stop (λ l. Fields·ToString (indent level) false (NamelessFields l)) ws (readNamelessField bound ws name type) at e
-  list-stop Lined level at e = counted-stop (λ l. Fields·ToString (indent level) true (NamelessFields l)) ws (readNamelessField bound ws name type) at e
-
-  -- the count of a list that was accepted
-  pub list-there : (entry : Entry) (level at : ℕ) {o : List ℕ} {p : ℕ} → Ready true o p (listAt ws pairs text entry level at) → readWord ws at ≡ got (getD ws at 0) (at + 1)
-  list-there entry level at r = word-in ws at (word-of ws at _ (λ k e. list-stop entry level at e) r)
+  pub list-first : (entry : Entry) (level at : ℕ) → CountFirst ws at (listAt ws pairs text entry level at) (noFields (isNamed entry)) (λ n p. last (someAt ws pairs text entry level n p))
+  unfolding noFields Fields·ToString SeqToString ascii listFront listEnd run
+  list-first Named level at = counted-first (λ l. Fields·ToString (indent level) true (NamedFields l)) ws (readField bound ws name type) at (named-some level)
+  list-first Inline level at = counted-first (λ l. Fields·ToString (indent level) false (NamelessFields l)) ws (readNamelessField bound ws name type) at (nameless-some false level)
+  list-first Lined level at = counted-first (λ l. Fields·ToString (indent level) true (NamelessFields l)) ws (readNamelessField bound ws name type) at (nameless-some true level)
 
   -- ---- a list that is not empty, as a chain
 

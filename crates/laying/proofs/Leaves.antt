@@ -14,7 +14,7 @@ use Rattle.rast.specs.Indent.{indent}
 use Rattle.rast.specs.Doc.{ToDocstringPrefix}
 use Rattle.rast.specs.DeclarationToString.{Visibility·ToString}
 use Rattle.output.specs.Wrote.{Wrote}
-use Rattle.output.specs.Laid.{clamp}
+use Rattle.output.specs.Laid.{clamp, Laid, Fits}
 use Rattle.output.proofs.Passes.{clamp-twice, laid-wrote, laid-counted}
 use Rattle.encoding.specs.declared.Refusal.{Refusal}
 use Rattle.encoding.specs.declared.Refusal.the-variants.{EndsEarly}
@@ -26,12 +26,12 @@ use Rattle.encoding.specs.Scans.{wordScan, mapReading}
 use Rattle.encoding.specs.Tables.{fixedNames, nameBytes, nameCount}
 use Rattle.encoding.specs.Heads.{headAfter, readHead}
 use Rattle.encoding.specs.Types.{primitives, readNode, readType, typeAt}
-use Rattle.encoding.specs.Declarations.{visibilityOf, readVisibility, readName}
+use Rattle.encoding.specs.Declarations.{visibilityOf, readVisibility, readName, readList, readCounted}
 use Rattle.encoding.proofs.Tables.{impossible, everyBelow, every-at, name-fixed}
 use Rattle.encoding.proofs.Heads.{head-at, head-end, head-plain}
 use Rattle.encoding.proofs.Types.{node-of}
 use Rattle.encoding.proofs.Inside.{word-there, below-there}
-use Rattle.encoding.proofs.Reading.{word-got, word-stop, map-got, map-stop}
+use Rattle.encoding.proofs.Reading.{word-got, word-stop, word-in, map-got, map-stop}
 use Rattle.measure.specs.declared.Measure.{Measure}
 use Rattle.measure.specs.declared.Measure.the-variants.{Measured, Stopped as Refused}
 use Rattle.measure.specs.Lengths.{measureOf}
@@ -40,10 +40,10 @@ use Rattle.writing.specs.declared.Spot.{Spot}
 use Rattle.writing.specs.Written.{Room, Written}
 use Rattle.laying.specs.declared.Place.{Place}
 use Rattle.laying.specs.declared.Place.the-variants.{At, Stopped}
-use Rattle.laying.specs.Passes.{last, _then_, Ready, Came, Went, Counts, came}
+use Rattle.laying.specs.Passes.{Chain, last, _then_, run, Ready, Came, Went, Counts, came}
 use Rattle.laying.specs.Texts.{visibilityAt, nameAt, typeTextAt, docAt}
-use Rattle.laying.proofs.Passes.{Runs, ReadyChain, came-as, came-at, came-bytes, came-to, counts-bytes, ready-as, ready-bytes, ready-first, ready-last, ready-next, ready-runs, stops-here, went-last, went-runs, went-then}
-use Rattle.laying.proofs.Splits.{map-made, text-before}
+use Rattle.laying.proofs.Passes.{Runs, AlongChain, came-as, came-at, came-bytes, chain-fits, chain-laid, chain-start, counts-bytes, last-came, last-ready, ready-as, ready-bytes, stops-here, went-last, went-runs, went-then}
+use Rattle.laying.proofs.Splits.{map-made, text-before, counted-got, counted-none, counted-stop}
 
 -- ---- what a scan says
 
@@ -234,22 +234,63 @@ module _ (ws pairs : List ℕ) (text : Bytes) (at : ℕ) {o : List ℕ} {p : ℕ
     named-came c = came-at (let e : at + 1 + 1 ≡ at + 2 = omega arith in e) (came-as (sym (named-text 63 ws pairs text at type-there k)) c)
 
   module _ (k : getD ws at 0 ≡ 15) where
-    borrow-chain : ReadyChain true o p (got (ascii "&") (at + 1) then λ q. last (typeTextAt ws pairs text (at + 1)))
-    borrow-chain = ready-runs (borrow-accepted ws pairs text at type-there k r) r
+    borrow-chain : AlongChain true o p (typeTextAt ws pairs text at) o p (got (ascii "&") (at + 1) then λ q. last (typeTextAt ws pairs text (at + 1)))
+    borrow-chain = chain-start (borrow-accepted ws pairs text at type-there k r) r
 
     pub borrow-room : p + 1 ≤ length o
     unfolding ascii
-    borrow-room = ready-bytes (ready-first borrow-chain) .room refl
+    borrow-room = chain-fits borrow-chain .room refl
 
     module _ {o′ : List ℕ} {p′ : ℕ} (w : Wrote o p (ascii "&") o′ p′) where
       pub borrow-ready : Ready true o′ p′ (typeTextAt ws pairs text (at + 1))
-      borrow-ready = ready-last (ready-next borrow-chain (came-bytes (at + 1) (laid-wrote refl w)))
+      borrow-ready = last-ready (chain-laid borrow-chain (laid-wrote refl w))
 
       pub borrow-came : {o″ : List ℕ} {n q : ℕ} → Came true o′ p′ (typeTextAt ws pairs text (at + 1)) o″ n q → Came true o p (typeTextAt ws pairs text at) o″ n q
-      borrow-came c =
-          came-to (went-runs (borrow-accepted ws pairs text at type-there k r) (went-then (came-bytes (at + 1) (laid-wrote refl w)) (went-last (came c)))) refl
+      borrow-came c = last-came (chain-laid borrow-chain (laid-wrote refl w)) c
 
 -- the empty name is no doc
 pub no-doc-text : (pairs : List ℕ) (text : Bytes) (x : ℕ) (ind : Bytes) → x ≡ 0 → [] ≡ ToDocstringPrefix (nameBytes pairs text x) ind
 unfolding ToDocstringPrefix fixedNames ascii
 no-doc-text pairs text x ind e = rw (name-fixed pairs text x (omega arith), e)
+
+-- ---- a count stands first
+
+-- if it is 0 the text is fixed, else it is that of a chain
+pub record CountFirst (ws : List ℕ) (at : ℕ) (x : Reading Bytes) (none : Bytes) (some : ℕ → ℕ → Chain) : Type 0 where
+  pub when-none : {n p : ℕ} → readWord ws at ≡ got n p → n ≡ 0 → x ≡ got none p
+  pub when-some : {n p : ℕ} → readWord ws at ≡ got n p → 0 < n → Runs x (some n p)
+  pub when-refused : {k : Refusal} → readWord ws at ≡ stop k → x ≡ stop k
+
+pub counted-first : {A : Type 0} (f : List A → Bytes) (ws : List ℕ) (item : ℕ → Reading A) (at : ℕ) {some : ℕ → ℕ → Chain}
+    → ((n p : ℕ) → 0 < n → mapReading f (readList item n p) ≡ run (some n p)) → CountFirst ws at (mapReading f (readCounted ws item at)) (f []) some
+counted-first f ws item at e = record {
+  when-none = λ d z. counted-none f ws item at d z;
+  when-some = λ d h. record { same = counted-got f ws item at d ∙ e _ _ h };
+  when-refused = λ d. counted-stop f ws item at d;
+}
+
+module _ {ws : List ℕ} {at : ℕ} {x : Reading Bytes} {none : Bytes} {some : ℕ → ℕ → Chain} (f : CountFirst ws at x none some) where
+  -- what a scan of the count says
+  module _ {s : WordScan} (e : s ≡ wordScan (readWord ws at)) {write : Bool} {o : List ℕ} {p : ℕ} where
+    pub count-none : {n q : ℕ} {o′ : List ℕ} {p′ : ℕ} → s ≡ Word n q → n ≡ 0 → Laid write o p none o′ p′ → Came write o p x o′ q p′
+    count-none d z l = came-as (sym (f .when-none (word-got (readWord ws at) e d) z)) (came-bytes _ l)
+
+    pub count-some : {n q : ℕ} → s ≡ Word n q → (n ≡ 0 → ⊥) → Ready write o p x → AlongChain write o p x o p (some n q)
+    count-some d z r = chain-start (f .when-some (word-got (readWord ws at) e d) (omega arith)) r
+
+    pub count-refused : {k : Refusal} → s ≡ NoWord k → Went write o p x o (Stopped k)
+    count-refused d = stops-here (f .when-refused (word-stop (readWord ws at) e d))
+
+  -- the text was accepted
+  module _ {o : List ℕ} {p : ℕ} (r : Ready true o p x) where
+    pub count-there : at < length ws
+    count-there = word-of ws at x (λ k d. f .when-refused d) r
+
+    pub none-fits : getD ws at 0 ≡ 0 → Fits true o p none
+    none-fits z = ready-bytes (ready-as (f .when-none (word-in ws at count-there) z) r)
+
+    pub there-none : {o′ : List ℕ} {p′ : ℕ} → getD ws at 0 ≡ 0 → Laid true o p none o′ p′ → Came true o p x o′ (at + 1) p′
+    there-none z l = came-as (sym (f .when-none (word-in ws at count-there) z)) (came-bytes (at + 1) l)
+
+    pub there-some : (getD ws at 0 ≡ 0 → ⊥) → AlongChain true o p x o p (some (getD ws at 0) (at + 1))
+    there-some z = chain-start (f .when-some (word-in ws at count-there) (omega arith)) r

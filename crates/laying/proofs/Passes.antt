@@ -193,6 +193,55 @@ module _ {write : Bool} {o : List ℕ} {p : ℕ} where
       let s = was-stopped w d in
       record { went = subst (λ (z : Place). Went write o p (run (x then k)) o′ z) (sym d) (stopped (then-first x k (s .0)) (s .1)) }
 
+-- ---- part by part through a chain
+
+-- how a pass over a text has come so far: a chain is left of it
+pub record AlongChain (write : Bool) (o : List ℕ) (p : ℕ) (whole : Reading Bytes) (o₁ : List ℕ) (p₁ : ℕ) (left : Chain) : Type 0 where
+  pub ready : ReadyChain write o₁ p₁ left
+  pub ends : (o″ : List ℕ) (r : Place) → WentChain write o₁ p₁ left o″ r → Went write o p whole o″ r
+
+pub chain-start : {write : Bool} {o : List ℕ} {p : ℕ} {x : Reading Bytes} {c : Chain} → Runs x c → Ready write o p x → AlongChain write o p x o p c
+chain-start e r = record { ready = ready-runs e r; ends = λ o″ a w. went-runs e w }
+
+module _ {write : Bool} {o : List ℕ} {p : ℕ} {whole : Reading Bytes} {o₁ : List ℕ} {p₁ : ℕ} where
+  -- the next part
+  module _ {x : Reading Bytes} {k : ℕ → Chain} (a : AlongChain write o p whole o₁ p₁ (x then k)) where
+    pub chain-ready : Ready write o₁ p₁ x
+    chain-ready = ready-first (a .ready)
+
+    pub chain-next : {o₂ : List ℕ} {n p₂ : ℕ} → Came write o₁ p₁ x o₂ n p₂ → AlongChain write o p whole o₂ p₂ (k n)
+    chain-next c = record { ready = ready-next (a .ready) c; ends = λ o″ r w. a .ends o″ r (went-then c w) }
+
+    pub chain-stop : {o₂ : List ℕ} {r : Place} {e : Refusal} → Went write o₁ p₁ x o₂ r → r ≡ Stopped e → Went write o p whole o₂ r
+    chain-stop {o₂} {r} w d = a .ends o₂ r (stops-then w d)
+
+  -- the next part is fixed bytes
+  module _ {b : Bytes} {n : ℕ} {k : ℕ → Chain} (a : AlongChain write o p whole o₁ p₁ (got b n then k)) where
+    pub chain-fits : Fits write o₁ p₁ b
+    chain-fits = ready-bytes (chain-ready a)
+
+    pub chain-laid : {o₂ : List ℕ} {p₂ : ℕ} → Laid write o₁ p₁ b o₂ p₂ → AlongChain write o p whole o₂ p₂ (k n)
+    chain-laid l = chain-next a (came-bytes n l)
+
+  -- the last part
+  module _ {x : Reading Bytes} (a : AlongChain write o p whole o₁ p₁ (last x)) where
+    pub last-ready : Ready write o₁ p₁ x
+    last-ready = ready-last (a .ready)
+
+    pub last-went : {o₂ : List ℕ} {r : Place} → Went write o₁ p₁ x o₂ r → Went write o p whole o₂ r
+    last-went {o₂} {r} w = a .ends o₂ r (went-last w)
+
+    pub last-came : {o₂ : List ℕ} {n p₂ : ℕ} → Came write o₁ p₁ x o₂ n p₂ → Came write o p whole o₂ n p₂
+    last-came c = came-to (last-went (came c)) refl
+
+  -- the last part is fixed bytes
+  module _ {b : Bytes} {n : ℕ} (a : AlongChain write o p whole o₁ p₁ (last (got b n))) where
+    pub last-fits : Fits write o₁ p₁ b
+    last-fits = ready-bytes (last-ready a)
+
+    pub last-laid : {o₂ : List ℕ} {p₂ : ℕ} → Laid write o₁ p₁ b o₂ p₂ → Came write o p whole o₂ n p₂
+    last-laid l = last-came a (came-bytes n l)
+
 -- ---- lists
 
 module _ (item : ℕ → Reading Bytes) (separator : Bytes) where
@@ -248,3 +297,30 @@ module _ {write : Bool} {o : List ℕ} {p : ℕ} {whole : Reading Bytes} {o₁ :
       ready = ready-last (ready-next more (came-bytes n l));
       ends = λ o″ r w. a .ends o″ r (went-runs (listed-more item separator left at h) (went-then c (went-then (came-bytes n l) (went-last w))));
     }
+
+-- ---- a loop over a list
+
+-- how a loop over a list of n items has come so far: at least one is left
+pub record Turn (item : ℕ → Reading Bytes) (separator : Bytes) (write : Bool) (o : List ℕ) (p n at : ℕ) (o₁ : List ℕ) (p₁ left place : ℕ) : Type 0 where
+  pub some : 0 < left
+  pub along : Along write o p (listed item separator n at) o₁ p₁ (listed item separator left place)
+
+pub turn-start : {item : ℕ → Reading Bytes} {separator : Bytes} {write : Bool} {o : List ℕ} {p n at : ℕ} → 0 < n → Ready write o p (listed item separator n at) → Turn item separator write o p n at o p n at
+turn-start h r = record { some = h; along = along-start r }
+
+module _ {item : ℕ → Reading Bytes} {separator : Bytes} {write : Bool} {o : List ℕ} {p n at : ℕ} {o₁ : List ℕ} {p₁ left place : ℕ} (t : Turn item separator write o p n at o₁ p₁ left place) where
+  pub turn-item : Ready write o₁ p₁ (item place)
+  turn-item = along-item item separator left place (t .along) (t .some)
+
+  pub turn-stop : {o₂ : List ℕ} {r : Place} {k : Refusal} → Went write o₁ p₁ (item place) o₂ r → r ≡ Stopped k → Went write o p (listed item separator n at) o₂ r
+  turn-stop w e = along-stop item separator left place (t .along) (t .some) w e
+
+  module _ {o₂ : List ℕ} {next p₂ : ℕ} (c : Came write o₁ p₁ (item place) o₂ next p₂) where
+    pub turn-last : left - 1 ≡ 0 → Came write o p (listed item separator n at) o₂ next p₂
+    turn-last e = came-to (along-last item separator left place (t .along) (omega (arith, t .some)) (came c)) refl
+
+    pub turn-gap : (left - 1 ≡ 0 → ⊥) → Fits write o₂ p₂ separator
+    turn-gap e = along-gap item separator left place (t .along) (omega (arith, t .some)) c
+
+    pub turn-next : {o₃ : List ℕ} {p₃ : ℕ} → (left - 1 ≡ 0 → ⊥) → Laid write o₂ p₂ separator o₃ p₃ → Turn item separator write o p n at o₃ p₃ (left - 1) next
+    turn-next e l = record { some = omega (arith, t .some); along = along-next item separator left place (t .along) (omega (arith, t .some)) c l }

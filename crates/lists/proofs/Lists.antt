@@ -24,8 +24,8 @@ use Rattle.laying.specs.declared.Place.the-variants.{At}
 use Rattle.laying.specs.Passes.{last, _then_, run, listed, Ready, Came, Went, came, Along}
 use Rattle.laying.specs.Texts.{nameAt}
 use Rattle.laying.proofs.Passes.{Runs, ready-runs, ready-last, ready-next, went-runs, went-then, went-last, went-as, came-nothing, counts-bytes}
-use Rattle.laying.proofs.Leaves.{word-of}
-use Rattle.laying.proofs.Splits.{nothing-behind, runs-as, split₂, listed-read, listed-same, around, counted-got, counted-none, counted-stop, within-same}
+use Rattle.laying.proofs.Leaves.{word-of, CountFirst, counted-first}
+use Rattle.laying.proofs.Splits.{nothing-behind, runs-as, split₂, listed-read, listed-same, around, counted-got, counted-stop, within-same}
 use Rattle.lists.specs.Texts.{someArguments, derivedAt, attributeAt, someAttributes, attributesAt, someConstraints, constraintsAt, parameterAt, someParameters, parametersAt}
 
 -- ---- any readings
@@ -45,10 +45,6 @@ unfolding ascii
 counts-line level {p} e =
     let s : 2 + 4 * level ≡ length (ascii "]" ++ (ascii "\n" ++ indent level)) = omega (arith, indent-length level) in
     counts-bytes (e ∙ ap (λ (m : ℕ). clamp (p + m)) s)
-
--- a count that was accepted stands in the words
-count-there : {A : Type 0} (f : List A → Bytes) (ws : List ℕ) (item : ℕ → Reading A) (at : ℕ) {o : List ℕ} {p : ℕ} → Ready true o p (mapReading f (readCounted ws item at)) → at < length ws
-count-there f ws item at r = word-of ws at _ (λ k e. counted-stop f ws item at e) r
 
 -- ---- a list with nothing between its items
 
@@ -105,37 +101,24 @@ module _ (ws pairs : List ℕ) (text : Bytes) where
       listed-read (λ y. y) (ascii ", ") (nameAt ws pairs text) n p
       ∙ listed-same (ascii ", ") (λ q. mapReading (λ y. y) (nameAt ws pairs text q)) (nameAt ws pairs text) (λ q. map-same (nameAt ws pairs text q)) n p
 
-  module _ (at : ℕ) {n p : ℕ} (e : readWord ws at ≡ got n p) where
-    pub derived-none : n ≡ 0 → derivedAt ws pairs text at ≡ got [] p
-    unfolding derivedText ascii
-    derived-none z = counted-none derivedText ws (nameAt ws pairs text) at e z
+  pub derived-first : (at : ℕ) → CountFirst ws at (derivedAt ws pairs text at) [] (λ n p. got (ascii "(") p then λ q. someArguments ws pairs text n q then λ r. last (got (ascii ")") r))
+  unfolding derivedText ascii
+  derived-first at =
+      counted-first derivedText ws (nameAt ws pairs text) at (λ n p h.
+      around derivedText (SeqToString (λ y. y) (ascii ", ")) (ascii "(") (ascii ")") (λ x l. refl) (nameAt ws pairs text) n p h
+      ∙ within-same (ascii "(") (ascii ")") p (λ q. mapReading (SeqToString (λ y. y) (ascii ", ")) (readList (nameAt ws pairs text) n q)) (someArguments ws pairs text n) (arguments-read n p))
 
-    pub derived-some : 0 < n → Runs (derivedAt ws pairs text at) (got (ascii "(") p then λ q. someArguments ws pairs text n q then λ r. last (got (ascii ")") r))
-    unfolding derivedText ascii
-    derived-some h = record {
-      same = counted-got derivedText ws (nameAt ws pairs text) at e
-          ∙ around derivedText (SeqToString (λ y. y) (ascii ", ")) (ascii "(") (ascii ")") (λ x l. refl) (nameAt ws pairs text) n p h
-          ∙ within-same (ascii "(") (ascii ")") p (λ q. mapReading (SeqToString (λ y. y) (ascii ", ")) (readList (nameAt ws pairs text) n q)) (someArguments ws pairs text n) (arguments-read n p);
-    }
-
-    pub attributes-read : (level : ℕ) → attributesAt ws pairs text level at ≡ someAttributes ws pairs text level n p
-    unfolding Attribute·ToStringMultiple ascii
-    attributes-read level =
-        counted-got (Attribute·ToStringMultiple (indent level)) ws attribute at e
-        ∙ listed-read (λ a. Attribute·ToString a ++ ascii "\n" ++ indent level) [] attribute n p
-
-  pub derived-stop : (at : ℕ) {k : Refusal} → readWord ws at ≡ stop k → derivedAt ws pairs text at ≡ stop k
-  derived-stop at e = counted-stop derivedText ws (nameAt ws pairs text) at e
+  pub attributes-read : (level at : ℕ) {n p : ℕ} → readWord ws at ≡ got n p → attributesAt ws pairs text level at ≡ someAttributes ws pairs text level n p
+  unfolding Attribute·ToStringMultiple ascii
+  attributes-read level at {n} {p} e =
+      counted-got (Attribute·ToStringMultiple (indent level)) ws attribute at e
+      ∙ listed-read (λ a. Attribute·ToString a ++ ascii "\n" ++ indent level) [] attribute n p
 
   pub attributes-stop : (level at : ℕ) {k : Refusal} → readWord ws at ≡ stop k → attributesAt ws pairs text level at ≡ stop k
   attributes-stop level at e = counted-stop (Attribute·ToStringMultiple (indent level)) ws attribute at e
 
-  module _ {o : List ℕ} {p : ℕ} where
-    pub derived-there : (at : ℕ) → Ready true o p (derivedAt ws pairs text at) → at < length ws
-    derived-there at r = count-there derivedText ws (nameAt ws pairs text) at r
-
-    pub attributes-there : (level at : ℕ) → Ready true o p (attributesAt ws pairs text level at) → at < length ws
-    attributes-there level at r = count-there (Attribute·ToStringMultiple (indent level)) ws attribute at r
+  pub attributes-there : {o : List ℕ} {p : ℕ} (level at : ℕ) → Ready true o p (attributesAt ws pairs text level at) → at < length ws
+  attributes-there level at r = word-of ws at _ (λ k e. attributes-stop level at e) r
 
   pub attribute-runs : (level at : ℕ) → Runs (attributeAt ws pairs text level at)
       (got (ascii "#[") at then λ o. nameAt ws pairs text at then λ p. derivedAt ws pairs text p then λ q. last (got (ascii "]" ++ (ascii "\n" ++ indent level)) q))
@@ -154,35 +137,18 @@ module _ (ws pairs : List ℕ) (text : Bytes) where
       (split₂ (λ x ts. record { name = x; constraints = ts }) TypeParamDecl·ToString (λ y. y) constraintsText (λ x ts. refl)
       (nameAt ws pairs text at) (readCounted ws (typeAt ws pairs text)))
 
-  module _ (at : ℕ) {n p : ℕ} (e : readWord ws at ≡ got n p) where
-    pub constraints-none : n ≡ 0 → constraintsAt ws pairs text at ≡ got [] p
-    unfolding constraintsText ascii
-    constraints-none z = counted-none constraintsText ws (typeAt ws pairs text) at e z
+  pub constraints-first : (at : ℕ) → CountFirst ws at (constraintsAt ws pairs text at) [] (λ n p. got (ascii ": ") p then λ q. last (someConstraints ws pairs text n q))
+  unfolding constraintsText ascii run
+  constraints-first at =
+      counted-first constraintsText ws (typeAt ws pairs text) at (λ n p h.
+      around constraintsText (SeqToString Type·ToString (ascii " + ")) (ascii ": ") [] (λ x l. ap (λ (b : Bytes). ascii ": " ++ b) (sym (append-nil (SeqToString Type·ToString (ascii " + ") (x ∷ l))))) (typeAt ws pairs text) n p h
+      ∙ ap (λ (z : Reading Bytes). z >>= λ c q. got (ascii ": " ++ c) q)
+      (nothing-behind (mapReading (SeqToString Type·ToString (ascii " + ")) (readList (typeAt ws pairs text) n p)) ∙ listed-read Type·ToString (ascii " + ") (typeAt ws pairs text) n p))
 
-    pub constraints-some : 0 < n → Runs (constraintsAt ws pairs text at) (got (ascii ": ") p then λ q. last (someConstraints ws pairs text n q))
-    unfolding constraintsText ascii run
-    constraints-some h = record {
-      same = counted-got constraintsText ws (typeAt ws pairs text) at e
-          ∙ around constraintsText (SeqToString Type·ToString (ascii " + ")) (ascii ": ") [] (λ x l. ap (λ (b : Bytes). ascii ": " ++ b) (sym (append-nil (SeqToString Type·ToString (ascii " + ") (x ∷ l))))) (typeAt ws pairs text) n p h
-          ∙ ap (λ (z : Reading Bytes). z >>= λ c q. got (ascii ": " ++ c) q)
-          (nothing-behind (mapReading (SeqToString Type·ToString (ascii " + ")) (readList (typeAt ws pairs text) n p)) ∙ listed-read Type·ToString (ascii " + ") (typeAt ws pairs text) n p);
-    }
-
-    pub parameters-none : n ≡ 0 → parametersAt ws pairs text at ≡ got [] p
-    unfolding TypeParamDecl·ToStringMultiple ascii
-    parameters-none z = counted-none TypeParamDecl·ToStringMultiple ws parameter at e z
-
-    pub parameters-some : 0 < n → Runs (parametersAt ws pairs text at) (got (ascii "<") p then λ q. someParameters ws pairs text n q then λ r. last (got (ascii ">") r))
-    unfolding TypeParamDecl·ToStringMultiple ascii
-    parameters-some h = record {
-      same = counted-got TypeParamDecl·ToStringMultiple ws parameter at e
-          ∙ around TypeParamDecl·ToStringMultiple (SeqToString TypeParamDecl·ToString (ascii ", ")) (ascii "<") (ascii ">") (λ x l. refl) parameter n p h
-          ∙ within-same (ascii "<") (ascii ">") p (λ q. mapReading (SeqToString TypeParamDecl·ToString (ascii ", ")) (readList parameter n q)) (someParameters ws pairs text n)
-          (listed-read TypeParamDecl·ToString (ascii ", ") parameter n p);
-    }
-
-  pub constraints-stop : (at : ℕ) {k : Refusal} → readWord ws at ≡ stop k → constraintsAt ws pairs text at ≡ stop k
-  constraints-stop at e = counted-stop constraintsText ws (typeAt ws pairs text) at e
-
-  pub parameters-stop : (at : ℕ) {k : Refusal} → readWord ws at ≡ stop k → parametersAt ws pairs text at ≡ stop k
-  parameters-stop at e = counted-stop TypeParamDecl·ToStringMultiple ws parameter at e
+  pub parameters-first : (at : ℕ) → CountFirst ws at (parametersAt ws pairs text at) [] (λ n p. got (ascii "<") p then λ q. someParameters ws pairs text n q then λ r. last (got (ascii ">") r))
+  unfolding TypeParamDecl·ToStringMultiple ascii
+  parameters-first at =
+      counted-first TypeParamDecl·ToStringMultiple ws parameter at (λ n p h.
+      around TypeParamDecl·ToStringMultiple (SeqToString TypeParamDecl·ToString (ascii ", ")) (ascii "<") (ascii ">") (λ x l. refl) parameter n p h
+      ∙ within-same (ascii "<") (ascii ">") p (λ q. mapReading (SeqToString TypeParamDecl·ToString (ascii ", ")) (readList parameter n q)) (someParameters ws pairs text n)
+      (listed-read TypeParamDecl·ToString (ascii ", ") parameter n p))

@@ -2,21 +2,11 @@
 // own: counting needs no buffer, and what was accepted is written without being tested again.
 ghost use mathlib.Core.Bool.{true};
 ghost use Prim.Native.Nat.{_+_, _^_, _<_};
-ghost use Rattle.rast.specs.Bytes.{ascii};
-ghost use Rattle.output.specs.Laid.{Laid, Fits};
 ghost use Rattle.laying.specs.Passes.{Checked, Ready, Came, Went, Counts};
 ghost use Rattle.lists.specs.Texts.{someArguments, derivedAt, attributeAt, someAttributes, attributesAt, someConstraints, constraintsAt, parameterAt, someParameters, parametersAt};
 use encoding::WordScan;
 use laying::Place;
 use writing::Spot;
-
-// The comma between two of a list.
-fn lay_comma(write: bool, out: &mut [u8], pos: usize) -> usize
-    requires { ⌜ Fits write (now out) pos (ascii ", ") ⌝ }
-    ensures { λ r. ⌜ Laid write (now (out .entry)) pos (ascii ", ") (now (out .exit)) r ⌝ }
-{
-    output::lay(write, b", ", out, pos)
-}
 
 // ---- attributes, counted
 
@@ -186,7 +176,7 @@ fn write_arguments(
                 pos: p,
             };
         }
-        p = lay_comma(true, out, p);
+        p = output::put(b", ", out, p);
     }
 }
 
@@ -284,14 +274,6 @@ pub fn write_attribute_list(
 
 // ---- parameters
 
-// The plus between two constraints.
-fn lay_plus(write: bool, out: &mut [u8], pos: usize) -> usize
-    requires { ⌜ Fits write (now out) pos (ascii " + ") ⌝ }
-    ensures { λ r. ⌜ Laid write (now (out .entry)) pos (ascii " + ") (now (out .exit)) r ⌝ }
-{
-    output::lay(write, b" + ", out, pos)
-}
-
 // `n` constraints, one at least.
 fn lay_constraints(
     write: bool,
@@ -319,7 +301,7 @@ fn lay_constraints(
             return one;
         }
         place = next;
-        p = lay_plus(write, out, end);
+        p = output::lay(write, b" + ", out, end);
     }
 }
 
@@ -395,7 +377,7 @@ fn lay_parameters(
             return one;
         }
         place = next;
-        p = lay_comma(write, out, end);
+        p = output::lay(write, b", ", out, end);
     }
 }
 

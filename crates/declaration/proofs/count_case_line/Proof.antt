@@ -1,11 +1,12 @@
 use Prim.Native.Nat.{_+_, _*_}
-use mathlib.Core.Path.{_≡_, _∙_, ap}
+use mathlib.Core.Path.{_≡_, _∙_, ap, refl}
 use lib.ListN.{length}
 use native.Mathlib.Omega.{arith}
 use Rattle.output.specs.Laid.{clamp}
+use Rattle.output.proofs.Passes.{laid-counted}
 use Rattle.doc.proofs.Laying.{line-size}
 use Rattle.fields.specs.Texts.{lineText}
-use Rattle.laying.proofs.Passes.{counts-bytes, went-last, went-runs, went-then}
+use Rattle.laying.proofs.Passes.{chain-laid, chain-start, last-went, ready-count}
 use Rattle.declaration.proofs.Declarations.{case-line-runs}
 use borrow.Author.Needs.{needs}
 use Rattle.declaration.proofs.count_case_line.Statement.{statement}
@@ -28,8 +29,8 @@ count-case-requires c κs = search needs
 
 returns : tie.Need-returns
 returns c =
-    let s : c .before .before .before .before .before .args .pos + (5 + 4 * c .before .before .before .before .before .args .level) ≡ c .before .before .before .before .before .args .pos + length (lineText (c .before .before .before .before .before .args .level + 1)) = omega (arith, line-size (c .before .before .before .before .before .args .level + 1)) in
-    went-runs (case-line-runs (c .before .before .before .before .before .args .words .now) (c .before .before .before .before .before .args .pairs .now) (c .before .before .before .before .before .args .text .now) (c .before .before .before .before .before .args .level) (c .before .before .before .before .before .args .at)) (went-then (counts-bytes (c .before .count-few .ensures ∙ ap clamp s)) (went-last (c .count-case .ensures)))
+    let start = c .before .before .before .before .before in
+    let s : start .args .pos + (5 + 4 * start .args .level) ≡ start .args .pos + length (lineText (start .args .level + 1)) = omega (arith, line-size (start .args .level + 1)) in last-went (chain-laid (chain-start (case-line-runs (start .args .words .now) (start .args .pairs .now) (start .args .text .now) (start .args .level) (start .args .at)) ready-count) (laid-counted refl (c .before .count-few .ensures ∙ ap clamp s))) (c .count-case .ensures)
 
 pub count-case-line-spec : {M : Type 1} → statement M
 count-case-line-spec =

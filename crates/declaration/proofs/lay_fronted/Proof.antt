@@ -1,15 +1,25 @@
-use Rattle.declaration.proofs.Declarations.{fronted-runs}
-use Rattle.laying.proofs.Passes.{came-to, ready-first, ready-last, ready-next, ready-runs, stops-then, went-last, went-runs, went-then}
 use native.Mathlib.Omega.{arith}
+use Rattle.declaration.proofs.Declarations.{fronted-runs}
+use Rattle.declaration.specs.Texts.{bodyAt, frontAt, frontedAt}
+use Rattle.laying.proofs.Passes.{AlongChain, came-to, chain-next, chain-ready, chain-start, chain-stop, last-ready, last-went}
+use Rattle.laying.specs.Passes.{_then_, last}
 use borrow.Author.Needs.{needs}
 use Rattle.declaration.proofs.lay_fronted.Statement.{statement}
 use Rattle.declaration.proofs.lay_fronted.Tie as tie
 
+-- the whole, and what is left behind the front
+whole : (c : tie.Start) → AlongChain (c .args .write) (c .args .out .now) (c .args .pos) (frontedAt (c .args .words .now) (c .args .pairs .now) (c .args .text .now) (c .args .head) (c .args .level) (c .args .at)) (c .args .out .now) (c .args .pos) (frontAt (c .args .words .now) (c .args .pairs .now) (c .args .text .now) (c .args .head) (c .args .level) (c .args .at) then λ p. last (bodyAt (c .args .words .now) (c .args .pairs .now) (c .args .text .now) (c .args .head) (c .args .level) p))
+whole c = chain-start (fronted-runs (c .args .words .now) (c .args .pairs .now) (c .args .text .now) (c .args .head) (c .args .level) (c .args .at)) (c .pre .2)
+
+body : (c : tie.After-front) →
+    let start = c .before .before .before .before .before .before .before .before .before .before in
+    AlongChain (start .args .write) (start .args .out .now) (start .args .pos) (frontedAt (start .args .words .now) (start .args .pairs .now) (start .args .text .now) (start .args .head) (start .args .level) (start .args .at)) (c .before .before .before .before .lay-front .last .1 .1 .1 .1 .1 .1 .1 .0) (c .front .given .0 .1 .0) (last (bodyAt (start .args .words .now) (start .args .pairs .now) (start .args .text .now) (start .args .head) (start .args .level) (c .front .given .0 .0)))
+body c = chain-next (whole (c .before .before .before .before .before .before .before .before .before .before)) (came-to (c .before .before .before .before .lay-front .ensures) (c .front .given .1))
+
 lay-front-requires : tie.Need-lay-front-requires
 lay-front-requires c κs =
     let start = c .before .before .before .before .before in
-    let a = start .args in
-    (start .pre .0, omega (arith, start .pre .1), ready-first (ready-runs (fronted-runs (a .words .now) (a .pairs .now) (a .text .now) (a .head) (a .level) (a .at)) (start .pre .2)))
+    (start .pre .0, omega (arith, start .pre .1), chain-ready (whole start))
 
 enum-known-front : tie.Need-enum-known-front
 enum-known-front c = search needs
@@ -21,25 +31,18 @@ same-length : tie.Need-same-length
 same-length c = search needs
 
 returns : tie.Need-returns
-returns c =
-    let start = c .before .before .before .before .before .before .before .before .before .before in
-    let a = start .args in
-    went-runs (fronted-runs (a .words .now) (a .pairs .now) (a .text .now) (a .head) (a .level) (a .at)) (stops-then (c .before .before .before .before .lay-front .ensures) (c .enum-told .given .1))
+returns c = chain-stop (whole (c .before .before .before .before .before .before .before .before .before .before)) (c .before .before .before .before .lay-front .ensures) (c .enum-told .given .1)
 
 lay-body-requires : tie.Need-lay-body-requires
 lay-body-requires c κs =
     let start = c .before .before .before .before .before .before .before .before .before .before .before .before in
-    let a = start .args in
-    (start .pre .0, start .pre .1, ready-last (ready-next (ready-runs (fronted-runs (a .words .now) (a .pairs .now) (a .text .now) (a .head) (a .level) (a .at)) (start .pre .2)) (came-to (c .before .before .before .before .before .before .lay-front .ensures) (c .before .before .front .given .1))))
+    (start .pre .0, start .pre .1, last-ready (body (c .before .before)))
 
 same-length-2 : tie.Need-same-length-2
 same-length-2 c = search needs
 
 returns-2 : tie.Need-returns-2
-returns-2 c =
-    let start = c .before .before .before .before .before .before .before .before .before .before .before .before .before .before .before in
-    let a = start .args in
-    went-runs (fronted-runs (a .words .now) (a .pairs .now) (a .text .now) (a .head) (a .level) (a .at)) (went-then (came-to (c .before .before .before .before .before .before .before .before .before .lay-front .ensures) (c .before .before .before .before .before .front .given .1)) (went-last (c .before .before .lay-body .ensures)))
+returns-2 c = last-went (body (c .before .before .before .before .before)) (c .before .before .lay-body .ensures)
 
 pub lay-fronted-spec : {M : Type 1} → statement M
 lay-fronted-spec =

@@ -1,14 +1,26 @@
+use Rattle.encoding.specs.Reading.{got}
 use Rattle.declaration.proofs.Declarations.{listed-runs}
-use Rattle.laying.proofs.Passes.{came-bytes, came-to, ready-bytes, ready-first, ready-last, ready-next, ready-runs, stops-then, went-last, went-runs, went-then}
-use Rattle.laying.specs.Passes.{came}
+use Rattle.declaration.specs.Texts.{fieldsEnd, listedAt}
+use Rattle.fields.specs.Texts.{listAt}
+use Rattle.laying.proofs.Passes.{AlongChain, came-to, chain-next, chain-ready, chain-start, chain-stop, last-fits, last-laid}
+use Rattle.laying.specs.Passes.{_then_, came, last}
 use borrow.Author.Needs.{needs}
 use Rattle.declaration.proofs.lay_listed.Statement.{statement}
 use Rattle.declaration.proofs.lay_listed.Tie as tie
 
+-- the whole, and what is left behind the fields
+whole : (c : tie.Start) → AlongChain (c .args .write) (c .args .out .now) (c .args .pos) (listedAt (c .args .words .now) (c .args .pairs .now) (c .args .text .now) (c .args .entry) (c .args .level) (c .args .at)) (c .args .out .now) (c .args .pos) (listAt (c .args .words .now) (c .args .pairs .now) (c .args .text .now) (c .args .entry) (c .args .level) (c .args .at) then λ p. last (got (fieldsEnd (c .args .entry)) p))
+whole c = chain-start (listed-runs (c .args .words .now) (c .args .pairs .now) (c .args .text .now) (c .args .entry) (c .args .level) (c .args .at)) (c .pre .2)
+
+end : (c : tie.After-list) →
+    let start = c .before .before .before .before .before .before .before .before .before .before in
+    AlongChain (start .args .write) (start .args .out .now) (start .args .pos) (listedAt (start .args .words .now) (start .args .pairs .now) (start .args .text .now) (start .args .entry) (start .args .level) (start .args .at)) (c .before .before .before .before .lay-list .last .1 .1 .1 .1 .1 .1 .1 .0) (c .list .given .0 .1 .0) (last (got (fieldsEnd (start .args .entry)) (c .list .given .0 .0)))
+end c = chain-next (whole (c .before .before .before .before .before .before .before .before .before .before)) (came-to (c .before .before .before .before .lay-list .ensures) (c .list .given .1))
+
 lay-list-requires : tie.Need-lay-list-requires
 lay-list-requires c κs =
     let start = c .before .before .before .before .before in
-    (start .pre .0, start .pre .1, ready-first (ready-runs (listed-runs (start .args .words .now) (start .args .pairs .now) (start .args .text .now) (start .args .entry) (start .args .level) (start .args .at)) (start .pre .2)))
+    (start .pre .0, start .pre .1, chain-ready (whole start))
 
 enum-known-list : tie.Need-enum-known-list
 enum-known-list c = search needs
@@ -20,22 +32,16 @@ same-length : tie.Need-same-length
 same-length c = search needs
 
 returns : tie.Need-returns
-returns c =
-    let start = c .before .before .before .before .before .before .before .before .before .before in
-    went-runs (listed-runs (start .args .words .now) (start .args .pairs .now) (start .args .text .now) (start .args .entry) (start .args .level) (start .args .at)) (stops-then (c .before .before .before .before .lay-list .ensures) (c .enum-told .given .1))
+returns c = chain-stop (whole (c .before .before .before .before .before .before .before .before .before .before)) (c .before .before .before .before .lay-list .ensures) (c .enum-told .given .1)
 
 lay-fields-end-requires : tie.Need-lay-fields-end-requires
-lay-fields-end-requires c κs =
-    let start = c .before .before .before .before .before .before .before .before .before .before .before .before in
-    ready-bytes (ready-last (ready-next (ready-runs (listed-runs (start .args .words .now) (start .args .pairs .now) (start .args .text .now) (start .args .entry) (start .args .level) (start .args .at)) (start .pre .2)) (came-to (c .before .before .before .before .before .before .lay-list .ensures) (c .before .before .list .given .1))))
+lay-fields-end-requires c κs = last-fits (end (c .before .before))
 
 same-length-2 : tie.Need-same-length-2
 same-length-2 c = search needs
 
 returns-2 : tie.Need-returns-2
-returns-2 c =
-    let start = c .before .before .before .before .before .before .before .before .before .before .before .before .before .before .before in
-    went-runs (listed-runs (start .args .words .now) (start .args .pairs .now) (start .args .text .now) (start .args .entry) (start .args .level) (start .args .at)) (went-then (came-to (c .before .before .before .before .before .before .before .before .before .lay-list .ensures) (c .before .before .before .before .before .list .given .1)) (went-last (came (came-bytes _ (c .before .before .lay-fields-end .ensures)))))
+returns-2 c = came (last-laid (end (c .before .before .before .before .before)) (c .before .before .lay-fields-end .ensures))
 
 pub lay-listed-spec : {M : Type 1} → statement M
 lay-listed-spec =

@@ -1,25 +1,38 @@
-use Rattle.declaration.proofs.Declarations.{synonym-body-runs}
-use Rattle.laying.proofs.Passes.{came-bytes, came-to, ready-bytes, ready-first, ready-last, ready-next, ready-runs, stops-then, went-last, went-runs, went-then}
-use Rattle.laying.specs.Passes.{came}
 use Rattle.rast.specs.Bytes.{ascii}
+use Rattle.encoding.specs.Reading.{got}
+use Rattle.declaration.proofs.Declarations.{synonym-body-runs}
+use Rattle.declaration.specs.Texts.{synonymBody}
+use Rattle.laying.proofs.Passes.{AlongChain, came-to, chain-fits, chain-laid, chain-next, chain-ready, chain-start, chain-stop, last-fits, last-laid}
+use Rattle.laying.specs.Passes.{_then_, came, last}
+use Rattle.laying.specs.Texts.{typeTextAt}
 use borrow.Author.Needs.{needs}
 use Rattle.declaration.proofs.lay_synonym_body.Statement.{statement}
 use Rattle.declaration.proofs.lay_synonym_body.Tie as tie
+
+-- the whole, and what is left behind the sign, and behind the type
+whole : (c : tie.Start) → AlongChain (c .args .write) (c .args .out .now) (c .args .pos) (synonymBody (c .args .words .now) (c .args .pairs .now) (c .args .text .now) (c .args .at)) (c .args .out .now) (c .args .pos) (got (ascii " = ") (c .args .at) then λ p. typeTextAt (c .args .words .now) (c .args .pairs .now) (c .args .text .now) p then λ q. last (got (ascii ";") q))
+whole c = chain-start (synonym-body-runs (c .args .words .now) (c .args .pairs .now) (c .args .text .now) (c .args .at)) (c .pre .1)
+
+type : (c : tie.After-lay) →
+    let start = c .before .before .before .before .before .before .before in
+    AlongChain (start .args .write) (start .args .out .now) (start .args .pos) (synonymBody (start .args .words .now) (start .args .pairs .now) (start .args .text .now) (start .args .at)) (c .lay .last .1 .1 .0) (c .lay .result) (typeTextAt (start .args .words .now) (start .args .pairs .now) (start .args .text .now) (start .args .at) then λ q. last (got (ascii ";") q))
+unfolding ascii
+type c = chain-laid (whole (c .before .before .before .before .before .before .before)) (c .lay .ensures)
+
+end : (c : tie.After-tpe) →
+    let start = c .before .before .before .before .before .before .before .before .before .before .before .before .before .before .before in
+    AlongChain (start .args .write) (start .args .out .now) (start .args .pos) (synonymBody (start .args .words .now) (start .args .pairs .now) (start .args .text .now) (start .args .at)) (c .before .before .before .before .lay-type .last .1 .1 .1 .1 .1 .0) (c .tpe .given .0 .1 .0) (last (got (ascii ";") (c .tpe .given .0 .0)))
+end c = chain-next (type (c .before .before .before .before .before .before .before .before)) (came-to (c .before .before .before .before .lay-type .ensures) (c .tpe .given .1))
 
 slice-aggregate-lay : tie.Need-slice-aggregate-lay
 slice-aggregate-lay c = search needs
 
 lay-requires : tie.Need-lay-requires
 unfolding ascii
-lay-requires c κs =
-    let start = c .before .before .before .before .before .before in
-    ready-bytes (ready-first (ready-runs (synonym-body-runs (start .args .words .now) (start .args .pairs .now) (start .args .text .now) (start .args .at)) (start .pre .1)))
+lay-requires c κs = chain-fits (whole (c .before .before .before .before .before .before))
 
 lay-type-requires : tie.Need-lay-type-requires
-unfolding ascii
-lay-type-requires c κs =
-    let start = c .before .before .before .before .before .before .before .before .before .before in
-    (start .pre .0, ready-first (ready-next (ready-runs (synonym-body-runs (start .args .words .now) (start .args .pairs .now) (start .args .text .now) (start .args .at)) (start .pre .1)) (came-bytes _ (c .before .before .before .lay .ensures))))
+lay-type-requires c κs = (c .before .before .before .before .before .before .before .before .before .before .pre .0, chain-ready (type (c .before .before .before)))
 
 enum-known-tpe : tie.Need-enum-known-tpe
 enum-known-tpe c = search needs
@@ -31,28 +44,21 @@ same-length : tie.Need-same-length
 same-length c = search needs
 
 returns : tie.Need-returns
-unfolding ascii
-returns c =
-    let start = c .before .before .before .before .before .before .before .before .before .before .before .before .before .before .before in
-    went-runs (synonym-body-runs (start .args .words .now) (start .args .pairs .now) (start .args .text .now) (start .args .at)) (went-then (came-bytes _ (c .before .before .before .before .before .before .before .before .lay .ensures)) (stops-then (c .before .before .before .before .lay-type .ensures) (c .enum-told .given .1)))
+returns c = chain-stop (type (c .before .before .before .before .before .before .before .before)) (c .before .before .before .before .lay-type .ensures) (c .enum-told .given .1)
 
 slice-aggregate-lay-2 : tie.Need-slice-aggregate-lay-2
 slice-aggregate-lay-2 c = search needs
 
 lay-requires-2 : tie.Need-lay-requires-2
 unfolding ascii
-lay-requires-2 c κs =
-    let start = c .before .before .before .before .before .before .before .before .before .before .before .before .before .before .before .before .before .before in
-    ready-bytes (ready-last (ready-next (ready-next (ready-runs (synonym-body-runs (start .args .words .now) (start .args .pairs .now) (start .args .text .now) (start .args .at)) (start .pre .1)) (came-bytes _ (c .before .before .before .before .before .before .before .before .before .before .before .lay .ensures))) (came-to (c .before .before .before .before .before .before .before .lay-type .ensures) (c .before .before .before .tpe .given .1))))
+lay-requires-2 c κs = last-fits (end (c .before .before .before))
 
 same-length-2 : tie.Need-same-length-2
 same-length-2 c = search needs
 
 returns-2 : tie.Need-returns-2
 unfolding ascii
-returns-2 c =
-    let start = c .before .before .before .before .before .before .before .before .before .before .before .before .before .before .before .before .before .before .before .before .before in
-    went-runs (synonym-body-runs (start .args .words .now) (start .args .pairs .now) (start .args .text .now) (start .args .at)) (went-then (came-bytes _ (c .before .before .before .before .before .before .before .before .before .before .before .before .before .before .lay .ensures)) (went-then (came-to (c .before .before .before .before .before .before .before .before .before .before .lay-type .ensures) (c .before .before .before .before .before .before .tpe .given .1)) (went-last (came (came-bytes _ (c .before .before .lay2 .ensures))))))
+returns-2 c = came (last-laid (end (c .before .before .before .before .before .before)) (c .before .before .lay2 .ensures))
 
 pub lay-synonym-body-spec : {M : Type 1} → statement M
 lay-synonym-body-spec =

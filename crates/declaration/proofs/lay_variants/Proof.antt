@@ -1,13 +1,21 @@
-use Rattle.declaration.proofs.Declarations.{variants-none, variants-some, variants-stop}
-use Rattle.encoding.proofs.Reading.{word-got, word-stop}
-use Rattle.encoding.specs.Reading.{readWord}
-use Rattle.laying.proofs.Passes.{came-nothing, ready-as, stops-here, went-as}
-use Rattle.laying.specs.Passes.{came}
-use mathlib.Core.Path.{sym}
 use native.Mathlib.Omega.{arith}
+use Rattle.output.proofs.Passes.{laid-nothing}
+use Rattle.declaration.proofs.Declarations.{variants-first}
+use Rattle.declaration.specs.Texts.{casesAt, variantsAt}
+use Rattle.laying.proofs.Leaves.{count-none, count-refused, count-some}
+use Rattle.laying.proofs.Passes.{AlongChain, last-ready, last-went}
+use Rattle.laying.specs.Passes.{came, last}
 use borrow.Author.Needs.{needs}
 use Rattle.declaration.proofs.lay_variants.Statement.{statement}
 use Rattle.declaration.proofs.lay_variants.Tie as tie
+
+-- the cases, of which there are some
+cases : (c : tie.Else1) →
+    let start = c .before .before .before .before .before .before .before .before .before in
+    AlongChain (start .args .write) (start .args .out .now) (start .args .pos) (variantsAt (start .args .words .now) (start .args .pairs .now) (start .args .text .now) (start .args .level) (start .args .at)) (start .args .out .now) (start .args .pos) (last (casesAt (start .args .words .now) (start .args .pairs .now) (start .args .text .now) (start .args .level) (c .before .before .value .given .0 .0) (c .before .before .value .given .0 .1 .0)))
+cases c =
+    let start = c .before .before .before .before .before .before .before .before .before in
+    count-some (variants-first (start .args .words .now) (start .args .pairs .now) (start .args .text .now) (start .args .level) (start .args .at)) (c .before .before .before .before .scan-word .ensures) (c .before .before .value .given .1) (c .if1 .left) (start .pre .2)
 
 scan-word-requires : tie.Need-scan-word-requires
 scan-word-requires c κs = search needs
@@ -18,12 +26,12 @@ enum-known-value c = search needs
 returns : tie.Need-returns
 returns c =
     let start = c .before .before .before .before .before .before .before .before .before in
-    went-as (sym (variants-none (start .args .words .now) (start .args .pairs .now) (start .args .text .now) (start .args .level) (start .args .at) (word-got (readWord (start .args .words .now) (start .args .at)) (c .before .before .before .before .scan-word .ensures) (c .before .before .value .given .1)) (c .if1 .taken))) (came (came-nothing _))
+    came (count-none (variants-first (start .args .words .now) (start .args .pairs .now) (start .args .text .now) (start .args .level) (start .args .at)) (c .before .before .before .before .scan-word .ensures) (c .before .before .value .given .1) (c .if1 .taken) (laid-nothing _ _))
 
 lay-cases-requires : tie.Need-lay-cases-requires
 lay-cases-requires c κs =
     let start = c .before .before .before .before .before .before .before .before .before .before in
-    (start .pre .0, omega (arith, c .before .if1 .left), start .pre .1, ready-as (variants-some (start .args .words .now) (start .args .pairs .now) (start .args .text .now) (start .args .level) (start .args .at) (word-got (readWord (start .args .words .now) (start .args .at)) (c .before .before .before .before .before .scan-word .ensures) (c .before .before .before .value .given .1))) (start .pre .2))
+    (start .pre .0, omega (arith, c .before .if1 .left), start .pre .1, last-ready (cases (c .before)))
 
 enum-known-r : tie.Need-enum-known-r
 enum-known-r c = search needs
@@ -32,14 +40,12 @@ same-length : tie.Need-same-length
 same-length c = search needs
 
 returns-2 : tie.Need-returns-2
-returns-2 c =
-    let start = c .before .before .before .before .before .before .before .before .before .before .before .before .before in
-    went-as (sym (variants-some (start .args .words .now) (start .args .pairs .now) (start .args .text .now) (start .args .level) (start .args .at) (word-got (readWord (start .args .words .now) (start .args .at)) (c .before .before .before .before .before .before .before .before .scan-word .ensures) (c .before .before .before .before .before .before .value .given .1)))) (c .before .before .lay-cases .ensures)
+returns-2 c = last-went (cases (c .before .before .before .before)) (c .before .before .lay-cases .ensures)
 
 returns-3 : tie.Need-returns-3
 returns-3 c =
     let start = c .before .before .before .before .before .before .before .before in
-    stops-here (variants-stop (start .args .words .now) (start .args .pairs .now) (start .args .text .now) (start .args .level) (start .args .at) (word-stop (readWord (start .args .words .now) (start .args .at)) (c .before .before .before .scan-word .ensures) (c .before .r .given .1)))
+    count-refused (variants-first (start .args .words .now) (start .args .pairs .now) (start .args .text .now) (start .args .level) (start .args .at)) (c .before .before .before .scan-word .ensures) (c .before .r .given .1)
 
 pub lay-variants-spec : {M : Type 1} → statement M
 lay-variants-spec =

@@ -1,57 +1,78 @@
 use Prim.Native.Nat.{_+_}
+use mathlib.Core.Bool.{true}
 use mathlib.Core.Path.{_≡_, refl, sym}
 use native.Mathlib.Omega.{arith}
 use Rattle.output.proofs.Passes.{laid-wrote}
-use Rattle.laying.specs.Passes.{came}
-use Rattle.laying.proofs.Leaves.{doc-there, name-got, name-there}
-use Rattle.laying.proofs.Passes.{came-as, came-at, came-bytes, came-to, ready-as, ready-bytes, ready-first, ready-last, ready-next, ready-runs, went-last, went-runs, went-then}
+use Rattle.encoding.specs.Tables.{nameCount}
 use Rattle.declaration.proofs.Declarations.{case-runs}
+use Rattle.declaration.specs.Texts.{caseAt, fieldsAt}
+use Rattle.laying.proofs.Leaves.{BelowThere, doc-there, name-got, name-there}
+use Rattle.laying.proofs.Passes.{AlongChain, came-as, came-at, came-bytes, chain-next, chain-ready, chain-start, last-came, last-ready, ready-as, ready-bytes}
+use Rattle.laying.specs.Passes.{_then_, last}
+use Rattle.laying.specs.Texts.{docAt, nameAt}
 use borrow.Author.Needs.{needs}
 use Rattle.declaration.proofs.write_case.Statement.{statement}
 use Rattle.declaration.proofs.write_case.Tie as tie
 
+-- the whole, and what is left behind the doc, and behind the name
+whole : (c : tie.Start) → AlongChain true (c .args .out .now) (c .args .pos) (caseAt (c .args .words .now) (c .args .pairs .now) (c .args .text .now) (c .args .level) (c .args .at)) (c .args .out .now) (c .args .pos) (docAt (c .args .words .now) (c .args .pairs .now) (c .args .text .now) (c .args .level) (c .args .at) then λ p. nameAt (c .args .words .now) (c .args .pairs .now) (c .args .text .now) p then λ q. last (fieldsAt (c .args .words .now) (c .args .pairs .now) (c .args .text .now) true (c .args .level) q))
+whole c = chain-start (case-runs (c .args .words .now) (c .args .pairs .now) (c .args .text .now) (c .args .level) (c .args .at)) (c .pre .2)
+
+name : (c : tie.After-write-doc) →
+    let start = c .before .before .before .before .before .before in
+    AlongChain true (start .args .out .now) (start .args .pos) (caseAt (start .args .words .now) (start .args .pairs .now) (start .args .text .now) (start .args .level) (start .args .at)) (c .write-doc .last .1 .1 .1 .1 .1 .0) (c .write-doc .result) (nameAt (start .args .words .now) (start .args .pairs .now) (start .args .text .now) (start .args .at + 1) then λ q. last (fieldsAt (start .args .words .now) (start .args .pairs .now) (start .args .text .now) true (start .args .level) q))
+name c = chain-next (whole (c .before .before .before .before .before .before)) (c .write-doc .ensures)
+
+there : (c : tie.After-write-doc) →
+    let start = c .before .before .before .before .before .before in
+    BelowThere (nameCount (start .args .pairs .now)) (start .args .words .now) (start .args .at + 1)
+there c =
+    let start = c .before .before .before .before .before .before in
+    name-there (start .args .words .now) (start .args .pairs .now) (start .args .text .now) (start .args .at + 1) (chain-ready (name (c)))
+
+fields : (c : tie.After-put-name) →
+    let start = c .before .before .before .before .before .before .before .before .before .before .before in
+    AlongChain true (start .args .out .now) (start .args .pos) (caseAt (start .args .words .now) (start .args .pairs .now) (start .args .text .now) (start .args .level) (start .args .at)) (c .put-name .last .1 .1 .1 .0) (c .put-name .result) (last (fieldsAt (start .args .words .now) (start .args .pairs .now) (start .args .text .now) true (start .args .level) (start .args .at + 2)))
+fields c =
+    let start = c .before .before .before .before .before .before .before .before .before .before .before in
+    let e : start .args .at + 1 + 1 ≡ start .args .at + 2 = omega arith in chain-next (name (c .before .before .before .before .before)) (came-at e (came-as (sym (name-got (start .args .words .now) (start .args .pairs .now) (start .args .text .now) (start .args .at + 1) (there (c .before .before .before .before .before) .reads))) (came-bytes _ (laid-wrote refl (c .put-name .ensures)))))
+
 write-doc-requires : tie.Need-write-doc-requires
-write-doc-requires c κs = (c .before .before .before .before .before .pre .0, ready-first (ready-runs (case-runs (c .before .before .before .before .before .args .words .now) (c .before .before .before .before .before .args .pairs .now) (c .before .before .before .before .before .args .text .now) (c .before .before .before .before .before .args .level) (c .before .before .before .before .before .args .at)) (c .before .before .before .before .before .pre .2)))
+write-doc-requires c κs =
+    let start = c .before .before .before .before .before in
+    (start .pre .0, chain-ready (whole start))
 
 add-put-name : tie.Need-add-put-name
 add-put-name c =
-    let t = doc-there (c .before .before .before .before .before .before .before .before .args .words .now) (c .before .before .before .before .before .before .before .before .args .pairs .now) (c .before .before .before .before .before .before .before .before .args .text .now) (c .before .before .before .before .before .before .before .before .args .at) (c .before .before .before .before .before .before .before .before .args .level) (ready-first (ready-runs (case-runs (c .before .before .before .before .before .before .before .before .args .words .now) (c .before .before .before .before .before .before .before .before .args .pairs .now) (c .before .before .before .before .before .before .before .before .args .text .now) (c .before .before .before .before .before .before .before .before .args .level) (c .before .before .before .before .before .before .before .before .args .at)) (c .before .before .before .before .before .before .before .before .pre .2))) in
-    omega (arith, t .here, c .before .before .before .before .before .before .before .before .pre .0 .few)
+    let start = c .before .before .before .before .before .before .before .before in
+    let t = doc-there (start .args .words .now) (start .args .pairs .now) (start .args .text .now) (start .args .at) (start .args .level) (chain-ready (whole start)) in omega (arith, t .here, start .pre .0 .few)
 
 mul-put-name : tie.Need-mul-put-name
-mul-put-name c =
-    let t = name-there (c .before .before .before .before .before .before .before .before .args .words .now) (c .before .before .before .before .before .before .before .before .args .pairs .now) (c .before .before .before .before .before .before .before .before .args .text .now) (c .before .before .before .before .before .before .before .before .args .at + 1) (ready-first (ready-next (ready-runs (case-runs (c .before .before .before .before .before .before .before .before .args .words .now) (c .before .before .before .before .before .before .before .before .args .pairs .now) (c .before .before .before .before .before .before .before .before .args .text .now) (c .before .before .before .before .before .before .before .before .args .level) (c .before .before .before .before .before .before .before .before .args .at)) (c .before .before .before .before .before .before .before .before .pre .2)) (c .before .before .write-doc .ensures))) in
-    omega (arith, t .here, c .before .before .before .before .before .before .before .before .pre .0 .few)
+mul-put-name c = let t = there (c .before .before) in omega (arith, t .here, c .before .before .before .before .before .before .before .before .pre .0 .few)
 
 shared-slice-read-put-name : tie.Need-shared-slice-read-put-name
-shared-slice-read-put-name c = name-there (c .before .before .before .before .before .before .before .before .before .args .words .now) (c .before .before .before .before .before .before .before .before .before .args .pairs .now) (c .before .before .before .before .before .before .before .before .before .args .text .now) (c .before .before .before .before .before .before .before .before .before .args .at + 1) (ready-first (ready-next (ready-runs (case-runs (c .before .before .before .before .before .before .before .before .before .args .words .now) (c .before .before .before .before .before .before .before .before .before .args .pairs .now) (c .before .before .before .before .before .before .before .before .before .args .text .now) (c .before .before .before .before .before .before .before .before .before .args .level) (c .before .before .before .before .before .before .before .before .before .args .at)) (c .before .before .before .before .before .before .before .before .before .pre .2)) (c .before .before .before .write-doc .ensures))) .here
+shared-slice-read-put-name c = there (c .before .before .before) .here
 
 put-name-requires : tie.Need-put-name-requires
 put-name-requires c κs =
-    let t = name-there (c .before .before .before .before .before .before .before .before .before .before .args .words .now) (c .before .before .before .before .before .before .before .before .before .before .args .pairs .now) (c .before .before .before .before .before .before .before .before .before .before .args .text .now) (c .before .before .before .before .before .before .before .before .before .before .args .at + 1) (ready-first (ready-next (ready-runs (case-runs (c .before .before .before .before .before .before .before .before .before .before .args .words .now) (c .before .before .before .before .before .before .before .before .before .before .args .pairs .now) (c .before .before .before .before .before .before .before .before .before .before .args .text .now) (c .before .before .before .before .before .before .before .before .before .before .args .level) (c .before .before .before .before .before .before .before .before .before .before .args .at)) (c .before .before .before .before .before .before .before .before .before .before .pre .2)) (c .before .before .before .before .write-doc .ensures))) in
-    (t .below, c .before .before .before .before .before .before .before .before .before .before .pre .0 .good, ready-bytes (ready-as (name-got (c .before .before .before .before .before .before .before .before .before .before .args .words .now) (c .before .before .before .before .before .before .before .before .before .before .args .pairs .now) (c .before .before .before .before .before .before .before .before .before .before .args .text .now) (c .before .before .before .before .before .before .before .before .before .before .args .at + 1) (t .reads)) (ready-first (ready-next (ready-runs (case-runs (c .before .before .before .before .before .before .before .before .before .before .args .words .now) (c .before .before .before .before .before .before .before .before .before .before .args .pairs .now) (c .before .before .before .before .before .before .before .before .before .before .args .text .now) (c .before .before .before .before .before .before .before .before .before .before .args .level) (c .before .before .before .before .before .before .before .before .before .before .args .at)) (c .before .before .before .before .before .before .before .before .before .before .pre .2)) (c .before .before .before .before .write-doc .ensures)))) .room refl)
+    let start = c .before .before .before .before .before .before .before .before .before .before in
+    let t = there (c .before .before .before .before) in (t .below, start .pre .0 .good, ready-bytes (ready-as (name-got (start .args .words .now) (start .args .pairs .now) (start .args .text .now) (start .args .at + 1) (t .reads)) (chain-ready (name (c .before .before .before .before)))) .room refl)
 
 add-write-case-fields : tie.Need-add-write-case-fields
 add-write-case-fields c =
-    let t = doc-there (c .before .before .before .before .before .before .before .before .before .before .before .before .before .args .words .now) (c .before .before .before .before .before .before .before .before .before .before .before .before .before .args .pairs .now) (c .before .before .before .before .before .before .before .before .before .before .before .before .before .args .text .now) (c .before .before .before .before .before .before .before .before .before .before .before .before .before .args .at) (c .before .before .before .before .before .before .before .before .before .before .before .before .before .args .level) (ready-first (ready-runs (case-runs (c .before .before .before .before .before .before .before .before .before .before .before .before .before .args .words .now) (c .before .before .before .before .before .before .before .before .before .before .before .before .before .args .pairs .now) (c .before .before .before .before .before .before .before .before .before .before .before .before .before .args .text .now) (c .before .before .before .before .before .before .before .before .before .before .before .before .before .args .level) (c .before .before .before .before .before .before .before .before .before .before .before .before .before .args .at)) (c .before .before .before .before .before .before .before .before .before .before .before .before .before .pre .2))) in
-    omega (arith, t .here, c .before .before .before .before .before .before .before .before .before .before .before .before .before .pre .0 .few)
+    let start = c .before .before .before .before .before .before .before .before .before .before .before .before .before in
+    let t = doc-there (start .args .words .now) (start .args .pairs .now) (start .args .text .now) (start .args .at) (start .args .level) (chain-ready (whole start)) in omega (arith, t .here, start .pre .0 .few)
 
 write-case-fields-requires : tie.Need-write-case-fields-requires
 write-case-fields-requires c κs =
-    let e : c .before .before .before .before .before .before .before .before .before .before .before .before .before .before .args .at + 1 + 1 ≡ c .before .before .before .before .before .before .before .before .before .before .before .before .before .before .args .at + 2 = omega arith in
-    let t = name-there (c .before .before .before .before .before .before .before .before .before .before .before .before .before .before .args .words .now) (c .before .before .before .before .before .before .before .before .before .before .before .before .before .before .args .pairs .now) (c .before .before .before .before .before .before .before .before .before .before .before .before .before .before .args .text .now) (c .before .before .before .before .before .before .before .before .before .before .before .before .before .before .args .at + 1) (ready-first (ready-next (ready-runs (case-runs (c .before .before .before .before .before .before .before .before .before .before .before .before .before .before .args .words .now) (c .before .before .before .before .before .before .before .before .before .before .before .before .before .before .args .pairs .now) (c .before .before .before .before .before .before .before .before .before .before .before .before .before .before .args .text .now) (c .before .before .before .before .before .before .before .before .before .before .before .before .before .before .args .level) (c .before .before .before .before .before .before .before .before .before .before .before .before .before .before .args .at)) (c .before .before .before .before .before .before .before .before .before .before .before .before .before .before .pre .2)) (c .before .before .before .before .before .before .before .before .write-doc .ensures))) in
-    let name = came-at e (came-as (sym (name-got (c .before .before .before .before .before .before .before .before .before .before .before .before .before .before .args .words .now) (c .before .before .before .before .before .before .before .before .before .before .before .before .before .before .args .pairs .now) (c .before .before .before .before .before .before .before .before .before .before .before .before .before .before .args .text .now) (c .before .before .before .before .before .before .before .before .before .before .before .before .before .before .args .at + 1) (t .reads))) (came-bytes _ (laid-wrote refl (c .before .before .before .put-name .ensures)))) in
-    (c .before .before .before .before .before .before .before .before .before .before .before .before .before .before .pre .0, c .before .before .before .before .before .before .before .before .before .before .before .before .before .before .pre .1, ready-last (ready-next (ready-next (ready-runs (case-runs (c .before .before .before .before .before .before .before .before .before .before .before .before .before .before .args .words .now) (c .before .before .before .before .before .before .before .before .before .before .before .before .before .before .args .pairs .now) (c .before .before .before .before .before .before .before .before .before .before .before .before .before .before .args .text .now) (c .before .before .before .before .before .before .before .before .before .before .before .before .before .before .args .level) (c .before .before .before .before .before .before .before .before .before .before .before .before .before .before .args .at)) (c .before .before .before .before .before .before .before .before .before .before .before .before .before .before .pre .2)) (c .before .before .before .before .before .before .before .before .write-doc .ensures)) name))
+    let start = c .before .before .before .before .before .before .before .before .before .before .before .before .before .before in
+    (start .pre .0, start .pre .1, last-ready (fields (c .before .before .before)))
 
 same-length : tie.Need-same-length
 same-length c = search needs
 
 returns : tie.Need-returns
-returns c =
-    let e : c .before .before .before .before .before .before .before .before .before .before .before .before .before .before .before .before .before .args .at + 1 + 1 ≡ c .before .before .before .before .before .before .before .before .before .before .before .before .before .before .before .before .before .args .at + 2 = omega arith in
-    let t = name-there (c .before .before .before .before .before .before .before .before .before .before .before .before .before .before .before .before .before .args .words .now) (c .before .before .before .before .before .before .before .before .before .before .before .before .before .before .before .before .before .args .pairs .now) (c .before .before .before .before .before .before .before .before .before .before .before .before .before .before .before .before .before .args .text .now) (c .before .before .before .before .before .before .before .before .before .before .before .before .before .before .before .before .before .args .at + 1) (ready-first (ready-next (ready-runs (case-runs (c .before .before .before .before .before .before .before .before .before .before .before .before .before .before .before .before .before .args .words .now) (c .before .before .before .before .before .before .before .before .before .before .before .before .before .before .before .before .before .args .pairs .now) (c .before .before .before .before .before .before .before .before .before .before .before .before .before .before .before .before .before .args .text .now) (c .before .before .before .before .before .before .before .before .before .before .before .before .before .before .before .before .before .args .level) (c .before .before .before .before .before .before .before .before .before .before .before .before .before .before .before .before .before .args .at)) (c .before .before .before .before .before .before .before .before .before .before .before .before .before .before .before .before .before .pre .2)) (c .before .before .before .before .before .before .before .before .before .before .before .write-doc .ensures))) in
-    let name = came-at e (came-as (sym (name-got (c .before .before .before .before .before .before .before .before .before .before .before .before .before .before .before .before .before .args .words .now) (c .before .before .before .before .before .before .before .before .before .before .before .before .before .before .before .before .before .args .pairs .now) (c .before .before .before .before .before .before .before .before .before .before .before .before .before .before .before .before .before .args .text .now) (c .before .before .before .before .before .before .before .before .before .before .before .before .before .before .before .before .before .args .at + 1) (t .reads))) (came-bytes _ (laid-wrote refl (c .before .before .before .before .before .before .put-name .ensures)))) in
-    came-to (went-runs (case-runs (c .before .before .before .before .before .before .before .before .before .before .before .before .before .before .before .before .before .args .words .now) (c .before .before .before .before .before .before .before .before .before .before .before .before .before .before .before .before .before .args .pairs .now) (c .before .before .before .before .before .before .before .before .before .before .before .before .before .before .before .before .before .args .text .now) (c .before .before .before .before .before .before .before .before .before .before .before .before .before .before .before .before .before .args .level) (c .before .before .before .before .before .before .before .before .before .before .before .before .before .before .before .before .before .args .at)) (went-then (c .before .before .before .before .before .before .before .before .before .before .before .write-doc .ensures) (went-then name (went-last (came (c .before .before .write-case-fields .ensures)))))) refl
+returns c = last-came (fields (c .before .before .before .before .before .before)) (c .before .before .write-case-fields .ensures)
 
 pub write-case-spec : {M : Type 1} → statement M
 write-case-spec =

@@ -1,39 +1,52 @@
-use mathlib.Core.Path.{sym}
+use Prim.Native.Nat.{_+_}
+use mathlib.Core.Bool.{true}
+use mathlib.Core.Path.{_≡_, sym}
 use native.Mathlib.Omega.{arith}
+use Rattle.fields.specs.Texts.{listAt}
+use Rattle.laying.proofs.Leaves.{BelowThere}
 use Rattle.laying.proofs.Passes.{came-as, ready-as}
 use Rattle.declaration.proofs.Declarations.{case-listed, fields-there}
+use Rattle.declaration.specs.Texts.{fieldsAt}
 use borrow.Author.Needs.{needs}
 use Rattle.declaration.proofs.write_case_fields.Statement.{statement}
 use Rattle.declaration.proofs.write_case_fields.Tie as tie
 
+there : (c : tie.Start) → BelowThere 2 (c .args .words .now) (c .args .at)
+there c = fields-there (c .args .words .now) (c .args .pairs .now) (c .args .text .now) (c .args .level) (c .args .at) (c .pre .2)
+
+fields : (c : tie.After-fields-entry) →
+    let start = c .before .before .before .before .before .before in
+    fieldsAt (start .args .words .now) (start .args .pairs .now) (start .args .text .now) true (start .args .level) (start .args .at) ≡ listAt (start .args .words .now) (start .args .pairs .now) (start .args .text .now) (c .fields-entry .result) (start .args .level) (start .args .at + 1)
+fields c =
+    let start = c .before .before .before .before .before .before in
+    case-listed (start .args .words .now) (start .args .pairs .now) (start .args .text .now) (start .args .level) (start .args .at) (there start .reads) (c .fields-entry .ensures)
+
 mul-fields-entry : tie.Need-mul-fields-entry
 mul-fields-entry c =
-    let t = fields-there (c .before .before .before .before .args .words .now) (c .before .before .before .before .args .pairs .now) (c .before .before .before .before .args .text .now) (c .before .before .before .before .args .level) (c .before .before .before .before .args .at) (c .before .before .before .before .pre .2) in
-    omega (arith, t .here, c .before .before .before .before .pre .0 .few)
+    let start = c .before .before .before .before in
+    let t = there start in omega (arith, t .here, start .pre .0 .few)
 
 shared-slice-read-fields-entry : tie.Need-shared-slice-read-fields-entry
-shared-slice-read-fields-entry c = fields-there (c .before .before .before .before .before .args .words .now) (c .before .before .before .before .before .args .pairs .now) (c .before .before .before .before .before .args .text .now) (c .before .before .before .before .before .args .level) (c .before .before .before .before .before .args .at) (c .before .before .before .before .before .pre .2) .here
+shared-slice-read-fields-entry c = there (c .before .before .before .before .before) .here
 
 fields-entry-requires : tie.Need-fields-entry-requires
 fields-entry-requires c κs = search needs
 
 add-write-list : tie.Need-add-write-list
 add-write-list c =
-    let t = fields-there (c .before .before .before .before .before .before .args .words .now) (c .before .before .before .before .before .before .args .pairs .now) (c .before .before .before .before .before .before .args .text .now) (c .before .before .before .before .before .before .args .level) (c .before .before .before .before .before .before .args .at) (c .before .before .before .before .before .before .pre .2) in
-    omega (arith, t .here, c .before .before .before .before .before .before .pre .0 .few)
+    let start = c .before .before .before .before .before .before in
+    let t = there start in omega (arith, t .here, start .pre .0 .few)
 
 write-list-requires : tie.Need-write-list-requires
 write-list-requires c κs =
-    let t = fields-there (c .before .before .before .before .before .before .before .args .words .now) (c .before .before .before .before .before .before .before .args .pairs .now) (c .before .before .before .before .before .before .before .args .text .now) (c .before .before .before .before .before .before .before .args .level) (c .before .before .before .before .before .before .before .args .at) (c .before .before .before .before .before .before .before .pre .2) in
-    (c .before .before .before .before .before .before .before .pre .0, c .before .before .before .before .before .before .before .pre .1, ready-as (case-listed (c .before .before .before .before .before .before .before .args .words .now) (c .before .before .before .before .before .before .before .args .pairs .now) (c .before .before .before .before .before .before .before .args .text .now) (c .before .before .before .before .before .before .before .args .level) (c .before .before .before .before .before .before .before .args .at) (t .reads) (c .before .fields-entry .ensures)) (c .before .before .before .before .before .before .before .pre .2))
+    let start = c .before .before .before .before .before .before .before in
+    (start .pre .0, start .pre .1, ready-as (fields (c .before)) (start .pre .2))
 
 same-length : tie.Need-same-length
 same-length c = search needs
 
 returns : tie.Need-returns
-returns c =
-    let t = fields-there (c .before .before .before .before .before .before .before .before .before .before .args .words .now) (c .before .before .before .before .before .before .before .before .before .before .args .pairs .now) (c .before .before .before .before .before .before .before .before .before .before .args .text .now) (c .before .before .before .before .before .before .before .before .before .before .args .level) (c .before .before .before .before .before .before .before .before .before .before .args .at) (c .before .before .before .before .before .before .before .before .before .before .pre .2) in
-    came-as (sym (case-listed (c .before .before .before .before .before .before .before .before .before .before .args .words .now) (c .before .before .before .before .before .before .before .before .before .before .args .pairs .now) (c .before .before .before .before .before .before .before .before .before .before .args .text .now) (c .before .before .before .before .before .before .before .before .before .before .args .level) (c .before .before .before .before .before .before .before .before .before .before .args .at) (t .reads) (c .before .before .before .before .fields-entry .ensures))) (c .before .before .write-list .ensures)
+returns c = came-as (sym (fields (c .before .before .before .before))) (c .before .before .write-list .ensures)
 
 pub write-case-fields-spec : {M : Type 1} → statement M
 write-case-fields-spec =

@@ -1,30 +1,40 @@
+use Prim.Native.Nat.{_+_}
+use mathlib.Core.Bool.{true}
 use mathlib.Core.Path.{refl}
 use native.Mathlib.Omega.{arith}
 use Rattle.output.proofs.Passes.{laid-wrote}
-use Rattle.laying.specs.Passes.{came}
-use Rattle.laying.proofs.Passes.{came-bytes, came-to, ready-bytes, ready-first, ready-last, ready-next, ready-runs, went-last, went-runs, went-then}
+use Rattle.encoding.specs.Reading.{got}
 use Rattle.declaration.proofs.Declarations.{case-line-runs}
+use Rattle.declaration.specs.Texts.{caseAt, caseLineAt}
+use Rattle.fields.specs.Texts.{lineText}
+use Rattle.laying.proofs.Passes.{AlongChain, chain-fits, chain-laid, chain-start, last-came, last-ready}
+use Rattle.laying.specs.Passes.{_then_, last}
 use borrow.Author.Needs.{needs}
 use Rattle.declaration.proofs.write_case_line.Statement.{statement}
 use Rattle.declaration.proofs.write_case_line.Tie as tie
+
+whole : (c : tie.Start) → AlongChain true (c .args .out .now) (c .args .pos) (caseLineAt (c .args .words .now) (c .args .pairs .now) (c .args .text .now) (c .args .level) (c .args .at)) (c .args .out .now) (c .args .pos) (got (lineText (c .args .level + 1)) (c .args .at) then λ p. last (caseAt (c .args .words .now) (c .args .pairs .now) (c .args .text .now) (c .args .level + 1) (c .args .at)))
+whole c = chain-start (case-line-runs (c .args .words .now) (c .args .pairs .now) (c .args .text .now) (c .args .level) (c .args .at)) (c .pre .2)
 
 add-put-line : tie.Need-add-put-line
 add-put-line c = search needs
 
 put-line-requires : tie.Need-put-line-requires
-put-line-requires c κs = ready-bytes (ready-first (ready-runs (case-line-runs (c .before .before .before .before .before .args .words .now) (c .before .before .before .before .before .args .pairs .now) (c .before .before .before .before .before .args .text .now) (c .before .before .before .before .before .args .level) (c .before .before .before .before .before .args .at)) (c .before .before .before .before .before .pre .2))) .room refl
+put-line-requires c κs = chain-fits (whole (c .before .before .before .before .before)) .room refl
 
 add-write-case : tie.Need-add-write-case
 add-write-case c = search needs
 
 write-case-requires : tie.Need-write-case-requires
-write-case-requires c κs = (c .before .before .before .before .before .before .before .before .before .pre .0, omega (arith, c .before .before .before .before .before .before .before .before .before .pre .1), ready-last (ready-next (ready-runs (case-line-runs (c .before .before .before .before .before .before .before .before .before .args .words .now) (c .before .before .before .before .before .before .before .before .before .args .pairs .now) (c .before .before .before .before .before .before .before .before .before .args .text .now) (c .before .before .before .before .before .before .before .before .before .args .level) (c .before .before .before .before .before .before .before .before .before .args .at)) (c .before .before .before .before .before .before .before .before .before .pre .2)) (came-bytes _ (laid-wrote refl (c .before .before .before .put-line .ensures)))))
+write-case-requires c κs =
+    let start = c .before .before .before .before .before .before .before .before .before in
+    (start .pre .0, omega (arith, start .pre .1), last-ready (chain-laid (whole start) (laid-wrote refl (c .before .before .before .put-line .ensures))))
 
 same-length : tie.Need-same-length
 same-length c = search needs
 
 returns : tie.Need-returns
-returns c = came-to (went-runs (case-line-runs (c .before .before .before .before .before .before .before .before .before .before .before .before .args .words .now) (c .before .before .before .before .before .before .before .before .before .before .before .before .args .pairs .now) (c .before .before .before .before .before .before .before .before .before .before .before .before .args .text .now) (c .before .before .before .before .before .before .before .before .before .before .before .before .args .level) (c .before .before .before .before .before .before .before .before .before .before .before .before .args .at)) (went-then (came-bytes _ (laid-wrote refl (c .before .before .before .before .before .before .put-line .ensures))) (went-last (came (c .before .before .write-case .ensures))))) refl
+returns c = last-came (chain-laid (whole (c .before .before .before .before .before .before .before .before .before .before .before .before)) (laid-wrote refl (c .before .before .before .before .before .before .put-line .ensures))) (c .before .before .write-case .ensures)
 
 pub write-case-line-spec : {M : Type 1} → statement M
 write-case-line-spec =

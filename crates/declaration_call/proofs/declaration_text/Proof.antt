@@ -1,10 +1,7 @@
 use Rattle.encoding.specs.Declarations.{declarationOf}
-use Rattle.encoding.proofs.Answers.{call-filled, call-passed, call-refused, map-unless}
-use Rattle.encoding.proofs.Tables.{tables-passed}
-use Rattle.text.specs.declared.TextAnswer.the-variants.{Length, Refused}
+use Rattle.text.proofs.Calls.{level-tested, tables-tested, text-filled, text-refused}
 use Rattle.declaration_call.specs.Calls.{declarationText}
 use Rattle.declaration_call.proofs.Filling.{level-passed}
-use mathlib.Core.Path.{_∙_, sym}
 use borrow.Author.Needs.{needs}
 use Rattle.declaration_call.proofs.declaration_text.Statement.{statement}
 use Rattle.declaration_call.proofs.declaration_text.Tie as tie
@@ -18,9 +15,8 @@ enum-told c = search needs
 fill-requires : tie.Need-fill-requires
 fill-requires c κs =
     let a = c .before .before .before .before .before .before .before .before .args in
-    let p = call-passed (a .words .now) (a .pairs .now) (a .text .now) (a .level) (sym (c .before .before .before .check-call .ensures) ∙ c .before .enum-told .given .1) in
-    let t = tables-passed (a .words .now) (a .pairs .now) (a .text .now) (p .1) in
-    (record { good = t .good; few = t .few }, level-passed (a .level) (p .0))
+    let t = tables-tested (a .words .now) (a .pairs .now) (a .text .now) (a .level) (c .before .before .before .check-call .ensures) (c .before .enum-told .given .1) in
+    (record { good = t .0; few = t .1 }, level-passed (a .level) (level-tested (a .words .now) (a .pairs .now) (a .text .now) (a .level) (c .before .before .before .check-call .ensures) (c .before .enum-told .given .1)))
 
 enum-known-r : tie.Need-enum-known-r
 enum-known-r c = search needs
@@ -32,13 +28,13 @@ returns : tie.Need-returns
 unfolding declarationText declarationOf
 returns c =
     let a = c .before .before .before .before .before .before .before .before .before .before .before .args in
-    rw map-unless (call-filled Length Refused (a .out .now) (a .words .now) (a .pairs .now) (a .text .now) (a .level) _ (sym (c .before .before .before .before .before .before .check-call .ensures) ∙ c .before .before .before .before .enum-told .given .1) (c .before .before .fill .ensures))
+    text-filled (a .words .now) (a .pairs .now) (a .text .now) (a .level) (c .before .before .before .before .before .before .check-call .ensures) (a .out .now) _ _ (c .before .before .before .before .enum-told .given .1) (c .before .before .fill .ensures)
 
 returns-2 : tie.Need-returns-2
 unfolding declarationText declarationOf
 returns-2 c =
     let a = c .before .before .before .before .before .before .before .before .args in
-    rw map-unless (call-refused Length Refused (a .out .now) (a .words .now) (a .pairs .now) (a .text .now) (a .level) _ (sym (c .before .before .before .check-call .ensures) ∙ c .before .r .given .1))
+    text-refused (a .words .now) (a .pairs .now) (a .text .now) (a .level) (c .before .before .before .check-call .ensures) (a .out .now) _ _ (c .before .r .given .1)
 
 pub declaration-text-spec : {M : Type 1} → statement M
 declaration-text-spec =

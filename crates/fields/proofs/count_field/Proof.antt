@@ -1,8 +1,16 @@
+use mathlib.Core.Bool.{false}
+use mathlib.Core.List.{[]}
 use Rattle.fields.proofs.Fields.{field-runs}
-use Rattle.laying.proofs.Passes.{came-to, stops-then, went-last, went-runs, went-then}
+use Rattle.fields.specs.Texts.{fieldAt, restAt}
+use Rattle.laying.proofs.Passes.{AlongChain, came-to, chain-next, chain-start, chain-stop, last-went, ready-count}
+use Rattle.laying.specs.Passes.{_then_, last}
+use Rattle.laying.specs.Texts.{visibilityAt}
 use borrow.Author.Needs.{needs}
 use Rattle.fields.proofs.count_field.Statement.{statement}
 use Rattle.fields.proofs.count_field.Tie as tie
+
+field : (c : tie.Start) → AlongChain false [] (c .args .pos) (fieldAt (c .args .words .now) (c .args .pairs .now) (c .args .text .now) (c .args .named) (c .args .at)) [] (c .args .pos) (visibilityAt (c .args .words .now) (c .args .at) then λ p. last (restAt (c .args .words .now) (c .args .pairs .now) (c .args .text .now) (c .args .named) p))
+field c = chain-start (field-runs (c .args .words .now) (c .args .pairs .now) (c .args .text .now) (c .args .named) (c .args .at)) ready-count
 
 count-visibility-requires : tie.Need-count-visibility-requires
 count-visibility-requires c κs = search needs
@@ -14,17 +22,13 @@ enum-told : tie.Need-enum-told
 enum-told c = search needs
 
 returns : tie.Need-returns
-returns c =
-    let start = c .before .before .before .before .before .before in
-    went-runs (field-runs (start .args .words .now) (start .args .pairs .now) (start .args .text .now) (start .args .named) (start .args .at)) (stops-then (c .before .before .count-visibility .ensures) (c .enum-told .given .1))
+returns c = chain-stop (field (c .before .before .before .before .before .before)) (c .before .before .count-visibility .ensures) (c .enum-told .given .1)
 
 count-rest-requires : tie.Need-count-rest-requires
 count-rest-requires c κs = search needs
 
 returns-2 : tie.Need-returns-2
-returns-2 c =
-    let start = c .before .before .before .before .before .before .before .before in
-    went-runs (field-runs (start .args .words .now) (start .args .pairs .now) (start .args .text .now) (start .args .named) (start .args .at)) (went-then (came-to (c .before .before .before .before .count-visibility .ensures) (c .before .before .visibility .given .1)) (went-last (c .count-rest .ensures)))
+returns-2 c = last-went (chain-next (field (c .before .before .before .before .before .before .before .before)) (came-to (c .before .before .before .before .count-visibility .ensures) (c .before .before .visibility .given .1))) (c .count-rest .ensures)
 
 pub count-field-spec : {M : Type 1} → statement M
 count-field-spec =

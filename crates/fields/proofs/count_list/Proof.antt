@@ -1,13 +1,11 @@
-use Rattle.encoding.proofs.Reading.{word-got, word-stop}
-use Rattle.encoding.specs.Reading.{readWord}
-use Rattle.fields.proofs.Fields.{laid-size, list-none, list-some, list-stop}
-use Rattle.fields.specs.Texts.{noFields}
-use Rattle.laying.proofs.Passes.{came-bytes, stops-here, went-as}
-use Rattle.laying.specs.Passes.{came}
-use lib.ListN.{length}
 use mathlib.Core.Bool.{Bool}
-use mathlib.Core.Path.{_∙_, ap, sym}
-use native.Mathlib.Omega.{arith}
+use mathlib.Core.Path.{_∙_, ap}
+use lib.ListN.{length}
+use Rattle.fields.proofs.Fields.{laid-size, list-first}
+use Rattle.fields.specs.Texts.{noFields}
+use Rattle.laying.proofs.Leaves.{count-none, count-refused, count-some}
+use Rattle.laying.proofs.Passes.{last-went, ready-count}
+use Rattle.laying.specs.Passes.{came}
 use borrow.Author.Needs.{needs}
 use Rattle.fields.proofs.count_list.Statement.{statement}
 use Rattle.fields.proofs.count_list.Tie as tie
@@ -30,9 +28,7 @@ count-few-requires c κs = search needs
 returns : tie.Need-returns
 returns c =
     let start = c .before .before .before .before .before .before .before .before .before .before .before in
-    let e = word-got (readWord (start .args .words .now) (start .args .at)) (c .before .before .before .before .before .before .before .scan-word .ensures) (c .before .before .before .before .before .value .given .1) in
-    let size = c .before .none-length .ensures .0 ∙ ap (λ (b : Bool). length (noFields b)) (c .before .before .is-named .ensures) in
-    went-as (sym (list-none (start .args .words .now) (start .args .pairs .now) (start .args .text .now) (start .args .at) e (start .args .entry) (start .args .level) (c .before .before .before .if1 .taken))) (came (came-bytes _ (laid-size (c .count-few .ensures) size)))
+    let size = c .before .none-length .ensures .0 ∙ ap (λ (b : Bool). length (noFields b)) (c .before .before .is-named .ensures) in came (count-none (list-first (start .args .words .now) (start .args .pairs .now) (start .args .text .now) (start .args .entry) (start .args .level) (start .args .at)) (c .before .before .before .before .before .before .before .scan-word .ensures) (c .before .before .before .before .before .value .given .1) (c .before .before .before .if1 .taken) (laid-size (c .count-few .ensures) size))
 
 count-some-requires : tie.Need-count-some-requires
 count-some-requires c κs = search needs
@@ -43,13 +39,12 @@ enum-known-r c = search needs
 returns-2 : tie.Need-returns-2
 returns-2 c =
     let start = c .before .before .before .before .before .before .before .before .before in
-    let e = word-got (readWord (start .args .words .now) (start .args .at)) (c .before .before .before .before .before .scan-word .ensures) (c .before .before .before .value .given .1) in
-    went-as (sym (list-some (start .args .words .now) (start .args .pairs .now) (start .args .text .now) (start .args .at) e (start .args .entry) (start .args .level) (omega (arith, c .before .if1 .left)))) (c .count-some .ensures)
+    last-went (count-some (list-first (start .args .words .now) (start .args .pairs .now) (start .args .text .now) (start .args .entry) (start .args .level) (start .args .at)) (c .before .before .before .before .before .scan-word .ensures) (c .before .before .before .value .given .1) (c .before .if1 .left) ready-count) (c .count-some .ensures)
 
 returns-3 : tie.Need-returns-3
 returns-3 c =
     let start = c .before .before .before .before .before .before .before in
-    stops-here (list-stop (start .args .words .now) (start .args .pairs .now) (start .args .text .now) (start .args .entry) (start .args .level) (start .args .at) (word-stop (readWord (start .args .words .now) (start .args .at)) (c .before .before .before .scan-word .ensures) (c .before .r .given .1)))
+    count-refused (list-first (start .args .words .now) (start .args .pairs .now) (start .args .text .now) (start .args .entry) (start .args .level) (start .args .at)) (c .before .before .before .scan-word .ensures) (c .before .r .given .1)
 
 pub count-list-spec : {M : Type 1} → statement M
 count-list-spec =

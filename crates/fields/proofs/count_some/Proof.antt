@@ -1,9 +1,21 @@
+use mathlib.Core.Bool.{false}
+use mathlib.Core.List.{[]}
+use Rattle.encoding.specs.Reading.{got}
 use Rattle.fields.proofs.Fields.{laid-size, some-runs}
-use Rattle.laying.proofs.Passes.{came-bytes, came-to, stops-then, went-last, went-runs, went-then}
-use Rattle.laying.specs.Passes.{came}
+use Rattle.fields.specs.Texts.{entriesAt, listEnd, someAt}
+use Rattle.laying.proofs.Passes.{AlongChain, came-to, chain-laid, chain-next, chain-start, chain-stop, last-laid, ready-count}
+use Rattle.laying.specs.Passes.{_then_, came, last}
 use borrow.Author.Needs.{needs}
 use Rattle.fields.proofs.count_some.Statement.{statement}
 use Rattle.fields.proofs.count_some.Tie as tie
+
+-- what is left behind the front of the list
+entries : (c : tie.After-count-few) →
+    let start = c .before .before .before .before .before .before in
+    AlongChain false [] (start .args .pos) (someAt (start .args .words .now) (start .args .pairs .now) (start .args .text .now) (start .args .entry) (start .args .level) (start .args .n) (start .args .at)) [] (c .count-few .result) (entriesAt (start .args .words .now) (start .args .pairs .now) (start .args .text .now) (start .args .entry) (start .args .level) (start .args .n) (start .args .at) then λ q. last (got (listEnd (c .before .before .is-named .result) (start .args .level)) q))
+entries c =
+    let start = c .before .before .before .before .before .before in
+    chain-laid (chain-start (some-runs (start .args .words .now) (start .args .pairs .now) (start .args .text .now) (start .args .entry) (start .args .level) (start .args .n) (start .args .at) (c .before .before .is-named .ensures)) ready-count) (laid-size (c .count-few .ensures) (c .before .front-length .ensures .0))
 
 is-named-requires : tie.Need-is-named-requires
 is-named-requires c κs = search needs
@@ -24,7 +36,7 @@ enum-told : tie.Need-enum-told
 enum-told c = search needs
 
 returns : tie.Need-returns
-returns c = went-runs (some-runs (c .before .before .before .before .before .before .before .before .before .args .words .now) (c .before .before .before .before .before .before .before .before .before .args .pairs .now) (c .before .before .before .before .before .before .before .before .before .args .text .now) (c .before .before .before .before .before .before .before .before .before .args .entry) (c .before .before .before .before .before .before .before .before .before .args .level) (c .before .before .before .before .before .before .before .before .before .args .n) (c .before .before .before .before .before .before .before .before .before .args .at) (c .before .before .before .before .before .is-named .ensures)) (went-then (came-bytes _ (laid-size (c .before .before .before .count-few .ensures) (c .before .before .before .before .front-length .ensures .0))) (stops-then (c .before .before .count-entries .ensures) (c .enum-told .given .1)))
+returns c = chain-stop (entries (c .before .before .before)) (c .before .before .count-entries .ensures) (c .enum-told .given .1)
 
 end-length-requires : tie.Need-end-length-requires
 end-length-requires c κs = search needs
@@ -33,7 +45,7 @@ count-few-requires-2 : tie.Need-count-few-requires-2
 count-few-requires-2 c κs = search needs
 
 returns-2 : tie.Need-returns-2
-returns-2 c = went-runs (some-runs (c .before .before .before .before .before .before .before .before .before .before .before .before .args .words .now) (c .before .before .before .before .before .before .before .before .before .before .before .before .args .pairs .now) (c .before .before .before .before .before .before .before .before .before .before .before .before .args .text .now) (c .before .before .before .before .before .before .before .before .before .before .before .before .args .entry) (c .before .before .before .before .before .before .before .before .before .before .before .before .args .level) (c .before .before .before .before .before .before .before .before .before .before .before .before .args .n) (c .before .before .before .before .before .before .before .before .before .before .before .before .args .at) (c .before .before .before .before .before .before .before .before .is-named .ensures)) (went-then (came-bytes _ (laid-size (c .before .before .before .before .before .before .count-few .ensures) (c .before .before .before .before .before .before .before .front-length .ensures .0))) (went-then (came-to (c .before .before .before .before .before .count-entries .ensures) (c .before .before .before .list .given .1)) (went-last (came (came-bytes _ (laid-size (c .count-few2 .ensures) (c .before .end-length .ensures .0)))))))
+returns-2 c = came (last-laid (chain-next (entries (c .before .before .before .before .before .before)) (came-to (c .before .before .before .before .before .count-entries .ensures) (c .before .before .before .list .given .1))) (laid-size (c .count-few2 .ensures) (c .before .end-length .ensures .0)))
 
 pub count-some-spec : {M : Type 1} → statement M
 count-some-spec =

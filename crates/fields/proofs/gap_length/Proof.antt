@@ -1,12 +1,9 @@
-use Rattle.fields.proofs.Fields.{comma-line-size}
+use mathlib.Core.Path.{refl}
+use native.Mathlib.Omega.{arith}
+use Rattle.fields.proofs.Fields.{comma-line-size, size-of}
 use Rattle.fields.specs.Texts.{entryGap}
-use Rattle.fields.specs.declared.Entry.{Entry}
-use Rattle.fields.specs.declared.Entry.the-variants.{Named, Inline, Lined}
 use Rattle.rast.specs.Bytes.{ascii}
 use Rattle.rast.specs.DeclarationToString.{separatorText}
-use lib.ListN.{length}
-use mathlib.Core.Path.{_≡_, ap}
-use native.Mathlib.Omega.{arith}
 use borrow.Author.Needs.{needs}
 use Rattle.fields.proofs.gap_length.Statement.{statement}
 use Rattle.fields.proofs.gap_length.Tie as tie
@@ -36,24 +33,17 @@ returns : tie.Need-returns
 unfolding entryGap
 returns c =
     let start = c .before .before in
-    let e : length (entryGap (start .args .entry) (start .args .level)) ≡ length (entryGap Named (start .args .level)) = ap (λ (x : Entry). length (entryGap x (start .args .level))) (c .enum-told .given .1) in
-    let size = comma-line-size (start .args .level) in
-    (omega (arith, e, size), omega (arith, start .pre))
+    (size-of (λ x. entryGap x (start .args .level)) (c .enum-told .given .1) (comma-line-size (start .args .level)), omega (arith, start .pre))
 
 returns-2 : tie.Need-returns-2
 unfolding entryGap separatorText ascii
-returns-2 c =
-    let start = c .before .before in
-    let e : length (entryGap (start .args .entry) (start .args .level)) ≡ length (entryGap Inline (start .args .level)) = ap (λ (x : Entry). length (entryGap x (start .args .level))) (c .enum-told2 .given .1) in
-    (omega (arith, e), omega arith)
+returns-2 c = (size-of (λ x. entryGap x (c .before .before .args .level)) (c .enum-told2 .given .1) refl, omega arith)
 
 returns-3 : tie.Need-returns-3
 unfolding entryGap
 returns-3 c =
     let start = c .before .before in
-    let e : length (entryGap (start .args .entry) (start .args .level)) ≡ length (entryGap Lined (start .args .level)) = ap (λ (x : Entry). length (entryGap x (start .args .level))) (c .enum-told3 .given .1) in
-    let size = comma-line-size (start .args .level) in
-    (omega (arith, e, size), omega (arith, start .pre))
+    (size-of (λ x. entryGap x (start .args .level)) (c .enum-told3 .given .1) (comma-line-size (start .args .level)), omega (arith, start .pre))
 
 pub gap-length-spec : {M : Type 1} → statement M
 gap-length-spec =

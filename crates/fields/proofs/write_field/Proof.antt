@@ -1,36 +1,36 @@
-use Rattle.fields.proofs.Fields.{field-runs}
-use Rattle.laying.proofs.Leaves.{visibility-there}
-use Rattle.laying.proofs.Passes.{came-to, ready-first, ready-last, ready-next, ready-runs, went-last, went-runs, went-then}
-use Rattle.laying.specs.Passes.{came}
-use mathlib.Core.Path.{refl}
+use mathlib.Core.Bool.{true}
 use native.Mathlib.Omega.{arith}
+use Rattle.fields.proofs.Fields.{field-runs}
+use Rattle.fields.specs.Texts.{fieldAt, restAt}
+use Rattle.laying.proofs.Leaves.{visibility-there}
+use Rattle.laying.proofs.Passes.{AlongChain, chain-next, chain-ready, chain-start, last-came, last-ready}
+use Rattle.laying.specs.Passes.{_then_, last}
+use Rattle.laying.specs.Texts.{visibilityAt}
 use borrow.Author.Needs.{needs}
 use Rattle.fields.proofs.write_field.Statement.{statement}
 use Rattle.fields.proofs.write_field.Tie as tie
 
+field : (c : tie.Start) → AlongChain true (c .args .out .now) (c .args .pos) (fieldAt (c .args .words .now) (c .args .pairs .now) (c .args .text .now) (c .args .named) (c .args .at)) (c .args .out .now) (c .args .pos) (visibilityAt (c .args .words .now) (c .args .at) then λ p. last (restAt (c .args .words .now) (c .args .pairs .now) (c .args .text .now) (c .args .named) p))
+field c = chain-start (field-runs (c .args .words .now) (c .args .pairs .now) (c .args .text .now) (c .args .named) (c .args .at)) (c .pre .1)
+
 write-visibility-requires : tie.Need-write-visibility-requires
-write-visibility-requires c κs =
-    let start = c .before .before .before .before .before in
-    ready-first (ready-runs (field-runs (start .args .words .now) (start .args .pairs .now) (start .args .text .now) (start .args .named) (start .args .at)) (start .pre .1))
+write-visibility-requires c κs = chain-ready (field (c .before .before .before .before .before))
 
 add-write-rest : tie.Need-add-write-rest
 add-write-rest c =
     let start = c .before .before .before .before .before .before .before .before in
-    let there = visibility-there (start .args .words .now) (start .args .at) (ready-first (ready-runs (field-runs (start .args .words .now) (start .args .pairs .now) (start .args .text .now) (start .args .named) (start .args .at)) (start .pre .1))) in
-    omega (arith, there .here, start .pre .0 .few)
+    let there = visibility-there (start .args .words .now) (start .args .at) (chain-ready (field start)) in omega (arith, there .here, start .pre .0 .few)
 
 write-rest-requires : tie.Need-write-rest-requires
 write-rest-requires c κs =
     let start = c .before .before .before .before .before .before .before .before .before in
-    (start .pre .0, ready-last (ready-next (ready-runs (field-runs (start .args .words .now) (start .args .pairs .now) (start .args .text .now) (start .args .named) (start .args .at)) (start .pre .1)) (c .before .before .before .write-visibility .ensures)))
+    (start .pre .0, last-ready (chain-next (field start) (c .before .before .before .write-visibility .ensures)))
 
 same-length : tie.Need-same-length
 same-length c = search needs
 
 returns : tie.Need-returns
-returns c =
-    let start = c .before .before .before .before .before .before .before .before .before .before .before .before in
-    came-to (went-runs (field-runs (start .args .words .now) (start .args .pairs .now) (start .args .text .now) (start .args .named) (start .args .at)) (went-then (c .before .before .before .before .before .before .write-visibility .ensures) (went-last (came (c .before .before .write-rest .ensures))))) refl
+returns c = last-came (chain-next (field (c .before .before .before .before .before .before .before .before .before .before .before .before)) (c .before .before .before .before .before .before .write-visibility .ensures)) (c .before .before .write-rest .ensures)
 
 pub write-field-spec : {M : Type 1} → statement M
 write-field-spec =

@@ -1,34 +1,42 @@
-use Rattle.encoding.proofs.Inside.{word-there}
-use Rattle.fields.proofs.Fields.{list-none, list-some, list-there, room-as}
-use Rattle.fields.specs.Texts.{noFields}
-use Rattle.laying.proofs.Passes.{came-as, came-bytes, ready-as, ready-bytes}
-use Rattle.output.proofs.Laws.{wrote-as}
-use Rattle.output.proofs.Passes.{laid-wrote}
+use Prim.Native.Nat.{_+_, _<_}
+use mathlib.Core.Bool.{true}
 use mathlib.Core.Path.{ap, refl, sym}
 use native.Mathlib.Omega.{arith}
+use lib.ListN.{getD, length}
+use Rattle.fields.proofs.Fields.{list-first, room-as}
+use Rattle.fields.specs.Texts.{listAt, noFields, someAt}
+use Rattle.laying.proofs.Leaves.{count-there, none-fits, there-none, there-some}
+use Rattle.laying.proofs.Passes.{AlongChain, last-came, last-ready}
+use Rattle.laying.specs.Passes.{last}
+use Rattle.output.proofs.Laws.{wrote-as}
+use Rattle.output.proofs.Passes.{laid-wrote}
 use borrow.Author.Needs.{needs}
 use Rattle.fields.proofs.write_list.Statement.{statement}
 use Rattle.fields.proofs.write_list.Tie as tie
 
+there : (c : tie.Start) → (c .args .at < length (c .args .words .now))
+there c = count-there (list-first (c .args .words .now) (c .args .pairs .now) (c .args .text .now) (c .args .entry) (c .args .level) (c .args .at)) (c .pre .2)
+
+-- the fields, of which there are some
+fields : (c : tie.Else1) →
+    let start = c .before .before .before .before .before .before in
+    AlongChain true (start .args .out .now) (start .args .pos) (listAt (start .args .words .now) (start .args .pairs .now) (start .args .text .now) (start .args .entry) (start .args .level) (start .args .at)) (start .args .out .now) (start .args .pos) (last (someAt (start .args .words .now) (start .args .pairs .now) (start .args .text .now) (start .args .entry) (start .args .level) (getD (start .args .words .now) (start .args .at) 0) (start .args .at + 1)))
+fields c =
+    let start = c .before .before .before .before .before .before in
+    there-some (list-first (start .args .words .now) (start .args .pairs .now) (start .args .text .now) (start .args .entry) (start .args .level) (start .args .at)) (start .pre .2) (c .if1 .left)
+
 mul-n : tie.Need-mul-n
 mul-n c =
     let start = c .before .before .before .before in
-    let e = list-there (start .args .words .now) (start .args .pairs .now) (start .args .text .now) (start .args .entry) (start .args .level) (start .args .at) (start .pre .2) in
-    let h = word-there (start .args .words .now) (start .args .at) e .here in
-    search needs
+    omega (arith, there start, start .pre .0 .few)
 
 shared-slice-read-n : tie.Need-shared-slice-read-n
-shared-slice-read-n c =
-    let start = c .before .before .before .before .before in
-    let e = list-there (start .args .words .now) (start .args .pairs .now) (start .args .text .now) (start .args .entry) (start .args .level) (start .args .at) (start .pre .2) in
-    word-there (start .args .words .now) (start .args .at) e .here
+shared-slice-read-n c = there (c .before .before .before .before .before)
 
 add-t16 : tie.Need-add-t16
 add-t16 c =
     let start = c .before .before .before .before .before .before in
-    let e = list-there (start .args .words .now) (start .args .pairs .now) (start .args .text .now) (start .args .entry) (start .args .level) (start .args .at) (start .pre .2) in
-    let h = word-there (start .args .words .now) (start .args .at) e .here in
-    omega (arith, h, start .pre .0 .few)
+    omega (arith, there start, start .pre .0 .few)
 
 is-named-requires : tie.Need-is-named-requires
 is-named-requires c κs = search needs
@@ -36,8 +44,7 @@ is-named-requires c κs = search needs
 write-none-requires : tie.Need-write-none-requires
 write-none-requires c κs =
     let start = c .before .before .before .before .before .before .before .before in
-    let e = list-there (start .args .words .now) (start .args .pairs .now) (start .args .text .now) (start .args .entry) (start .args .level) (start .args .at) (start .pre .2) in
-    room-as (start .args .pos) (start .args .out .now) (ap noFields (sym (c .before .is-named .ensures))) (ready-bytes (ready-as (list-none (start .args .words .now) (start .args .pairs .now) (start .args .text .now) (start .args .at) e (start .args .entry) (start .args .level) (c .before .before .if1 .taken)) (start .pre .2)) .room refl)
+    room-as (start .args .pos) (start .args .out .now) (ap noFields (sym (c .before .is-named .ensures))) (none-fits (list-first (start .args .words .now) (start .args .pairs .now) (start .args .text .now) (start .args .entry) (start .args .level) (start .args .at)) (start .pre .2) (c .before .before .if1 .taken) .room refl)
 
 same-length : tie.Need-same-length
 same-length c = search needs
@@ -45,8 +52,7 @@ same-length c = search needs
 returns : tie.Need-returns
 returns c =
     let start = c .before .before .before .before .before .before .before .before .before .before .before in
-    let e = list-there (start .args .words .now) (start .args .pairs .now) (start .args .text .now) (start .args .entry) (start .args .level) (start .args .at) (start .pre .2) in
-    came-as (sym (list-none (start .args .words .now) (start .args .pairs .now) (start .args .text .now) (start .args .at) e (start .args .entry) (start .args .level) (c .before .before .before .before .before .if1 .taken))) (came-bytes _ (laid-wrote refl (wrote-as (ap noFields (c .before .before .before .before .is-named .ensures)) (c .before .before .write-none .ensures))))
+    there-none (list-first (start .args .words .now) (start .args .pairs .now) (start .args .text .now) (start .args .entry) (start .args .level) (start .args .at)) (start .pre .2) (c .before .before .before .before .before .if1 .taken) (laid-wrote refl (wrote-as (ap noFields (c .before .before .before .before .is-named .ensures)) (c .before .before .write-none .ensures)))
 
 all-numbers-requires : tie.Need-all-numbers-requires
 all-numbers-requires c κs = search needs
@@ -57,24 +63,18 @@ all-bytes-requires c κs = search needs
 add-write-some : tie.Need-add-write-some
 add-write-some c =
     let start = c .before .before .before .before .before .before .before .before in
-    let e = list-there (start .args .words .now) (start .args .pairs .now) (start .args .text .now) (start .args .entry) (start .args .level) (start .args .at) (start .pre .2) in
-    let h = word-there (start .args .words .now) (start .args .at) e .here in
-    omega (arith, h, start .pre .0 .few)
+    omega (arith, there start, start .pre .0 .few)
 
 write-some-requires : tie.Need-write-some-requires
 write-some-requires c κs =
     let start = c .before .before .before .before .before .before .before .before .before in
-    let e = list-there (start .args .words .now) (start .args .pairs .now) (start .args .text .now) (start .args .entry) (start .args .level) (start .args .at) (start .pre .2) in
-    rw (c .before .before .all-numbers .ensures, c .before .all-bytes .ensures) (start .pre .0, omega (arith, c .before .before .before .if1 .left), start .pre .1, ready-as (list-some (start .args .words .now) (start .args .pairs .now) (start .args .text .now) (start .args .at) e (start .args .entry) (start .args .level) (omega (arith, c .before .before .before .if1 .left))) (start .pre .2))
+    rw (c .before .before .all-numbers .ensures, c .before .all-bytes .ensures) (start .pre .0, omega (arith, c .before .before .before .if1 .left), start .pre .1, last-ready (fields (c .before .before .before)))
 
 same-length-2 : tie.Need-same-length-2
 same-length-2 c = search needs
 
 returns-2 : tie.Need-returns-2
-returns-2 c =
-    let start = c .before .before .before .before .before .before .before .before .before .before .before .before in
-    let e = list-there (start .args .words .now) (start .args .pairs .now) (start .args .text .now) (start .args .entry) (start .args .level) (start .args .at) (start .pre .2) in
-    came-as (sym (list-some (start .args .words .now) (start .args .pairs .now) (start .args .text .now) (start .args .at) e (start .args .entry) (start .args .level) (omega (arith, c .before .before .before .before .before .before .if1 .left)))) (rw (c .before .before .before .before .before .all-numbers .ensures, c .before .before .before .before .all-bytes .ensures) at (c .before .before .write-some .ensures))
+returns-2 c = last-came (fields (c .before .before .before .before .before .before)) (rw (c .before .before .before .before .before .all-numbers .ensures, c .before .before .before .before .all-bytes .ensures) at (c .before .before .write-some .ensures))
 
 pub write-list-spec : {M : Type 1} → statement M
 write-list-spec =

@@ -5,23 +5,21 @@ use mathlib.Core.List.{[]}
 use native.Mathlib.Omega.{arith}
 use Rattle.rast.specs.Bytes.{ascii}
 use Rattle.output.proofs.Passes.{laid-counted}
-use Rattle.laying.specs.Passes.{Along, came}
-use Rattle.laying.proofs.Passes.{along-last, along-next, along-start, along-stop, came-to, ready-count}
-use Rattle.lists.specs.Texts.{someArguments}
+use Rattle.laying.specs.Passes.{came}
+use Rattle.laying.specs.Texts.{nameAt}
+use Rattle.laying.proofs.Passes.{Turn, came-to, ready-count, turn-last, turn-next, turn-start, turn-stop}
 use borrow.Author.Needs.{needs}
 use Rattle.lists.proofs.count_arguments.Statement.{statement}
 use Rattle.lists.proofs.count_arguments.Tie as tie
 
 abbrev Inv-loop : tie.InvT-loop
-Inv-loop words pairs text before n at pos gap₀ place₀ p₀ left₀ gap place p left = (gap < 2 ^ 40) × (0 < left) × Along false [] (pos + before) (someArguments words pairs text n at) [] (p + gap) (someArguments words pairs text left place)
+Inv-loop words pairs text before n at pos gap₀ place₀ p₀ left₀ gap place p left = (gap < 2 ^ 40) × Turn (nameAt words pairs text) (ascii ", ") false [] (pos + before) n at [] (p + gap) left place
 
 abbrev μ-loop : tie.MeasureT-loop
 μ-loop words pairs text before n at pos gap₀ place₀ p₀ left₀ gap place p left = left
 
 loop-holds : tie.Need-loop-holds Inv-loop μ-loop
-loop-holds c =
-    let start = c .before .before .before in
-    (start .pre .1, start .pre .2, along-start ready-count)
+loop-holds c = (c .before .before .before .pre .1, turn-start (c .before .before .before .pre .2) ready-count)
 
 count-name-requires : tie.Need-count-name-requires Inv-loop μ-loop
 count-name-requires c κs = (c .before .before .before .before .pre .0, c .loop .inv .0)
@@ -33,29 +31,20 @@ enum-told : tie.Need-enum-told Inv-loop μ-loop
 enum-told c = search needs
 
 returns : tie.Need-returns Inv-loop μ-loop
-returns c =
-    let l = c .before .before .before .loop in
-    along-stop _ _ (l .left) (l .place) (l .inv .2) (l .inv .1) (c .before .before .count-name .ensures) (c .enum-told .given .1)
+returns c = turn-stop (c .before .before .before .loop .inv .1) (c .before .before .count-name .ensures) (c .enum-told .given .1)
 
 sub-left : tie.Need-sub-left Inv-loop μ-loop
 sub-left c = search needs
 
 returns-2 : tie.Need-returns-2 Inv-loop μ-loop
-returns-2 c =
-    let l = c .before .before .before .before .before .loop in
-    along-last _ _ (l .left) (l .place) (l .inv .2) (omega (arith, c .if1 .taken, l .inv .1)) (came (came-to (c .before .before .before .before .count-name .ensures) (c .before .before .one .given .1)))
+returns-2 c = came (turn-last (c .before .before .before .before .before .loop .inv .1) (came-to (c .before .before .before .before .count-name .ensures) (c .before .before .one .given .1)) (c .if1 .taken))
 
 loop-less : tie.Need-loop-less Inv-loop μ-loop
 loop-less c = search needs
 
 loop-again : tie.Need-loop-again Inv-loop μ-loop
 unfolding ascii
-loop-again c =
-    let l = c .before .before .before .before .before .loop in (
-      omega arith,
-      omega (arith, c .if1 .left, l .inv .1),
-      along-next _ _ (l .left) (l .place) (l .inv .2) (omega (arith, c .if1 .left, l .inv .1)) (came-to (c .before .before .before .before .count-name .ensures) (c .before .before .one .given .1)) (laid-counted refl refl),
-    )
+loop-again c = (omega arith, turn-next (c .before .before .before .before .before .loop .inv .1) (came-to (c .before .before .before .before .count-name .ensures) (c .before .before .one .given .1)) (c .if1 .left) (laid-counted refl refl))
 
 pub count-arguments-spec : {M : Type 1} → statement M
 count-arguments-spec =

@@ -22,8 +22,7 @@ enum-known-r c = search needs
 returns : tie.Need-returns
 returns c =
     let start = c .before .before .before .before .before .before .before .before in
-    let e = word-got (readWord (start .args .words .now) (start .args .at)) (c .before .before .before .before .scan-word .ensures) (c .before .before .value .given .1) in
-    went-as (sym (attributes-read (start .args .words .now) (start .args .pairs .now) (start .args .text .now) (start .args .at) e (start .args .level))) (c .count-attributes .ensures)
+    went-as (sym (attributes-read (start .args .words .now) (start .args .pairs .now) (start .args .text .now) (start .args .level) (start .args .at) (word-got (readWord (start .args .words .now) (start .args .at)) (c .before .before .before .before .scan-word .ensures) (c .before .before .value .given .1)))) (c .count-attributes .ensures)
 
 returns-2 : tie.Need-returns-2
 returns-2 c =

@@ -1,14 +1,28 @@
-use mathlib.Core.Path.{refl, sym}
+use Prim.Native.Nat.{_+_}
+use mathlib.Core.Bool.{false}
+use mathlib.Core.List.{[]}
+use mathlib.Core.Path.{refl}
 use native.Mathlib.Omega.{arith}
 use Rattle.rast.specs.Bytes.{ascii}
-use Rattle.encoding.specs.Reading.{readWord}
-use Rattle.encoding.proofs.Reading.{word-got, word-stop}
-use Rattle.laying.specs.Passes.{came}
-use Rattle.laying.proofs.Passes.{came-nothing, came-to, counts-bytes, stops-here, stops-then, went-as, went-last, went-runs, went-then}
-use Rattle.lists.proofs.Lists.{derived-none, derived-some, derived-stop}
+use Rattle.output.proofs.Passes.{laid-counted, laid-nothing}
+use Rattle.encoding.specs.Reading.{got}
+use Rattle.laying.specs.Passes.{_then_, came, last}
+use Rattle.laying.proofs.Passes.{AlongChain, came-to, chain-laid, chain-next, chain-stop, last-laid, ready-count}
+use Rattle.laying.proofs.Leaves.{count-none, count-refused, count-some}
+use Rattle.lists.specs.Texts.{derivedAt, someArguments}
+use Rattle.lists.proofs.Lists.{derived-first}
 use borrow.Author.Needs.{needs}
 use Rattle.lists.proofs.count_derived.Statement.{statement}
 use Rattle.lists.proofs.count_derived.Tie as tie
+
+-- what is left behind the first bracket, if there are arguments
+arguments : (c : tie.Else1) →
+    let start = c .before .before .before .before .before .before .before .before in
+    AlongChain false [] (start .args .pos) (derivedAt (start .args .words .now) (start .args .pairs .now) (start .args .text .now) (start .args .at)) [] (start .args .pos + 1) (someArguments (start .args .words .now) (start .args .pairs .now) (start .args .text .now) (c .before .before .value .given .0 .0) (c .before .before .value .given .0 .1 .0) then λ r. last (got (ascii ")") r))
+unfolding ascii
+arguments c =
+    let start = c .before .before .before .before .before .before .before .before in
+    chain-laid (count-some (derived-first (start .args .words .now) (start .args .pairs .now) (start .args .text .now) (start .args .at)) (c .before .before .before .before .scan-word .ensures) (c .before .before .value .given .1) (c .if1 .left) ready-count) (laid-counted refl refl)
 
 scan-word-requires : tie.Need-scan-word-requires
 scan-word-requires c κs = search needs
@@ -19,8 +33,7 @@ enum-known-value c = search needs
 returns : tie.Need-returns
 returns c =
     let start = c .before .before .before .before .before .before .before .before in
-    let e = word-got (readWord (start .args .words .now) (start .args .at)) (c .before .before .before .before .scan-word .ensures) (c .before .before .value .given .1) in
-    went-as (sym (derived-none (start .args .words .now) (start .args .pairs .now) (start .args .text .now) (start .args .at) e (c .if1 .taken))) (came (came-nothing _))
+    came (count-none (derived-first (start .args .words .now) (start .args .pairs .now) (start .args .text .now) (start .args .at)) (c .before .before .before .before .scan-word .ensures) (c .before .before .value .given .1) (c .if1 .taken) (laid-nothing _ _))
 
 count-arguments-requires : tie.Need-count-arguments-requires
 count-arguments-requires c κs = (c .before .before .before .before .before .before .before .before .pre, omega arith, (omega (arith, c .if1 .left)))
@@ -32,11 +45,7 @@ enum-told : tie.Need-enum-told
 enum-told c = search needs
 
 returns-2 : tie.Need-returns-2
-unfolding ascii
-returns-2 c =
-    let start = c .before .before .before .before .before .before .before .before .before .before .before in
-    let e = word-got (readWord (start .args .words .now) (start .args .at)) (c .before .before .before .before .before .before .before .scan-word .ensures) (c .before .before .before .before .before .value .given .1) in
-    went-runs (derived-some (start .args .words .now) (start .args .pairs .now) (start .args .text .now) (start .args .at) e (omega (arith, c .before .before .before .if1 .left))) (went-then (counts-bytes refl) (stops-then (c .before .before .count-arguments .ensures) (c .enum-told .given .1)))
+returns-2 c = chain-stop (arguments (c .before .before .before)) (c .before .before .count-arguments .ensures) (c .enum-told .given .1)
 
 count-few-requires : tie.Need-count-few-requires
 count-few-requires c κs = search needs
@@ -46,15 +55,12 @@ enum-known-r c = search needs
 
 returns-3 : tie.Need-returns-3
 unfolding ascii
-returns-3 c =
-    let start = c .before .before .before .before .before .before .before .before .before .before .before .before .before in
-    let e = word-got (readWord (start .args .words .now) (start .args .at)) (c .before .before .before .before .before .before .before .before .before .scan-word .ensures) (c .before .before .before .before .before .before .before .value .given .1) in
-    went-runs (derived-some (start .args .words .now) (start .args .pairs .now) (start .args .text .now) (start .args .at) e (omega (arith, c .before .before .before .before .before .if1 .left))) (went-then (counts-bytes refl) (went-then (came-to (c .before .before .before .before .count-arguments .ensures) (c .before .before .list .given .1)) (went-last (came (counts-bytes (c .count-few .ensures))))))
+returns-3 c = came (last-laid (chain-next (arguments (c .before .before .before .before .before)) (came-to (c .before .before .before .before .count-arguments .ensures) (c .before .before .list .given .1))) (laid-counted refl (c .count-few .ensures)))
 
 returns-4 : tie.Need-returns-4
 returns-4 c =
     let start = c .before .before .before .before .before .before .before in
-    stops-here (derived-stop (start .args .words .now) (start .args .pairs .now) (start .args .text .now) (start .args .at) (word-stop (readWord (start .args .words .now) (start .args .at)) (c .before .before .before .scan-word .ensures) (c .before .r .given .1)))
+    count-refused (derived-first (start .args .words .now) (start .args .pairs .now) (start .args .text .now) (start .args .at)) (c .before .before .before .scan-word .ensures) (c .before .r .given .1)
 
 pub count-derived-spec : {M : Type 1} → statement M
 count-derived-spec =

@@ -1,14 +1,23 @@
-use mathlib.Core.Path.{sym}
 use native.Mathlib.Omega.{arith}
 use Rattle.rast.specs.Bytes.{ascii}
-use Rattle.encoding.specs.Reading.{readWord}
-use Rattle.encoding.proofs.Reading.{word-got, word-stop}
-use Rattle.laying.specs.Passes.{came}
-use Rattle.laying.proofs.Passes.{came-bytes, came-nothing, ready-bytes, ready-first, ready-last, ready-next, ready-runs, stops-here, went-as, went-last, went-runs, went-then}
-use Rattle.lists.proofs.Lists.{constraints-none, constraints-some, constraints-stop}
+use Rattle.output.proofs.Passes.{laid-nothing}
+use Rattle.encoding.specs.Reading.{got}
+use Rattle.laying.specs.Passes.{_then_, came, last}
+use Rattle.laying.proofs.Passes.{AlongChain, chain-fits, chain-laid, last-ready, last-went}
+use Rattle.laying.proofs.Leaves.{count-none, count-refused, count-some}
+use Rattle.lists.specs.Texts.{constraintsAt, someConstraints}
+use Rattle.lists.proofs.Lists.{constraints-first}
 use borrow.Author.Needs.{needs}
 use Rattle.lists.proofs.lay_constraint_list.Statement.{statement}
 use Rattle.lists.proofs.lay_constraint_list.Tie as tie
+
+-- the constraints, of which there are some
+constraints : (c : tie.Else1) →
+    let start = c .before .before .before .before .before .before .before .before .before in
+    AlongChain (start .args .write) (start .args .out .now) (start .args .pos) (constraintsAt (start .args .words .now) (start .args .pairs .now) (start .args .text .now) (start .args .at)) (start .args .out .now) (start .args .pos) (got (ascii ": ") (c .before .before .value .given .0 .1 .0) then λ q. last (someConstraints (start .args .words .now) (start .args .pairs .now) (start .args .text .now) (c .before .before .value .given .0 .0) q))
+constraints c =
+    let start = c .before .before .before .before .before .before .before .before .before in
+    count-some (constraints-first (start .args .words .now) (start .args .pairs .now) (start .args .text .now) (start .args .at)) (c .before .before .before .before .scan-word .ensures) (c .before .before .value .given .1) (c .if1 .left) (start .pre .1)
 
 scan-word-requires : tie.Need-scan-word-requires
 scan-word-requires c κs = search needs
@@ -19,25 +28,18 @@ enum-known-value c = search needs
 returns : tie.Need-returns
 returns c =
     let start = c .before .before .before .before .before .before .before .before .before in
-    let e = word-got (readWord (start .args .words .now) (start .args .at)) (c .before .before .before .before .scan-word .ensures) (c .before .before .value .given .1) in
-    went-as (sym (constraints-none (start .args .words .now) (start .args .pairs .now) (start .args .text .now) (start .args .at) e (c .if1 .taken))) (came (came-nothing _))
+    came (count-none (constraints-first (start .args .words .now) (start .args .pairs .now) (start .args .text .now) (start .args .at)) (c .before .before .before .before .scan-word .ensures) (c .before .before .value .given .1) (c .if1 .taken) (laid-nothing _ _))
 
 slice-aggregate-lay : tie.Need-slice-aggregate-lay
 slice-aggregate-lay c = search needs
 
 lay-requires : tie.Need-lay-requires
 unfolding ascii
-lay-requires c κs =
-    let start = c .before .before .before .before .before .before .before .before .before .before .before in
-    let e = word-got (readWord (start .args .words .now) (start .args .at)) (c .before .before .before .before .before .before .scan-word .ensures) (c .before .before .before .before .value .given .1) in
-    ready-bytes (ready-first (ready-runs (constraints-some (start .args .words .now) (start .args .pairs .now) (start .args .text .now) (start .args .at) e (omega (arith, c .before .before .if1 .left))) (start .pre .1)))
+lay-requires c κs = chain-fits (constraints (c .before .before))
 
 lay-constraints-requires : tie.Need-lay-constraints-requires
 unfolding ascii
-lay-constraints-requires c κs =
-    let start = c .before .before .before .before .before .before .before .before .before .before .before .before .before .before .before in
-    let e = word-got (readWord (start .args .words .now) (start .args .at)) (c .before .before .before .before .before .before .before .before .before .before .scan-word .ensures) (c .before .before .before .before .before .before .before .before .value .given .1) in
-    (start .pre .0, omega (arith, c .before .before .before .before .before .before .if1 .left), ready-last (ready-next (ready-runs (constraints-some (start .args .words .now) (start .args .pairs .now) (start .args .text .now) (start .args .at) e (omega (arith, c .before .before .before .before .before .before .if1 .left))) (start .pre .1)) (came-bytes _ (c .before .before .before .lay .ensures))))
+lay-constraints-requires c κs = (c .before .before .before .before .before .before .before .before .before .before .before .before .before .before .before .pre .0, omega (arith, c .before .before .before .before .before .before .if1 .left), last-ready (chain-laid (constraints (c .before .before .before .before .before .before)) (c .before .before .before .lay .ensures)))
 
 enum-known-r : tie.Need-enum-known-r
 enum-known-r c = search needs
@@ -47,15 +49,12 @@ same-length c = search needs
 
 returns-2 : tie.Need-returns-2
 unfolding ascii
-returns-2 c =
-    let start = c .before .before .before .before .before .before .before .before .before .before .before .before .before .before .before .before .before .before in
-    let e = word-got (readWord (start .args .words .now) (start .args .at)) (c .before .before .before .before .before .before .before .before .before .before .before .before .before .scan-word .ensures) (c .before .before .before .before .before .before .before .before .before .before .before .value .given .1) in
-    went-runs (constraints-some (start .args .words .now) (start .args .pairs .now) (start .args .text .now) (start .args .at) e (omega (arith, c .before .before .before .before .before .before .before .before .before .if1 .left))) (went-then (came-bytes _ (c .before .before .before .before .before .before .lay .ensures)) (went-last (c .before .before .lay-constraints .ensures)))
+returns-2 c = last-went (chain-laid (constraints (c .before .before .before .before .before .before .before .before .before)) (c .before .before .before .before .before .before .lay .ensures)) (c .before .before .lay-constraints .ensures)
 
 returns-3 : tie.Need-returns-3
 returns-3 c =
     let start = c .before .before .before .before .before .before .before .before in
-    stops-here (constraints-stop (start .args .words .now) (start .args .pairs .now) (start .args .text .now) (start .args .at) (word-stop (readWord (start .args .words .now) (start .args .at)) (c .before .before .before .scan-word .ensures) (c .before .r .given .1)))
+    count-refused (constraints-first (start .args .words .now) (start .args .pairs .now) (start .args .text .now) (start .args .at)) (c .before .before .before .scan-word .ensures) (c .before .r .given .1)
 
 pub lay-constraint-list-spec : {M : Type 1} → statement M
 lay-constraint-list-spec =

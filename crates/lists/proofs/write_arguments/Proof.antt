@@ -1,65 +1,56 @@
-use Prim.Native.Nat.{_<_}
-use mathlib.Core.Path.{_≡_, refl}
 use mathlib.Core.Bool.{true}
+use mathlib.Core.Path.{_≡_, refl}
 use native.Mathlib.Omega.{arith}
 use lib.ListN.{length}
-use Rattle.laying.specs.Passes.{Along, came}
-use Rattle.laying.proofs.Passes.{along-gap, along-item, along-last, along-next, along-start, came-to}
+use Rattle.rast.specs.Bytes.{ascii}
+use Rattle.output.proofs.Passes.{laid-wrote}
+use Rattle.laying.specs.Texts.{nameAt}
+use Rattle.laying.proofs.Passes.{Turn, turn-gap, turn-item, turn-last, turn-next, turn-start}
 use Rattle.laying.proofs.Leaves.{name-there}
-use Rattle.lists.specs.Texts.{someArguments}
 use borrow.Author.Needs.{needs}
 use Rattle.lists.proofs.write_arguments.Statement.{statement}
 use Rattle.lists.proofs.write_arguments.Tie as tie
 
 abbrev Inv-loop : tie.InvT-loop
-Inv-loop words pairs text n at out₀ pos place₀ p₀ left₀ out place p left = (length out ≡ length out₀) × (0 < left) × Along true out₀ pos (someArguments words pairs text n at) out p (someArguments words pairs text left place)
+Inv-loop words pairs text n at out₀ pos place₀ p₀ left₀ t11 out place p left = (length out ≡ length out₀) × Turn (nameAt words pairs text) (ascii ", ") true out₀ pos n at out p left place
 
 abbrev μ-loop : tie.MeasureT-loop
-μ-loop words pairs text n at out₀ pos place₀ p₀ left₀ out place p left = left
+μ-loop words pairs text n at out₀ pos place₀ p₀ left₀ t11 out place p left = left
 
 loop-holds : tie.Need-loop-holds Inv-loop μ-loop
-loop-holds c =
-    let start = c .before .before .before .before in
-    (refl, start .pre .1, along-start (start .pre .2))
+loop-holds c = (refl, turn-start (c .before .before .before .before .pre .1) (c .before .before .before .before .pre .2))
 
 write-name-requires : tie.Need-write-name-requires Inv-loop μ-loop
-write-name-requires c κs =
-    let l = c .before .loop in
-    (c .before .before .before .before .before .before .pre .0, along-item _ _ (l .left) (l .place) (l .inv .2) (l .inv .1))
+write-name-requires c κs = (c .before .before .before .before .before .before .pre .0, turn-item (c .before .loop .inv .1))
 
 add-place : tie.Need-add-place Inv-loop μ-loop
 add-place c =
     let start = c .before .before .before .before .before .before .before .before .before in
-    let l = c .before .before .before .before .loop in
-    let t = name-there (start .args .words .now) (start .args .pairs .now) (start .args .text .now) (l .place) (along-item _ _ (l .left) (l .place) (l .inv .2) (l .inv .1)) in
+    let t = name-there (start .args .words .now) (start .args .pairs .now) (start .args .text .now) (c .before .before .before .before .loop .place) (turn-item (c .before .before .before .before .loop .inv .1)) in
     omega (arith, t .here, start .pre .0 .few)
 
 sub-left : tie.Need-sub-left Inv-loop μ-loop
-sub-left c = search needs
+sub-left c = omega (arith, c .before .before .before .before .loop .inv .1 .some)
 
 same-length : tie.Need-same-length Inv-loop μ-loop
 same-length c = search needs
 
 returns : tie.Need-returns Inv-loop μ-loop
-returns c =
-    let l = c .before .before .before .before .before .loop in
-    came-to (along-last _ _ (l .left) (l .place) (l .inv .2) (omega (arith, c .if1 .taken, l .inv .1)) (came (c .before .before .before .write-name .ensures))) refl
+returns c = turn-last (c .before .before .before .before .before .loop .inv .1) (c .before .before .before .write-name .ensures) (c .if1 .taken)
 
-lay-comma-requires : tie.Need-lay-comma-requires Inv-loop μ-loop
-lay-comma-requires c κs =
-    let l = c .before .before .before .before .before .before .loop in
-    along-gap _ _ (l .left) (l .place) (l .inv .2) (omega (arith, c .before .if1 .left, l .inv .1)) (c .before .before .before .before .write-name .ensures)
+slice-aggregate-put : tie.Need-slice-aggregate-put Inv-loop μ-loop
+slice-aggregate-put c = search needs
+
+put-requires : tie.Need-put-requires Inv-loop μ-loop
+unfolding ascii
+put-requires c κs = turn-gap (c .before .before .before .before .before .before .before .loop .inv .1) (c .before .before .before .before .before .write-name .ensures) (c .before .before .if1 .left) .room refl
 
 loop-less : tie.Need-loop-less Inv-loop μ-loop
 loop-less c = search needs
 
 loop-again : tie.Need-loop-again Inv-loop μ-loop
-loop-again c =
-    let l = c .before .before .before .before .before .before .before .before .before .loop in (
-      search needs,
-      omega (arith, c .before .before .before .before .if1 .left, l .inv .1),
-      along-next _ _ (l .left) (l .place) (l .inv .2) (omega (arith, c .before .before .before .before .if1 .left, l .inv .1)) (c .before .before .before .before .before .before .before .write-name .ensures) (c .before .before .lay-comma .ensures),
-    )
+unfolding ascii
+loop-again c = (search needs, turn-next (c .before .before .before .before .before .before .before .before .before .before .loop .inv .1) (c .before .before .before .before .before .before .before .before .write-name .ensures) (c .before .before .before .before .before .if1 .left) (laid-wrote refl (c .before .before .put .ensures)))
 
 pub write-arguments-spec : {M : Type 1} → statement M
 write-arguments-spec =
@@ -73,6 +64,7 @@ write-arguments-spec =
     sub-left
     same-length
     returns
-    lay-comma-requires
+    slice-aggregate-put
+    put-requires
     loop-less
     loop-again)

@@ -1,81 +1,83 @@
-use mathlib.Core.Path.{refl, sym}
+use Prim.Native.Nat.{_+_, _<_}
+use mathlib.Core.Bool.{true}
+use mathlib.Core.Path.{refl}
 use native.Mathlib.Omega.{arith}
+use lib.ListN.{getD, length}
 use Rattle.rast.specs.Bytes.{ascii}
-use Rattle.output.proofs.Passes.{laid-wrote}
-use Rattle.encoding.proofs.Reading.{word-in}
-use Rattle.laying.specs.Passes.{came}
-use Rattle.laying.proofs.Passes.{came-as, came-bytes, came-nothing, came-to, ready-bytes, ready-first, ready-last, ready-next, ready-runs, went-last, went-runs, went-then}
-use Rattle.lists.proofs.Lists.{derived-none, derived-some, derived-there}
+use Rattle.output.proofs.Passes.{laid-nothing, laid-wrote}
+use Rattle.encoding.specs.Reading.{got}
+use Rattle.laying.specs.Passes.{_then_, last}
+use Rattle.laying.proofs.Passes.{AlongChain, chain-fits, chain-laid, chain-next, chain-ready, last-fits, last-laid}
+use Rattle.laying.proofs.Leaves.{count-there, there-none, there-some}
+use Rattle.lists.specs.Texts.{derivedAt, someArguments}
+use Rattle.lists.proofs.Lists.{derived-first}
 use borrow.Author.Needs.{needs}
 use Rattle.lists.proofs.write_derived.Statement.{statement}
 use Rattle.lists.proofs.write_derived.Tie as tie
 
+there : (c : tie.Start) → (c .args .at < length (c .args .words .now))
+there c = count-there (derived-first (c .args .words .now) (c .args .pairs .now) (c .args .text .now) (c .args .at)) (c .pre .1)
+
+-- the arguments, of which there are some, and what is left of them behind the first bracket
+arguments : (c : tie.Else1) →
+    let start = c .before .before .before .before .before .before in
+    AlongChain true (start .args .out .now) (start .args .pos) (derivedAt (start .args .words .now) (start .args .pairs .now) (start .args .text .now) (start .args .at)) (start .args .out .now) (start .args .pos) (got (ascii "(") (start .args .at + 1) then λ q. someArguments (start .args .words .now) (start .args .pairs .now) (start .args .text .now) (getD (start .args .words .now) (start .args .at) 0) q then λ r. last (got (ascii ")") r))
+arguments c =
+    let start = c .before .before .before .before .before .before in
+    there-some (derived-first (start .args .words .now) (start .args .pairs .now) (start .args .text .now) (start .args .at)) (start .pre .1) (c .if1 .left)
+
+behind : (c : tie.After-put) →
+    let start = c .before .before .before .before .before .before .before .before .before in
+    AlongChain true (start .args .out .now) (start .args .pos) (derivedAt (start .args .words .now) (start .args .pairs .now) (start .args .text .now) (start .args .at)) (c .put .last .1 .0) (c .put .result) (someArguments (start .args .words .now) (start .args .pairs .now) (start .args .text .now) (getD (start .args .words .now) (start .args .at) 0) (start .args .at + 1) then λ r. last (got (ascii ")") r))
+unfolding ascii
+behind c = chain-laid (arguments (c .before .before .before)) (laid-wrote refl (c .put .ensures))
+
 mul-n : tie.Need-mul-n
 mul-n c =
     let start = c .before .before .before .before in
-    let here = derived-there (start .args .words .now) (start .args .pairs .now) (start .args .text .now) (start .args .at) (start .pre .1) in
-    omega (arith, here, start .pre .0 .few)
+    omega (arith, there start, start .pre .0 .few)
 
 shared-slice-read-n : tie.Need-shared-slice-read-n
-shared-slice-read-n c =
-    let start = c .before .before .before .before .before in
-    derived-there (start .args .words .now) (start .args .pairs .now) (start .args .text .now) (start .args .at) (start .pre .1)
+shared-slice-read-n c = there (c .before .before .before .before .before)
 
 add-t16 : tie.Need-add-t16
 add-t16 c =
     let start = c .before .before .before .before .before .before in
-    let here = derived-there (start .args .words .now) (start .args .pairs .now) (start .args .text .now) (start .args .at) (start .pre .1) in
-    omega (arith, here, start .pre .0 .few)
+    omega (arith, there start, start .pre .0 .few)
 
 returns : tie.Need-returns
 returns c =
     let start = c .before .before .before .before .before .before in
-    let e = word-in (start .args .words .now) (start .args .at) (derived-there (start .args .words .now) (start .args .pairs .now) (start .args .text .now) (start .args .at) (start .pre .1)) in
-    came-as (sym (derived-none (start .args .words .now) (start .args .pairs .now) (start .args .text .now) (start .args .at) e (c .if1 .taken))) (came-nothing _)
+    there-none (derived-first (start .args .words .now) (start .args .pairs .now) (start .args .text .now) (start .args .at)) (start .pre .1) (c .if1 .taken) (laid-nothing _ _)
 
 slice-aggregate-put : tie.Need-slice-aggregate-put
 slice-aggregate-put c = search needs
 
 put-requires : tie.Need-put-requires
 unfolding ascii
-put-requires c κs =
-    let start = c .before .before .before .before .before .before .before .before in
-    let e = word-in (start .args .words .now) (start .args .at) (derived-there (start .args .words .now) (start .args .pairs .now) (start .args .text .now) (start .args .at) (start .pre .1)) in
-    ready-bytes (ready-first (ready-runs (derived-some (start .args .words .now) (start .args .pairs .now) (start .args .text .now) (start .args .at) e (omega (arith, c .before .before .if1 .left))) (start .pre .1))) .room refl
+put-requires c κs = chain-fits (arguments (c .before .before)) .room refl
 
 add-write-arguments : tie.Need-add-write-arguments
 add-write-arguments c =
     let start = c .before .before .before .before .before .before .before .before .before .before .before in
-    let here = derived-there (start .args .words .now) (start .args .pairs .now) (start .args .text .now) (start .args .at) (start .pre .1) in
-    omega (arith, here, start .pre .0 .few)
+    omega (arith, there start, start .pre .0 .few)
 
 write-arguments-requires : tie.Need-write-arguments-requires
-unfolding ascii
-write-arguments-requires c κs =
-    let start = c .before .before .before .before .before .before .before .before .before .before .before .before in
-    let e = word-in (start .args .words .now) (start .args .at) (derived-there (start .args .words .now) (start .args .pairs .now) (start .args .text .now) (start .args .at) (start .pre .1)) in
-    (start .pre .0, (omega (arith, c .before .before .before .before .before .before .if1 .left)), ready-first (ready-next (ready-runs (derived-some (start .args .words .now) (start .args .pairs .now) (start .args .text .now) (start .args .at) e (omega (arith, c .before .before .before .before .before .before .if1 .left))) (start .pre .1)) (came-bytes _ (laid-wrote refl (c .before .before .before .put .ensures)))))
+write-arguments-requires c κs = (c .before .before .before .before .before .before .before .before .before .before .before .before .pre .0, omega (arith, c .before .before .before .before .before .before .if1 .left), chain-ready (behind (c .before .before .before)))
 
 slice-aggregate-put-2 : tie.Need-slice-aggregate-put-2
 slice-aggregate-put-2 c = search needs
 
 put-requires-2 : tie.Need-put-requires-2
 unfolding ascii
-put-requires-2 c κs =
-    let start = c .before .before .before .before .before .before .before .before .before .before .before .before .before .before .before .before .before in
-    let e = word-in (start .args .words .now) (start .args .at) (derived-there (start .args .words .now) (start .args .pairs .now) (start .args .text .now) (start .args .at) (start .pre .1)) in
-    let r = ready-runs (derived-some (start .args .words .now) (start .args .pairs .now) (start .args .text .now) (start .args .at) e (omega (arith, c .before .before .before .before .before .before .before .before .before .before .before .if1 .left))) (start .pre .1) in
-    ready-bytes (ready-last (ready-next (ready-next r (came-bytes _ (laid-wrote refl (c .before .before .before .before .before .before .before .before .put .ensures)))) (c .before .before .before .before .write-arguments .ensures))) .room refl
+put-requires-2 c κs = last-fits (chain-next (behind (c .before .before .before .before .before .before .before .before)) (c .before .before .before .before .write-arguments .ensures)) .room refl
 
 same-length : tie.Need-same-length
 same-length c = search needs
 
 returns-2 : tie.Need-returns-2
 unfolding ascii
-returns-2 c =
-    let start = c .before .before .before .before .before .before .before .before .before .before .before .before .before .before .before .before .before .before .before .before in
-    let e = word-in (start .args .words .now) (start .args .at) (derived-there (start .args .words .now) (start .args .pairs .now) (start .args .text .now) (start .args .at) (start .pre .1)) in
-    came-to (went-runs (derived-some (start .args .words .now) (start .args .pairs .now) (start .args .text .now) (start .args .at) e (omega (arith, c .before .before .before .before .before .before .before .before .before .before .before .before .before .before .if1 .left))) (went-then (came-bytes _ (laid-wrote refl (c .before .before .before .before .before .before .before .before .before .before .before .put .ensures))) (went-then (c .before .before .before .before .before .before .before .write-arguments .ensures) (went-last (came (came-bytes _ (laid-wrote refl (c .before .before .put2 .ensures)))))))) refl
+returns-2 c = last-laid (chain-next (behind (c .before .before .before .before .before .before .before .before .before .before .before)) (c .before .before .before .before .before .before .before .write-arguments .ensures)) (laid-wrote refl (c .before .before .put2 .ensures))
 
 pub write-derived-spec : {M : Type 1} → statement M
 write-derived-spec =

@@ -1,18 +1,32 @@
+use mathlib.Core.Path.{_≡_}
+use native.Mathlib.Omega.{arith}
 use lib.ListN.{length}
 use Rattle.rast.specs.ToString.{Path·ToString}
 use Rattle.encoding.specs.declared.PathAt.{PathAt}
+use Rattle.encoding.specs.Refusals.{mapAnswer}
 use Rattle.encoding.specs.Tables.{nameBytes, nameCount}
 use Rattle.encoding.specs.Reading.{whole}
 use Rattle.encoding.specs.Heads.{readPath}
 use Rattle.encoding.specs.Types.{pathOf}
 use Rattle.encoding.proofs.Inside.{path-lies}
 use Rattle.encoding.proofs.Answers.{map-twice, filled-stop, filled-left, filled-short, filled-done}
-use Rattle.measure.proofs.Measured.{measured-path, unmeasured-path}
+use Rattle.measure.proofs.Measured.{SizedPath, measured-path, unmeasured-path}
 use Rattle.text.specs.declared.TextAnswer.the-variants.{Length, Refused}
-use native.Mathlib.Omega.{arith}
+use Rattle.text.specs.Wholes.{wholePathText}
 use borrow.Author.Needs.{needs}
 use Rattle.text.proofs.fill_path.Statement.{statement}
 use Rattle.text.proofs.fill_path.Tie as tie
+
+-- the text is one function of what is read
+text-of : (c : tie.Start) → wholePathText (c .args .words .now) (c .args .pairs .now) (c .args .text .now) ≡ mapAnswer (λ (p : PathAt). Path·ToString (pathOf (c .args .words .now) (nameBytes (c .args .pairs .now) (c .args .text .now)) p)) (whole (length (c .args .words .now)) (readPath (nameCount (c .args .pairs .now)) (c .args .words .now) 0))
+text-of c = map-twice Path·ToString (pathOf (c .args .words .now) (nameBytes (c .args .pairs .now) (c .args .text .now))) (whole (length (c .args .words .now)) (readPath (nameCount (c .args .pairs .now)) (c .args .words .now) 0))
+
+read : (c : tie.After-path) →
+    let start = c .before .before .before .before .before .before .before in
+    SizedPath (start .args .words .now) (nameBytes (start .args .pairs .now) (start .args .text .now)) (readPath (nameCount (start .args .pairs .now)) (start .args .words .now) 0) (c .path .given .0 .0) (c .path .given .0 .1 .0) (c .path .given .0 .1 .1 .0)
+read c =
+    let start = c .before .before .before .before .before .before .before in
+    measured-path (start .args .words .now) (nameBytes (start .args .pairs .now) (start .args .text .now)) (readPath (nameCount (start .args .pairs .now)) (start .args .words .now) 0) (c .before .before .measure-path .ensures) (c .path .given .1)
 
 measure-path-requires : tie.Need-measure-path-requires
 measure-path-requires c κs = search needs
@@ -22,22 +36,19 @@ enum-known-path c = search needs
 
 returns : tie.Need-returns
 returns c =
-    let a = c .before .before .before .before .before .before .before .before .before .args in
-    let m = measured-path (a .words .now) (nameBytes (a .pairs .now) (a .text .now)) (readPath (nameCount (a .pairs .now)) (a .words .now) 0) (c .before .before .before .before .measure-path .ensures) (c .before .before .path .given .1) in
-    rw (map-twice Path·ToString (pathOf (a .words .now) (nameBytes (a .pairs .now) (a .text .now))) (whole (length (a .words .now)) (readPath (nameCount (a .pairs .now)) (a .words .now) 0))) (filled-left Length Refused (a .out .now) (λ (p : PathAt). Path·ToString (pathOf (a .words .now) (nameBytes (a .pairs .now) (a .text .now)) p)) (length (a .words .now)) (readPath (nameCount (a .pairs .now)) (a .words .now) 0) (m .reads) (c .if1 .taken))
+    let start = c .before .before .before .before .before .before .before .before .before in
+    rw (text-of start) (filled-left Length Refused (start .args .out .now) (λ (p : PathAt). Path·ToString (pathOf (start .args .words .now) (nameBytes (start .args .pairs .now) (start .args .text .now)) p)) (length (start .args .words .now)) (readPath (nameCount (start .args .pairs .now)) (start .args .words .now) 0) (read (c .before .before) .reads) (c .if1 .taken))
 
 returns-2 : tie.Need-returns-2
 returns-2 c =
-    let a = c .before .before .before .before .before .before .before .before .before .before .args in
-    let m = measured-path (a .words .now) (nameBytes (a .pairs .now) (a .text .now)) (readPath (nameCount (a .pairs .now)) (a .words .now) 0) (c .before .before .before .before .before .measure-path .ensures) (c .before .before .before .path .given .1) in
-    rw (map-twice Path·ToString (pathOf (a .words .now) (nameBytes (a .pairs .now) (a .text .now))) (whole (length (a .words .now)) (readPath (nameCount (a .pairs .now)) (a .words .now) 0))) (filled-short Length Refused (a .out .now) (λ (p : PathAt). Path·ToString (pathOf (a .words .now) (nameBytes (a .pairs .now) (a .text .now)) p)) (length (a .words .now)) (readPath (nameCount (a .pairs .now)) (a .words .now) 0) (m .reads) (c .before .if1 .left) (omega (arith, c .if2 .taken, m .size)))
+    let start = c .before .before .before .before .before .before .before .before .before .before in
+    let m = read (c .before .before .before) in
+    rw (text-of start) (filled-short Length Refused (start .args .out .now) (λ (p : PathAt). Path·ToString (pathOf (start .args .words .now) (nameBytes (start .args .pairs .now) (start .args .text .now)) p)) (length (start .args .words .now)) (readPath (nameCount (start .args .pairs .now)) (start .args .words .now) 0) (m .reads) (c .before .if1 .left) (omega (arith, c .if2 .taken, m .size)))
 
 put-path-requires : tie.Need-put-path-requires
 put-path-requires c κs =
-    let s = c .before .before .before .before .before .before .before .before .before .before .before in
-    let a = s .args in
-    let m = measured-path (a .words .now) (nameBytes (a .pairs .now) (a .text .now)) (readPath (nameCount (a .pairs .now)) (a .words .now) 0) (c .before .before .before .before .before .before .measure-path .ensures) (c .before .before .before .before .path .given .1) in
-    (path-lies _ _ _ (m .reads) .own, s .pre .0, omega (arith, c .before .if2 .left, m .size))
+    let m = read (c .before .before .before .before) in
+    (path-lies _ _ _ (m .reads) .own, c .before .before .before .before .before .before .before .before .before .before .before .pre .0, omega (arith, c .before .if2 .left, m .size))
 
 enum-known-r : tie.Need-enum-known-r
 enum-known-r c = search needs
@@ -47,14 +58,14 @@ same-length c = search needs
 
 returns-3 : tie.Need-returns-3
 returns-3 c =
-    let a = c .before .before .before .before .before .before .before .before .before .before .before .before .before .before .args in
-    let m = measured-path (a .words .now) (nameBytes (a .pairs .now) (a .text .now)) (readPath (nameCount (a .pairs .now)) (a .words .now) 0) (c .before .before .before .before .before .before .before .before .before .measure-path .ensures) (c .before .before .before .before .before .before .before .path .given .1) in
-    rw (map-twice Path·ToString (pathOf (a .words .now) (nameBytes (a .pairs .now) (a .text .now))) (whole (length (a .words .now)) (readPath (nameCount (a .pairs .now)) (a .words .now) 0))) (filled-done Length Refused (a .out .now) (λ (p : PathAt). Path·ToString (pathOf (a .words .now) (nameBytes (a .pairs .now) (a .text .now)) p)) (length (a .words .now)) (readPath (nameCount (a .pairs .now)) (a .words .now) 0) _ (m .reads) (c .before .before .before .before .before .if1 .left) (omega (arith, c .before .before .before .before .if2 .left, m .size)) (m .size) (c .before .before .put-path .ensures .bytes))
+    let start = c .before .before .before .before .before .before .before .before .before .before .before .before .before .before in
+    let m = read (c .before .before .before .before .before .before .before) in
+    rw (text-of start) (filled-done Length Refused (start .args .out .now) (λ (p : PathAt). Path·ToString (pathOf (start .args .words .now) (nameBytes (start .args .pairs .now) (start .args .text .now)) p)) (length (start .args .words .now)) (readPath (nameCount (start .args .pairs .now)) (start .args .words .now) 0) _ (m .reads) (c .before .before .before .before .before .if1 .left) (omega (arith, c .before .before .before .before .if2 .left, m .size)) (m .size) (c .before .before .put-path .ensures .bytes))
 
 returns-4 : tie.Need-returns-4
 returns-4 c =
-    let a = c .before .before .before .before .before .before .before .before .args in
-    rw (map-twice Path·ToString (pathOf (a .words .now) (nameBytes (a .pairs .now) (a .text .now))) (whole (length (a .words .now)) (readPath (nameCount (a .pairs .now)) (a .words .now) 0))) (filled-stop Length Refused (a .out .now) (λ (p : PathAt). Path·ToString (pathOf (a .words .now) (nameBytes (a .pairs .now) (a .text .now)) p)) (length (a .words .now)) (readPath (nameCount (a .pairs .now)) (a .words .now) 0) (unmeasured-path (a .words .now) (nameBytes (a .pairs .now) (a .text .now)) (readPath (nameCount (a .pairs .now)) (a .words .now) 0) (c .before .before .before .measure-path .ensures) (c .before .r .given .1)))
+    let start = c .before .before .before .before .before .before .before .before in
+    rw (text-of start) (filled-stop Length Refused (start .args .out .now) (λ (p : PathAt). Path·ToString (pathOf (start .args .words .now) (nameBytes (start .args .pairs .now) (start .args .text .now)) p)) (length (start .args .words .now)) (readPath (nameCount (start .args .pairs .now)) (start .args .words .now) 0) (unmeasured-path (start .args .words .now) (nameBytes (start .args .pairs .now) (start .args .text .now)) (readPath (nameCount (start .args .pairs .now)) (start .args .words .now) 0) (c .before .before .before .measure-path .ensures) (c .before .r .given .1)))
 
 pub fill-path-spec : {M : Type 1} → statement M
 fill-path-spec =
