@@ -2,7 +2,7 @@
 ghost use mathlib.Core.Path.{_≡_};
 ghost use mathlib.Core.Bool.{true};
 ghost use mathlib.Core.List.{[]};
-ghost use Prim.Native.Nat.{_+_, _-_, _^_, _≤_, _<_};
+ghost use Prim.Native.Nat.{_+_, _*_, _-_, _^_, _≤_, _<_};
 ghost use lib.ListN.{length, getD, take, drop};
 ghost use Rattle.rast.specs.Bytes.{same};
 ghost use Rattle.rast.specs.Tree.{U8};
@@ -131,6 +131,15 @@ pub fn name_count(pairs: &[u32]) -> usize
     pairs.len() / 2 + 16
 }
 
+// A word of the pair of a name that stands in the text: 0 for its start there, 1 for its length.
+pub fn pair_word(pairs: &[u32], name: u32, k: usize) -> usize
+    requires { ⌜ (16 ≤ name) × (name < nameCount (now pairs)) × (k < 2) ⌝ }
+    ensures { λ r. ⌜ (r ≡ getD (now (pairs .entry)) (2 * (name - 16) + k) 0) × (r < 2 ^ 32) ⌝ }
+{
+    let i = (name - 16) as usize;
+    pairs[2 * i + k] as usize
+}
+
 // How long a name is.
 pub fn name_length(pairs: &[u32], name: u32) -> usize
     requires { ⌜ name < nameCount (now pairs) ⌝ }
@@ -139,8 +148,7 @@ pub fn name_length(pairs: &[u32], name: u32) -> usize
     if name < 16 {
         return LENGTHS[name as usize] as usize;
     }
-    let i = (name - 16) as usize;
-    pairs[2 * i + 1] as usize
+    pair_word(pairs, name, 1)
 }
 
 // The fixed names, where they can be lent: a path lays them out once for all its names.
@@ -271,10 +279,8 @@ pub fn pair_bytes<'a>(pairs: &[u32], text: &'a [u8], name: u32) -> &'a [u8]
     requires { ⌜ (16 ≤ name) × (name < nameCount (now pairs)) × Good (now pairs) (now text) ⌝ }
     ensures { λ r. ⌜ now r ≡ nameBytes (now (pairs .entry)) (now (text .entry)) name ⌝ }
 {
-    let i = (name - 16) as usize;
-    let start = pairs[2 * i] as usize;
-    let end = start + pairs[2 * i + 1] as usize;
-    part(text, start, end)
+    let start = pair_word(pairs, name, 0);
+    part(text, start, start + pair_word(pairs, name, 1))
 }
 
 // Whether a name is the fixed name `k`, whose bytes are `bytes`.

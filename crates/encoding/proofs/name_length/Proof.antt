@@ -1,4 +1,3 @@
-use Prim.Native.Nat.{_*_, _-_, _+_}
 use mathlib.Core.Path.{sym, _∙_}
 use Rattle.encoding.proofs.Tables.{starts, lengths, fixed-inside, fixed-length, length-fixed, length-pair}
 use native.Mathlib.Omega.{arith}
@@ -11,48 +10,20 @@ array-read-result c = search needs
 
 cast-result : tie.Need-cast-result
 unfolding starts lengths
-cast-result c = let h = fixed-inside (c .before .args .name) (search needs) in omega arith
+cast-result c = let h = fixed-inside (c .before .before .args .name) (search needs) in omega arith
 
 returns : tie.Need-returns
 unfolding lengths
 returns c =
-    let a = c .before .args in
+    let a = c .before .before .args in
     fixed-length (a .name) (search needs) ∙ sym (length-fixed (a .pairs .now) (a .name) (search needs))
 
-cast-i : tie.Need-cast-i
-cast-i c = search needs
-
-mul-result : tie.Need-mul-result
-mul-result c = search needs
-
-add-result : tie.Need-add-result
-add-result c = search needs
-
-mul-result-2 : tie.Need-mul-result-2
-mul-result-2 c = search needs
-
-shared-slice-read-result : tie.Need-shared-slice-read-result
-shared-slice-read-result c = search needs
-
-cast-result-2 : tie.Need-cast-result-2
-cast-result-2 c = omega (arith, c .shared-slice-known .given (2 * (c .before .before .args .name - 16) + 1))
+pair-word-requires : tie.Need-pair-word-requires
+pair-word-requires c κs = search needs
 
 returns-2 : tie.Need-returns-2
-returns-2 c =
-    let a = c .before .before .args in
-    sym (length-pair (a .pairs .now) (a .name) (search needs))
+returns-2 c = let a = c .before .before .before .args in c .pair-word .ensures .0 ∙ sym (length-pair (a .pairs .now) (a .name) (c .before .if1 .left))
 
 pub name-length-spec : {M : Type 1} → statement M
 name-length-spec =
-    tie.close
-    (tie.spec
-    array-read-result
-    cast-result
-    returns
-    cast-i
-    mul-result
-    add-result
-    mul-result-2
-    shared-slice-read-result
-    cast-result-2
-    returns-2)
+    tie.close (tie.spec array-read-result cast-result returns pair-word-requires returns-2)
