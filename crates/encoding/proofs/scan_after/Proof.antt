@@ -4,7 +4,6 @@ use Rattle.encoding.specs.Reading.{readBelow, readWord}
 use Rattle.encoding.specs.Heads.{headAfter}
 use Rattle.encoding.specs.Scans.{headOf}
 use Rattle.encoding.proofs.Heads.{head-worded, head-none}
-use native.Mathlib.Omega.{arith}
 use borrow.Author.Needs.{needs}
 use Rattle.encoding.proofs.scan_after.Statement.{statement}
 use Rattle.encoding.proofs.scan_after.Tie as tie
