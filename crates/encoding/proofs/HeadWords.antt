@@ -1,10 +1,10 @@
 -- A head that was read, by its words alone.
 use Prim.Native.Nat.{ℕ, _+_, _≤_, _<_}
 use mathlib.Core.Path.{_≡_, refl, ap, sym, _∙_, subst}
-use mathlib.Core.Bool.{true, false}
+use mathlib.Core.Bool.{true}
 use mathlib.Core.List.{List}
 use native.Mathlib.Omega.{arith}
-use borrow.Author.Tests.{ltb-true, lt-ltb, eqb-true, ne-eqb}
+use borrow.Author.Tests.{ltb-true, lt-ltb, le-ltb, eqb-true, ne-eqb}
 use lib.Dec.{ltb, eqb}
 use lib.ListN.{length, getD}
 use Rattle.encoding.specs.declared.Head.{Head}
@@ -14,6 +14,33 @@ use Rattle.encoding.specs.Heads.{readPath, pathHead, headAfter, readHead
 use Rattle.encoding.specs.HeadWords.{kids, HeadHere, typesBelow, ownEnd}
 use Rattle.encoding.proofs.Inside.{Holds, holds-on, holds-pick, There, Next, Names, word-holds, below-holds, names-hold, head-lies}
 
+-- ---- what the kind alone says
+
+-- kinds behind which no own word stands
+pub end-other : (ws : List ℕ) (at : ℕ) {w : ℕ} → w ≡ getD ws at 0
+    → (w ≡ 12 → ⊥) → (w ≡ 13 → ⊥) → (w ≡ 14 → ⊥) → (w ≡ 19 → ⊥) → (w ≡ 20 → ⊥) → (w ≡ 22 → ⊥) → (w ≡ 24 → ⊥) → ownEnd ws at ≡ at + 1
+unfolding ownEnd
+end-other ws at {w} e h₁₂ h₁₃ h₁₄ h₁₉ h₂₀ h₂₂ h₂₄ =
+    rw (← e, ne-eqb w 12 h₁₂, ne-eqb w 13 h₁₃, ne-eqb w 14 h₁₄, ne-eqb w 19 h₁₉, ne-eqb w 20 h₂₀, ne-eqb w 22 h₂₂, ne-eqb w 24 h₂₄) refl
+
+-- kinds that one type follows
+pub below-other : (ws : List ℕ) (at : ℕ) {w : ℕ} → w ≡ getD ws at 0
+    → 14 ≤ w → (w ≡ 14 → ⊥) → (w ≡ 19 → ⊥) → (w ≡ 20 → ⊥) → (w ≡ 21 → ⊥) → (w ≡ 23 → ⊥) → typesBelow ws at ≡ 1
+unfolding typesBelow
+below-other ws at {w} e h h₁₄ h₁₉ h₂₀ h₂₁ h₂₃ =
+    rw (← e, le-ltb w 14 h, ne-eqb w 14 h₁₄, ne-eqb w 19 h₁₉, ne-eqb w 20 h₂₀, ne-eqb w 21 h₂₁, ne-eqb w 23 h₂₃) refl
+
+-- plain types
+pub plain-end : (ws : List ℕ) (at : ℕ) → getD ws at 0 < 12 → ownEnd ws at ≡ at + 1
+plain-end ws at h =
+    let no : (k : ℕ) → 12 ≤ k → getD ws at 0 ≡ k → ⊥ = λ k m i. omega arith in
+    end-other ws at refl (no 12 (omega arith)) (no 13 (omega arith)) (no 14 (omega arith)) (no 19 (omega arith)) (no 20 (omega arith)) (no 22 (omega arith)) (no 24 (omega arith))
+
+-- plain types, names and paths
+pub plain-below : (ws : List ℕ) (at : ℕ) → getD ws at 0 < 14 → typesBelow ws at ≡ 0
+unfolding typesBelow
+plain-below ws at h = rw (lt-ltb _ 14 h) refl
+
 -- what the words say of a head that was read
 record Told (ws : List ℕ) (at : ℕ) (h : Head) (n : ℕ) : Type 0 where
   below : typesBelow ws at ≡ kids h
@@ -22,13 +49,7 @@ record Told (ws : List ℕ) (at : ℕ) (h : Head) (n : ℕ) : Type 0 where
 module _ (b : ℕ) (ws : List ℕ) (at : ℕ) where
   -- a kind below 12
   plain-told : (h : Head) → getD ws at 0 < 12 → kids h ≡ 0 → Told ws at h (at + 1)
-  unfolding typesBelow ownEnd
-  plain-told h k z =
-      let no : (i : ℕ) → 12 ≤ i → eqb (getD ws at 0) i ≡ false = λ i m. ne-eqb (getD ws at 0) i (omega arith) in
-      record {
-        below = rw (lt-ltb (getD ws at 0) 14 (omega arith)) (sym z);
-        end = rw (no 12 (omega arith), no 13 (omega arith), no 14 (omega arith), no 19 (omega arith), no 20 (omega arith), no 22 (omega arith), no 24 (omega arith)) refl;
-      }
+  plain-told h k z = record { below = plain-below ws at (omega arith) ∙ sym z; end = plain-end ws at k }
 
   -- a kind and one word
   worded-told : (f : ℕ → Head) → (ownEnd ws at ≡ at + 2) → ((x : ℕ) → x ≡ getD ws (at + 1) 0 → typesBelow ws at ≡ kids (f x))
@@ -98,28 +119,3 @@ end-inside ws at h =
     let l = head-lies (h .bound) ws at (h .reads) in
     let e = words-end (h .bound) ws at (h .reads) in
     (omega (arith, l .starts, l .ends), omega (arith, e, l .ends))
-
--- and with them the one that follows a kind
-pub word-inside : (ws : List ℕ) (at : ℕ) → HeadHere ws at → ownEnd ws at ≡ at + 2 → at + 1 < length ws
-word-inside ws at h e = omega (arith, end-inside ws at h .1, e)
-
--- the words of a plain type's head
-apart : {n : ℕ} (k : ℕ) → n < 12 → 12 ≤ k → n ≡ k → ⊥
-apart k h l e = omega (arith, h, l, e)
-
-pub plain-end : (ws : List ℕ) (at : ℕ) → getD ws at 0 < 12 → ownEnd ws at ≡ at + 1
-unfolding ownEnd
-plain-end ws at h =
-    rw (
-      ne-eqb _ 12 (apart 12 h (omega arith)),
-      ne-eqb _ 13 (apart 13 h (omega arith)),
-      ne-eqb _ 14 (apart 14 h (omega arith)),
-      ne-eqb _ 19 (apart 19 h (omega arith)),
-      ne-eqb _ 20 (apart 20 h (omega arith)),
-      ne-eqb _ 22 (apart 22 h (omega arith)),
-      ne-eqb _ 24 (apart 24 h (omega arith)),
-    ) refl
-
-pub plain-below : (ws : List ℕ) (at : ℕ) → getD ws at 0 < 14 → typesBelow ws at ≡ 0
-unfolding typesBelow
-plain-below ws at h = rw (lt-ltb _ 14 h) refl

@@ -61,3 +61,18 @@ head-worded b ws w p x k d e = d ∙ ap (ownWord w) e ∙ own-made w x ∙ ap he
 -- a number that is none of six in a row is past them
 pub past-six : (w a : ℕ) → a ≤ w → (w ≡ a → ⊥) → (w ≡ a + 1 → ⊥) → (w ≡ a + 2 → ⊥) → (w ≡ a + 3 → ⊥) → (w ≡ a + 4 → ⊥) → (w ≡ a + 5 → ⊥) → a + 6 ≤ w
 past-six w a h h₀ h₁ h₂ h₃ h₄ h₅ = omega arith
+
+-- what a match says of a number that is none of six in a row, behind what it says of earlier ones
+abbrev pub NoneOfSix : Type 0 → ℕ → ℕ → Type 0
+NoneOfSix A w a = (((((A × (w ≡ a → ⊥)) × (w ≡ a + 1 → ⊥)) × (w ≡ a + 2 → ⊥)) × (w ≡ a + 3 → ⊥)) × (w ≡ a + 4 → ⊥)) × (w ≡ a + 5 → ⊥)
+
+six-passed : {A : Type 0} {w a : ℕ} → a ≤ w → NoneOfSix A w a → a + 6 ≤ w
+six-passed h n = past-six _ _ h (n .0 .0 .0 .0 .0 .1) (n .0 .0 .0 .0 .1) (n .0 .0 .0 .1) (n .0 .0 .1) (n .0 .1) (n .1)
+
+-- a kind above 12 that no arm of a match on the kinds from 13 on has
+pub head-unknown : {A : Type 0} (b : ℕ) (ws : List ℕ) (w p : ℕ) → 13 ≤ w → NoneOfSix (NoneOfSix A w 13) w 19 → headAfter b ws w p ≡ stop UnknownWord
+head-unknown b ws w p h n = head-other b ws w p (six-passed (six-passed h (n .0 .0 .0 .0 .0 .0)) n)
+
+-- the same for a match that has 12 too
+pub head-none : {A : Type 0} (b : ℕ) (ws : List ℕ) (w p : ℕ) → 12 ≤ w → NoneOfSix (NoneOfSix (A × (w ≡ 12 → ⊥)) w 13) w 19 → headAfter b ws w p ≡ stop UnknownWord
+head-none b ws w p h n = head-unknown b ws w p (omega (arith, n .0 .0 .0 .0 .0 .0 .0 .0 .0 .0 .0 .0 .1)) n

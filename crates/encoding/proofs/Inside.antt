@@ -88,11 +88,11 @@ names-hold b ws (suc n) at h =
         first i l j (yes e) = rw e (rw (k .same) at (k .below))
         first i l j (no e) = m .below i (omega arith) (omega arith)
 
--- a path from `at` on
-record Lies {A : Type 0} (P : A → Type 0) (ws : List ℕ) (at : ℕ) (x : A) (n : ℕ) : Type 0 where
-  starts : at < n
-  ends : n ≤ length ws
-  own : P x
+-- what was read from `at` to n lies in the words, and P holds of it
+pub record Lies {A : Type 0} (P : A → Type 0) (ws : List ℕ) (at : ℕ) (x : A) (n : ℕ) : Type 0 where
+  pub starts : at < n
+  pub ends : n ≤ length ws
+  pub own : P x
 
 path-holds : (b : ℕ) (ws : List ℕ) (at : ℕ) → Holds (Lies (InsidePath b ws) ws at) (readPath b ws at)
 unfolding readPath
@@ -144,25 +144,14 @@ head-holds b ws at =
       own = k .2;
     }) (after-holds b ws w p (omega (arith, h .here, h .next)))
 
-pub record HeadLies (b : ℕ) (ws : List ℕ) (at : ℕ) (h : Head) (n : ℕ) : Type 0 where
-  pub starts : at < n
-  pub ends : n ≤ length ws
-  pub own : InsideHead b ws h
+abbrev pub HeadLies : ℕ → List ℕ → ℕ → Head → ℕ → Type 0
+HeadLies b ws = Lies (InsideHead b ws) ws
 
 pub head-lies : (b : ℕ) (ws : List ℕ) (at : ℕ) {h : Head} {n : ℕ} → readHead b ws at ≡ got h n → HeadLies b ws at h n
-head-lies b ws at e =
-    let l = subst (Holds (Lies (InsideHead b ws) ws at)) e (head-holds b ws at) in
-    record { starts = l .starts; ends = l .ends; own = l .own }
+head-lies b ws at e = subst (Holds (HeadLies b ws at)) e (head-holds b ws at)
 
-pub record PathLies (b : ℕ) (ws : List ℕ) (at : ℕ) (p : PathAt) (n : ℕ) : Type 0 where
-  pub starts : at < n
-  pub ends : n ≤ length ws
-  pub own : InsidePath b ws p
-
-pub path-lies : (b : ℕ) (ws : List ℕ) (at : ℕ) {p : PathAt} {n : ℕ} → readPath b ws at ≡ got p n → PathLies b ws at p n
-path-lies b ws at e =
-    let l = subst (Holds (Lies (InsidePath b ws) ws at)) e (path-holds b ws at) in
-    record { starts = l .starts; ends = l .ends; own = l .own }
+pub path-lies : (b : ℕ) (ws : List ℕ) (at : ℕ) {p : PathAt} {n : ℕ} → readPath b ws at ≡ got p n → Lies (InsidePath b ws) ws at p n
+path-lies b ws at e = subst (Holds (Lies (InsidePath b ws) ws at)) e (path-holds b ws at)
 
 path-ends : (b : ℕ) (ws : List ℕ) (at : ℕ) → Holds (λ p n. n ≡ p .start + p .count) (readPath b ws at)
 unfolding readPath

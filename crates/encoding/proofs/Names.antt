@@ -1,8 +1,8 @@
 -- Laws of the bytes of names: the part of the text that a pair names, and equal bytes.
-use Prim.Native.Nat.{ℕ, suc, _+_, _-_, _≤_, _<_}
-use mathlib.Core.Path.{_≡_, refl, ap}
+use Prim.Native.Nat.{ℕ, suc, _+_, _*_, _-_, _≤_, _<_}
+use mathlib.Core.Path.{_≡_, refl, ap, sym, _∙_}
 use mathlib.Core.Bool.{Bool, true, false, Bool·beq}
-use mathlib.Core.List.{[], _∷_}
+use mathlib.Core.List.{List, [], _∷_}
 use native.Mathlib.Omega.{arith}
 use native.Mathlib.Numerals.{add-one}
 use lib.Dec.{eqb}
@@ -10,14 +10,26 @@ use lib.ListN.{length, getD, take, drop, drop-of-length-le}
 use lib.Seq.{drop-cons}
 use Rattle.rast.specs.Bytes.{Bytes, ascii, same, _and_}
 use Rattle.rast.proofs.BytesLaws.{and-false}
-use Rattle.encoding.specs.Tables.{fixedNames, nameBytes}
-use Rattle.encoding.proofs.Tables.{impossible, everyBelow, every-at, name-fixed}
+use Rattle.encoding.specs.Tables.{fixedNames, nameBytes, nameCount}
+use Rattle.encoding.specs.Tested.{Good}
+use Rattle.encoding.proofs.Tables.{impossible, everyBelow, every-at, pair-inside, name-fixed, name-pair}
 
 -- the part from s to s + n
 pub part-to : (l : Bytes) (s n : ℕ) → take (s + n - s) (drop s l) ≡ take n (drop s l)
 part-to l s n =
     let e : s + n - s ≡ n = omega arith in
     rw e
+
+-- the bytes of a name that stands in the text, by its start and length as they were read
+module _ (pairs text : List ℕ) (x : ℕ) (h : 16 ≤ x) {s n : ℕ} (e : s ≡ getD pairs (2 * (x - 16) + 0) 0) (d : n ≡ getD pairs (2 * (x - 16) + 1) 0) where
+  start : s ≡ getD pairs (2 * (x - 16)) 0
+  start = e ∙ (let z : 2 * (x - 16) + 0 ≡ 2 * (x - 16) = omega arith in rw z)
+
+  pub pair-there : Good pairs text → x < nameCount pairs → (s ≤ s + n) × (s + n ≤ length text)
+  pair-there g k = (omega arith, omega (arith, start, d, pair-inside pairs text x g h k))
+
+  pub pair-part : take (s + n - s) (drop s text) ≡ nameBytes pairs text x
+  pair-part = part-to text s n ∙ rw (start, d) (sym (name-pair pairs text x h))
 
 -- ---- equal bytes
 

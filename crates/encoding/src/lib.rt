@@ -2,7 +2,7 @@
 ghost use mathlib.Core.Path.{_≡_};
 ghost use mathlib.Core.Bool.{true};
 ghost use mathlib.Core.List.{[]};
-ghost use Prim.Native.Nat.{_+_, _-_, _^_, _≤_, _<_};
+ghost use Prim.Native.Nat.{_+_, _*_, _-_, _^_, _≤_, _<_};
 ghost use lib.ListN.{length, getD, take, drop};
 ghost use Rattle.rast.specs.Bytes.{same};
 ghost use Rattle.rast.specs.Tree.{U8};
@@ -149,6 +149,15 @@ pub fn name_count(pairs: &[u32]) -> usize
     pairs.len() / 2 + 16
 }
 
+// A word of the pair of a name that stands in the text: 0 for its start there, 1 for its length.
+pub fn pair_word(pairs: &[u32], name: u32, k: usize) -> usize
+    requires { ⌜ (16 ≤ name) × (name < nameCount (now pairs)) × (k < 2) ⌝ }
+    ensures { λ r. ⌜ (r ≡ getD (now (pairs .entry)) (2 * (name - 16) + k) 0) × (r < 2 ^ 32) ⌝ }
+{
+    let i = (name - 16) as usize;
+    pairs[2 * i + k] as usize
+}
+
 // How long a name is.
 pub fn name_length(pairs: &[u32], name: u32) -> usize
     requires { ⌜ name < nameCount (now pairs) ⌝ }
@@ -157,8 +166,7 @@ pub fn name_length(pairs: &[u32], name: u32) -> usize
     if name < 16 {
         return fixed_length(name);
     }
-    let i = (name - 16) as usize;
-    pairs[2 * i + 1] as usize
+    pair_word(pairs, name, 1)
 }
 
 // The fixed names, where they can be lent: a path lays them out once for all its names.
@@ -281,10 +289,8 @@ pub fn pair_bytes<'a>(pairs: &[u32], text: &'a [u8], name: u32) -> &'a [u8]
     requires { ⌜ (16 ≤ name) × (name < nameCount (now pairs)) × Good (now pairs) (now text) ⌝ }
     ensures { λ r. ⌜ now r ≡ nameBytes (now (pairs .entry)) (now (text .entry)) name ⌝ }
 {
-    let i = (name - 16) as usize;
-    let start = pairs[2 * i] as usize;
-    let end = start + pairs[2 * i + 1] as usize;
-    part(text, start, end)
+    let start = pair_word(pairs, name, 0);
+    part(text, start, start + pair_word(pairs, name, 1))
 }
 
 // Whether a name is the fixed name `k`, whose bytes are `bytes`.
@@ -521,19 +527,43 @@ pub fn scan_head(words: &[u32], bound: usize, at: usize) -> HeadScan
 
 // ---- heads that were read before: their words alone say what follows, and nothing is tested again
 
+// The kind of the head at `at`.
+fn kind_at(words: &[u32], at: usize) -> u32
+    requires { ⌜ HeadHere (now words) at ⌝ }
+    ensures { λ r. ⌜ (r ≡ getD (now (words .entry)) at 0) × (at < length (now (words .entry))) ⌝ }
+{
+    words[at]
+}
+
+// The word behind the kind of the head at `at`, where it has one such word: for some kinds the number of types.
+fn second_word(words: &[u32], at: usize) -> usize
+    requires { ⌜ HeadHere (now words) at × (ownEnd (now words) at ≡ at + 2) ⌝ }
+    ensures { λ r. ⌜ (r ≡ getD (now (words .entry)) (at + 1) 0) × (r < 2 ^ 32) ⌝ }
+{
+    words[at + 1] as usize
+}
+
+// Where the path whose head is at `at` ends.
+fn path_end(words: &[u32], at: usize) -> usize
+    requires { ⌜ HeadHere (now words) at × (ownEnd (now words) at ≡ at + 3 + getD (now words) (at + 2) 0) ⌝ }
+    ensures { λ r. ⌜ r ≡ at + 3 + getD (now (words .entry)) (at + 2) 0 ⌝ }
+{
+    at + 3 + words[at + 2] as usize
+}
+
 // How many types follow the head at `at`.
 pub fn types_below(words: &[u32], at: usize) -> usize
     requires { ⌜ HeadHere (now words) at ⌝ }
     ensures { λ r. ⌜ r ≡ typesBelow (now (words .entry)) at ⌝ }
 {
-    let w = words[at];
+    let w = kind_at(words, at);
     if w < 14 {
         return 0;
     }
     match w {
-        14 => words[at + 1] as usize + 1,
-        19 => words[at + 1] as usize,
-        20 => words[at + 1] as usize + 1,
+        14 => second_word(words, at) + 1,
+        19 => second_word(words, at),
+        20 => second_word(words, at) + 1,
         21 => 2,
         23 => 2,
         _ => 1,
@@ -545,10 +575,10 @@ pub fn own_end(words: &[u32], at: usize) -> usize
     requires { ⌜ HeadHere (now words) at ⌝ }
     ensures { λ r. ⌜ r ≡ ownEnd (now (words .entry)) at ⌝ }
 {
-    let w = words[at];
+    let w = kind_at(words, at);
     match w {
         12 => at + 2,
-        13 => at + 3 + words[at + 2] as usize,
+        13 => path_end(words, at),
         14 => at + 2,
         19 => at + 2,
         20 => at + 2,
@@ -575,16 +605,16 @@ pub fn pass_head(words: &[u32], at: usize, due: usize) -> Onward
     requires { ⌜ HeadHere (now words) at × (0 < due) × (due - 1 + typesBelow (now words) at < 2 ^ 63) ⌝ }
     ensures { λ r. ⌜ (r .next ≡ ownEnd (now (words .entry)) at) × (r .due ≡ due - 1 + typesBelow (now (words .entry)) at) ⌝ }
 {
-    let w = words[at];
+    let w = kind_at(words, at);
     if w < 12 {
         return go_on(at + 1, due - 1);
     }
     match w {
         12 => go_on(at + 2, due - 1),
-        13 => go_on(at + 3 + words[at + 2] as usize, due - 1),
-        14 => go_on(at + 2, due + words[at + 1] as usize),
-        19 => go_on(at + 2, due - 1 + words[at + 1] as usize),
-        20 => go_on(at + 2, due + words[at + 1] as usize),
+        13 => go_on(path_end(words, at), due - 1),
+        14 => go_on(at + 2, due + second_word(words, at)),
+        19 => go_on(at + 2, due - 1 + second_word(words, at)),
+        20 => go_on(at + 2, due + second_word(words, at)),
         21 => go_on(at + 1, due + 1),
         22 => go_on(at + 2, due),
         23 => go_on(at + 1, due + 1),

@@ -3,7 +3,6 @@ use Prim.Native.Nat.{ℕ, zero, suc, _+_, _*_, _-_, _^_, _≤_, _<_}
 use mathlib.Core.Path.{_≡_, _∙_}
 use mathlib.Core.List.{List, map}
 use native.Mathlib.Omega.{arith}
-use native.Mathlib.Numerals.{add-one}
 use native.Mathlib.Decide.{decLt}
 use lib.ListN.{length, getD, take, drop, length-append}
 use lib.Seq.{drop-cons}
@@ -17,6 +16,7 @@ use Rattle.encoding.specs.HeadWords.{InsidePath}
 use Rattle.encoding.specs.Types.{rootOf, pathOf}
 use Rattle.encoding.proofs.Tables.{fixed-inside, fixed-length, length-fixed, length-pair, name-length}
 use Rattle.measure.specs.Lengths.{namesLength, pathLength}
+use Rattle.measure.proofs.PathNames.{part-next, part-none}
 
 -- a name's length is a word of the pairs, or that of a fixed name
 pub name-short : (pairs : List ℕ) → ((i : ℕ) → getD pairs i 0 < 2 ^ 32) → (x : ℕ) → nameLength pairs x < 2 ^ 32
@@ -35,13 +35,11 @@ name-fits pairs h x n e = omega (arith, name-short pairs h x)
 pub names-more : (len : ℕ → ℕ) (ws : List ℕ) (i end : ℕ) → i < end → i < length ws
     → namesLength len (take (end - i) (drop i ws)) ≡ 2 + len (getD ws i 0) + namesLength len (take (end - (i + 1)) (drop (i + 1) ws))
 unfolding namesLength
-names-more len ws i end h l =
-    let e : end - i ≡ suc (end - (i + 1)) = omega arith in
-    rw (e, add-one i, drop-cons ws i 0 l)
+names-more len ws i end h l = rw (part-next ws i end h l)
 
 pub names-none : (len : ℕ → ℕ) (ws : List ℕ) (i end : ℕ) → end ≤ i → namesLength len (take (end - i) (drop i ws)) ≡ 0
 unfolding namesLength
-names-none len ws i end h = let e : end - i ≡ 0 = omega arith in rw e
+names-none len ws i end h = rw (part-none ws i end h)
 
 module _ (ws pairs : List ℕ) (text : Bytes) (good : Good pairs text) where
   names-length : (p : Path Bytes) (n at : ℕ) → at + n ≤ length ws → ((i : ℕ) → at ≤ i → i < at + n → getD ws i 0 < nameCount pairs)

@@ -1,4 +1,5 @@
--- Laws of lengths, of the texts of types, of the pass, and of what it gives.
+-- Laws of lengths, of the names of a path, of the texts of types, of the pass, and of what it gives.
+pub mod PathNames
 pub mod Lengths
 pub mod Texts
 pub mod Rests

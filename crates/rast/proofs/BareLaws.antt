@@ -84,39 +84,28 @@ bare-bare t = free-bare (bare t) (bare-free t)
 
 -- ---- soundness does not see the wrappers
 
+shape-bare : {N : Type 0} (t : Ty N) → (isIntersection (bare t) ≡ isIntersection t) × (isNamed (bare t) ≡ isNamed t)
+unfolding bare isIntersection isNamed
+shape-bare (Primitive p) = (refl, refl)
+shape-bare (TIdentifier x) = (refl, refl)
+shape-bare (TypeFromPath p) = (refl, refl)
+shape-bare (TypeApp b ts) = (refl, refl)
+shape-bare (Borrowed t) = (refl, refl)
+shape-bare (BorrowedMut t) = (refl, refl)
+shape-bare (ImplType t) = (refl, refl)
+shape-bare (DynType t) = (refl, refl)
+shape-bare (TupleType ts) = (refl, refl)
+shape-bare (FnType ts t) = (refl, refl)
+shape-bare (IntersectionType l r) = (refl, refl)
+shape-bare (Array t s) = (refl, refl)
+shape-bare (TSynonym d b) = shape-bare d
+shape-bare (TMetaData d c o) = shape-bare d
+
 pub isIntersection-bare : {N : Type 0} (t : Ty N) → isIntersection (bare t) ≡ isIntersection t
-unfolding bare isIntersection
-isIntersection-bare (Primitive p) = refl
-isIntersection-bare (TIdentifier x) = refl
-isIntersection-bare (TypeFromPath p) = refl
-isIntersection-bare (TypeApp b ts) = refl
-isIntersection-bare (Borrowed t) = refl
-isIntersection-bare (BorrowedMut t) = refl
-isIntersection-bare (ImplType t) = refl
-isIntersection-bare (DynType t) = refl
-isIntersection-bare (TupleType ts) = refl
-isIntersection-bare (FnType ts t) = refl
-isIntersection-bare (IntersectionType l r) = refl
-isIntersection-bare (Array t s) = refl
-isIntersection-bare (TSynonym d b) = isIntersection-bare d
-isIntersection-bare (TMetaData d c o) = isIntersection-bare d
+isIntersection-bare t = shape-bare t .0
 
 pub isNamed-bare : {N : Type 0} (t : Ty N) → isNamed (bare t) ≡ isNamed t
-unfolding bare isNamed
-isNamed-bare (Primitive p) = refl
-isNamed-bare (TIdentifier x) = refl
-isNamed-bare (TypeFromPath p) = refl
-isNamed-bare (TypeApp b ts) = refl
-isNamed-bare (Borrowed t) = refl
-isNamed-bare (BorrowedMut t) = refl
-isNamed-bare (ImplType t) = refl
-isNamed-bare (DynType t) = refl
-isNamed-bare (TupleType ts) = refl
-isNamed-bare (FnType ts t) = refl
-isNamed-bare (IntersectionType l r) = refl
-isNamed-bare (Array t s) = refl
-isNamed-bare (TSynonym d b) = isNamed-bare d
-isNamed-bare (TMetaData d c o) = isNamed-bare d
+isNamed-bare t = shape-bare t .1
 
 pub isEmpty-bares : {N : Type 0} (ts : Tys N) → isEmpty (bares ts) ≡ isEmpty ts
 unfolding bares isEmpty

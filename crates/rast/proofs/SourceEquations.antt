@@ -80,95 +80,71 @@ isWrapper (Array t s) = false
 isWrapper (TSynonym d b) = true
 isWrapper (TMetaData d c o) = true
 
+-- a law between a type and what `Expand` gives: it holds of a type that is no wrapper, and each wrapper keeps it
+pub expand-by : {N : Type 0} (P : Ty N → Ty N → Type 0) → ((t : Ty N) → isWrapper t ≡ false → P t t)
+    → ((d b u : Ty N) → P b u → P (TSynonym d b) u) → ((d u : Ty N) (c o : Bool) → P d u → P (TMetaData d c o) u)
+    → (t : Ty N) → P t (Expand t)
+unfolding isWrapper Expand
+expand-by P h s m (Primitive p) = h (Primitive p) refl
+expand-by P h s m (TIdentifier x) = h (TIdentifier x) refl
+expand-by P h s m (TypeFromPath p) = h (TypeFromPath p) refl
+expand-by P h s m (TypeApp b ts) = h (TypeApp b ts) refl
+expand-by P h s m (Borrowed t) = h (Borrowed t) refl
+expand-by P h s m (BorrowedMut t) = h (BorrowedMut t) refl
+expand-by P h s m (ImplType t) = h (ImplType t) refl
+expand-by P h s m (DynType t) = h (DynType t) refl
+expand-by P h s m (TupleType ts) = h (TupleType ts) refl
+expand-by P h s m (FnType ts t) = h (FnType ts t) refl
+expand-by P h s m (IntersectionType l r) = h (IntersectionType l r) refl
+expand-by P h s m (Array t n) = h (Array t n) refl
+expand-by P h s m (TSynonym d b) = s d b (Expand b) (expand-by P h s m b)
+expand-by P h s m (TMetaData d c o) = m d (Expand d) c o (expand-by P h s m d)
+
 -- the `ensures` of `Expand`: what it gives is no wrapper, and a type that is none is left
 pub expand-opens : {N : Type 0} (t : Ty N) → isWrapper (Expand t) ≡ false
-unfolding isWrapper Expand
-expand-opens (Primitive p) = refl
-expand-opens (TIdentifier x) = refl
-expand-opens (TypeFromPath p) = refl
-expand-opens (TypeApp b ts) = refl
-expand-opens (Borrowed t) = refl
-expand-opens (BorrowedMut t) = refl
-expand-opens (ImplType t) = refl
-expand-opens (DynType t) = refl
-expand-opens (TupleType ts) = refl
-expand-opens (FnType ts t) = refl
-expand-opens (IntersectionType l r) = refl
-expand-opens (Array t s) = refl
-expand-opens (TSynonym d b) = expand-opens b
-expand-opens (TMetaData d c o) = expand-opens d
+expand-opens = expand-by (λ t u. isWrapper u ≡ false) (λ t h. h) (λ d b u h. h) (λ d u c o h. h)
 
 pub expand-leaves : {N : Type 0} (t : Ty N) → isWrapper t ≡ false → Expand t ≡ t
-unfolding isWrapper Expand
-expand-leaves (Primitive p) e = refl
-expand-leaves (TIdentifier x) e = refl
-expand-leaves (TypeFromPath p) e = refl
-expand-leaves (TypeApp b ts) e = refl
-expand-leaves (Borrowed t) e = refl
-expand-leaves (BorrowedMut t) e = refl
-expand-leaves (ImplType t) e = refl
-expand-leaves (DynType t) e = refl
-expand-leaves (TupleType ts) e = refl
-expand-leaves (FnType ts t) e = refl
-expand-leaves (IntersectionType l r) e = refl
-expand-leaves (Array t s) e = refl
-expand-leaves (TSynonym d b) e = never e
-expand-leaves (TMetaData d c o) e = never e
+unfolding isWrapper
+expand-leaves = expand-by (λ t u. isWrapper t ≡ false → u ≡ t) (λ t h e. refl) (λ d b u h e. never e) (λ d u c o h e. never e)
 
 -- the tests say yes of these types and of no others
+no : {A : Type 0} → false ≡ true → A
+no e = never (sym e)
+
+self-path : {N : Type 0} (p : Path N) → isSelfPath p ≡ true → TypeFromPath p ≡ TypeFromPath Self
+unfolding isSelfPath
+self-path Global = no
+self-path Crate = no
+self-path Self = λ e. refl
+self-path (PMemberSelect p x) = no
+
+self-types : {N : Type 0} (t : Ty N)
+    → (isSelfOwned t ≡ true → t ≡ TypeFromPath Self) × (isSelfBorrowed t ≡ true → t ≡ Borrowed (TypeFromPath Self)) × (isSelfBorrowedMut t ≡ true → t ≡ BorrowedMut (TypeFromPath Self))
+unfolding isSelfOwned isSelfBorrowed isSelfBorrowedMut
+self-types (Primitive p) = (no, no, no)
+self-types (TIdentifier x) = (no, no, no)
+self-types (TypeFromPath p) = (self-path p, no, no)
+self-types (TypeApp b ts) = (no, no, no)
+self-types (Borrowed t) = (no, λ e. ap Borrowed (self-types t .0 e), no)
+self-types (BorrowedMut t) = (no, no, λ e. ap BorrowedMut (self-types t .0 e))
+self-types (ImplType t) = (no, no, no)
+self-types (DynType t) = (no, no, no)
+self-types (TupleType ts) = (no, no, no)
+self-types (FnType ts t) = (no, no, no)
+self-types (IntersectionType l r) = (no, no, no)
+self-types (Array t s) = (no, no, no)
+self-types (TSynonym d b) = (no, no, no)
+self-types (TMetaData d c o) = (no, no, no)
+
 pub self-owned : {N : Type 0} (t : Ty N) → isSelfOwned t ≡ true → t ≡ TypeFromPath Self
-unfolding isSelfOwned isSelfPath
-self-owned (Primitive p) e = never (sym e)
-self-owned (TIdentifier x) e = never (sym e)
-self-owned (TypeFromPath Global) e = never (sym e)
-self-owned (TypeFromPath Crate) e = never (sym e)
-self-owned (TypeFromPath Self) e = refl
-self-owned (TypeFromPath (PMemberSelect p x)) e = never (sym e)
-self-owned (TypeApp b ts) e = never (sym e)
-self-owned (Borrowed t) e = never (sym e)
-self-owned (BorrowedMut t) e = never (sym e)
-self-owned (ImplType t) e = never (sym e)
-self-owned (DynType t) e = never (sym e)
-self-owned (TupleType ts) e = never (sym e)
-self-owned (FnType ts t) e = never (sym e)
-self-owned (IntersectionType l r) e = never (sym e)
-self-owned (Array t s) e = never (sym e)
-self-owned (TSynonym d b) e = never (sym e)
-self-owned (TMetaData d c o) e = never (sym e)
+self-owned t = self-types t .0
 
 pub self-borrowed : {N : Type 0} (t : Ty N) → isSelfBorrowed t ≡ true → t ≡ Borrowed (TypeFromPath Self)
-unfolding isSelfBorrowed
-self-borrowed (Primitive p) e = never (sym e)
-self-borrowed (TIdentifier x) e = never (sym e)
-self-borrowed (TypeFromPath p) e = never (sym e)
-self-borrowed (TypeApp b ts) e = never (sym e)
-self-borrowed (Borrowed t) e = ap Borrowed (self-owned t e)
-self-borrowed (BorrowedMut t) e = never (sym e)
-self-borrowed (ImplType t) e = never (sym e)
-self-borrowed (DynType t) e = never (sym e)
-self-borrowed (TupleType ts) e = never (sym e)
-self-borrowed (FnType ts t) e = never (sym e)
-self-borrowed (IntersectionType l r) e = never (sym e)
-self-borrowed (Array t s) e = never (sym e)
-self-borrowed (TSynonym d b) e = never (sym e)
-self-borrowed (TMetaData d c o) e = never (sym e)
+self-borrowed t = self-types t .1
 
 pub self-borrowed-mut : {N : Type 0} (t : Ty N) → isSelfBorrowedMut t ≡ true → t ≡ BorrowedMut (TypeFromPath Self)
-unfolding isSelfBorrowedMut
-self-borrowed-mut (Primitive p) e = never (sym e)
-self-borrowed-mut (TIdentifier x) e = never (sym e)
-self-borrowed-mut (TypeFromPath p) e = never (sym e)
-self-borrowed-mut (TypeApp b ts) e = never (sym e)
-self-borrowed-mut (Borrowed t) e = never (sym e)
-self-borrowed-mut (BorrowedMut t) e = ap BorrowedMut (self-owned t e)
-self-borrowed-mut (ImplType t) e = never (sym e)
-self-borrowed-mut (DynType t) e = never (sym e)
-self-borrowed-mut (TupleType ts) e = never (sym e)
-self-borrowed-mut (FnType ts t) e = never (sym e)
-self-borrowed-mut (IntersectionType l r) e = never (sym e)
-self-borrowed-mut (Array t s) e = never (sym e)
-self-borrowed-mut (TSynonym d b) e = never (sym e)
-self-borrowed-mut (TMetaData d c o) e = never (sym e)
+self-borrowed-mut t = self-types t .2
 
 pub selves : (N : Type 0) → (isSelfOwned {N = N} (TypeFromPath Self) ≡ true) × (isSelfBorrowed {N = N} (Borrowed (TypeFromPath Self)) ≡ true) × (isSelfBorrowedMut {N = N} (BorrowedMut (TypeFromPath Self)) ≡ true)
 unfolding isSelfOwned isSelfPath isSelfBorrowed isSelfBorrowedMut

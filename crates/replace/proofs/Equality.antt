@@ -98,9 +98,6 @@ primitive-small Bool· = refl
 differ : {A : Type 0} (j k : ℕ) → j ≡ k → eqb j k ≡ false → A
 differ j k e d = impossible (let z = eq-eqb j k e in cc)
 
-small : {A : Type 0} (p : PrimitiveTy) (k : ℕ) → primitiveWord p ≡ k → ltb k 12 ≡ false → A
-small p k e d = impossible (let z : ltb k 12 ≡ true = rw (sym e) (primitive-small p) in cc)
-
 flags-once : (c o c′ o′ : Bool) → flagsWord c o ≡ flagsWord c′ o′ → (c ≡ c′) × (o ≡ o′)
 unfolding flagsWord
 flags-once false false false false e = (refl, refl)
@@ -180,222 +177,132 @@ path-once p q xs ys e =
 
 -- ---- types
 
+-- the constructors with several arguments, over all of them at once
+abbrev applied : {N : Type 0} → (Ty N × Tys N) → Ty N
+applied x = TypeApp (x .0) (x .1)
+
+abbrev function : {N : Type 0} → (Tys N × Ty N) → Ty N
+function x = FnType (x .0) (x .1)
+
+abbrev both : {N : Type 0} → (Ty N × Ty N) → Ty N
+both x = IntersectionType (x .0) (x .1)
+
+abbrev array : {N : Type 0} → (Ty N × Option N) → Ty N
+array x = Array (x .0) (x .1)
+
+abbrev synonym : {N : Type 0} → (Ty N × Ty N) → Ty N
+synonym x = TSynonym (x .0) (x .1)
+
+abbrev meta : {N : Type 0} → (Ty N × (Bool × Bool)) → Ty N
+meta x = TMetaData (x .0) (x .1 .0) (x .1 .1)
+
+-- a type that f makes
+record Of {A N : Type 0} (f : A → Ty N) (u : Ty N) : Type 0 where
+  value : A
+  same : u ≡ f value
+
+abbrev choice : Bool → Type 0 → Type 0 → Type 0
+choice true A B = A
+choice false A B = B
+
+-- the type that words beginning with k are written for
+abbrev OfKind : {N : Type 0} → ℕ → Ty N → Type 0
+OfKind k u =
+    choice (ltb k 12) (Of Primitive u)
+    (choice (eqb k 12) (Of TIdentifier u)
+    (choice (eqb k 13) (Of TypeFromPath u)
+    (choice (eqb k 14) (Of applied u)
+    (choice (eqb k 15) (Of Borrowed u)
+    (choice (eqb k 16) (Of BorrowedMut u)
+    (choice (eqb k 17) (Of ImplType u)
+    (choice (eqb k 18) (Of DynType u)
+    (choice (eqb k 19) (Of TupleType u)
+    (choice (eqb k 20) (Of function u)
+    (choice (eqb k 21) (Of both u)
+    (choice (eqb k 22) (Of array u)
+    (choice (eqb k 23) (Of synonym u)
+    (Of meta u)))))))))))))
+
+of-first : {N : Type 0} (u : Ty N) (ys : List (Token N)) → OfKind (firstWord (tokens u ++ ys)) u
+unfolding tokens firstWord
+of-first (Primitive p) ys = rw (primitive-small p) (record { value = p; same = refl })
+of-first (TIdentifier x) ys = record { value = x; same = refl }
+of-first (TypeFromPath p) ys = record { value = p; same = refl }
+of-first (TypeApp b ts) ys = record { value = (b, ts); same = refl }
+of-first (Borrowed t) ys = record { value = t; same = refl }
+of-first (BorrowedMut t) ys = record { value = t; same = refl }
+of-first (ImplType t) ys = record { value = t; same = refl }
+of-first (DynType t) ys = record { value = t; same = refl }
+of-first (TupleType ts) ys = record { value = ts; same = refl }
+of-first (FnType ts t) ys = record { value = (ts, t); same = refl }
+of-first (IntersectionType l r) ys = record { value = (l, r); same = refl }
+of-first (Array t s) ys = record { value = (t, s); same = refl }
+of-first (TSynonym d b) ys = record { value = (d, b); same = refl }
+of-first (TMetaData d c o) ys = record { value = (d, (c, o)); same = refl }
+
+of-kind : {N : Type 0} (u : Ty N) (ys : List (Token N)) (k : ℕ) → k ≡ firstWord (tokens u ++ ys) → OfKind k u
+of-kind u ys k e = rw e (of-first u ys)
+
+-- two types that f makes, from what it makes them of
+made-once : {A N : Type 0} {P : Type 0} (f : A → Ty N) (a : A) {u : Ty N} → Of f u → ((b : A) → u ≡ f b → (a ≡ b) × P) → (f a ≡ u) × P
+made-once f a v h = let k = h (v .value) (v .same) in (ap f (k .0) ∙ sym (v .same), k .1)
+
+pair-once : {A B : Type 0} {a b : A} {c d : B} → a ≡ b → c ≡ d → _≡_ {A = A × B} (a, c) (b, d)
+pair-once {b = b} {c = c} e f = ap (λ x. (x, c)) e ∙ ap (λ y. (b, y)) f
+
 mutual
   unfolding tokens tokensAll count firstWord
 
   type-once : {N : Type 0} (t u : Ty N) (xs ys : List (Token N)) → tokens t ++ xs ≡ tokens u ++ ys → (t ≡ u) × (xs ≡ ys)
-  type-once (Primitive p) (Primitive p′) xs ys e = (ap Primitive (primitive-once p p′ (ap firstWord e)), ap (drop 1) e)
-  type-once (Primitive p) (TIdentifier x′) xs ys e = small p 12 (ap firstWord e) refl
-  type-once (Primitive p) (TypeFromPath p′) xs ys e = small p 13 (ap firstWord e) refl
-  type-once (Primitive p) (TypeApp b′ ts′) xs ys e = small p 14 (ap firstWord e) refl
-  type-once (Primitive p) (Borrowed t′) xs ys e = small p 15 (ap firstWord e) refl
-  type-once (Primitive p) (BorrowedMut t′) xs ys e = small p 16 (ap firstWord e) refl
-  type-once (Primitive p) (ImplType t′) xs ys e = small p 17 (ap firstWord e) refl
-  type-once (Primitive p) (DynType t′) xs ys e = small p 18 (ap firstWord e) refl
-  type-once (Primitive p) (TupleType ts′) xs ys e = small p 19 (ap firstWord e) refl
-  type-once (Primitive p) (FnType ts′ t′) xs ys e = small p 20 (ap firstWord e) refl
-  type-once (Primitive p) (IntersectionType l′ r′) xs ys e = small p 21 (ap firstWord e) refl
-  type-once (Primitive p) (Array t′ s′) xs ys e = small p 22 (ap firstWord e) refl
-  type-once (Primitive p) (TSynonym d′ b′) xs ys e = small p 23 (ap firstWord e) refl
-  type-once (Primitive p) (TMetaData d′ c′ o′) xs ys e = small p 24 (ap firstWord e) refl
-  type-once (TIdentifier x) (Primitive p′) xs ys e = small p′ 12 (sym (ap firstWord e)) refl
-  type-once (TIdentifier x) (TIdentifier x′) xs ys e = let i : x ≡ x′ = cc in (ap TIdentifier i, ap (drop 2) e)
-  type-once (TIdentifier x) (TypeFromPath p′) xs ys e = differ 12 13 (ap firstWord e) refl
-  type-once (TIdentifier x) (TypeApp b′ ts′) xs ys e = differ 12 14 (ap firstWord e) refl
-  type-once (TIdentifier x) (Borrowed t′) xs ys e = differ 12 15 (ap firstWord e) refl
-  type-once (TIdentifier x) (BorrowedMut t′) xs ys e = differ 12 16 (ap firstWord e) refl
-  type-once (TIdentifier x) (ImplType t′) xs ys e = differ 12 17 (ap firstWord e) refl
-  type-once (TIdentifier x) (DynType t′) xs ys e = differ 12 18 (ap firstWord e) refl
-  type-once (TIdentifier x) (TupleType ts′) xs ys e = differ 12 19 (ap firstWord e) refl
-  type-once (TIdentifier x) (FnType ts′ t′) xs ys e = differ 12 20 (ap firstWord e) refl
-  type-once (TIdentifier x) (IntersectionType l′ r′) xs ys e = differ 12 21 (ap firstWord e) refl
-  type-once (TIdentifier x) (Array t′ s′) xs ys e = differ 12 22 (ap firstWord e) refl
-  type-once (TIdentifier x) (TSynonym d′ b′) xs ys e = differ 12 23 (ap firstWord e) refl
-  type-once (TIdentifier x) (TMetaData d′ c′ o′) xs ys e = differ 12 24 (ap firstWord e) refl
-  type-once (TypeFromPath p) (Primitive p′) xs ys e = small p′ 13 (sym (ap firstWord e)) refl
-  type-once (TypeFromPath p) (TIdentifier x′) xs ys e = differ 13 12 (ap firstWord e) refl
-  type-once (TypeFromPath p) (TypeFromPath p′) xs ys e = let k = path-once p p′ xs ys (ap (drop 1) e) in (ap TypeFromPath (k .0), k .1)
-  type-once (TypeFromPath p) (TypeApp b′ ts′) xs ys e = differ 13 14 (ap firstWord e) refl
-  type-once (TypeFromPath p) (Borrowed t′) xs ys e = differ 13 15 (ap firstWord e) refl
-  type-once (TypeFromPath p) (BorrowedMut t′) xs ys e = differ 13 16 (ap firstWord e) refl
-  type-once (TypeFromPath p) (ImplType t′) xs ys e = differ 13 17 (ap firstWord e) refl
-  type-once (TypeFromPath p) (DynType t′) xs ys e = differ 13 18 (ap firstWord e) refl
-  type-once (TypeFromPath p) (TupleType ts′) xs ys e = differ 13 19 (ap firstWord e) refl
-  type-once (TypeFromPath p) (FnType ts′ t′) xs ys e = differ 13 20 (ap firstWord e) refl
-  type-once (TypeFromPath p) (IntersectionType l′ r′) xs ys e = differ 13 21 (ap firstWord e) refl
-  type-once (TypeFromPath p) (Array t′ s′) xs ys e = differ 13 22 (ap firstWord e) refl
-  type-once (TypeFromPath p) (TSynonym d′ b′) xs ys e = differ 13 23 (ap firstWord e) refl
-  type-once (TypeFromPath p) (TMetaData d′ c′ o′) xs ys e = differ 13 24 (ap firstWord e) refl
-  type-once (TypeApp b ts) (Primitive p′) xs ys e = small p′ 14 (sym (ap firstWord e)) refl
-  type-once (TypeApp b ts) (TIdentifier x′) xs ys e = differ 14 12 (ap firstWord e) refl
-  type-once (TypeApp b ts) (TypeFromPath p′) xs ys e = differ 14 13 (ap firstWord e) refl
-  type-once (TypeApp b ts) (TypeApp b′ ts′) xs ys e =
-      let k = type-once b b′ (tokensAll ts ++ xs) (tokensAll ts′ ++ ys) (regroup (tokens b) (tokensAll ts) xs (tokens b′) (tokensAll ts′) ys (ap (drop 2) e)) in
-      let m = types-once ts ts′ xs ys (ap (λ l. firstWord (drop 1 l)) e) (k .1) in
-      (ap (λ v. TypeApp v ts) (k .0) ∙ ap (TypeApp b′) (m .0), m .1)
-  type-once (TypeApp b ts) (Borrowed t′) xs ys e = differ 14 15 (ap firstWord e) refl
-  type-once (TypeApp b ts) (BorrowedMut t′) xs ys e = differ 14 16 (ap firstWord e) refl
-  type-once (TypeApp b ts) (ImplType t′) xs ys e = differ 14 17 (ap firstWord e) refl
-  type-once (TypeApp b ts) (DynType t′) xs ys e = differ 14 18 (ap firstWord e) refl
-  type-once (TypeApp b ts) (TupleType ts′) xs ys e = differ 14 19 (ap firstWord e) refl
-  type-once (TypeApp b ts) (FnType ts′ t′) xs ys e = differ 14 20 (ap firstWord e) refl
-  type-once (TypeApp b ts) (IntersectionType l′ r′) xs ys e = differ 14 21 (ap firstWord e) refl
-  type-once (TypeApp b ts) (Array t′ s′) xs ys e = differ 14 22 (ap firstWord e) refl
-  type-once (TypeApp b ts) (TSynonym d′ b′) xs ys e = differ 14 23 (ap firstWord e) refl
-  type-once (TypeApp b ts) (TMetaData d′ c′ o′) xs ys e = differ 14 24 (ap firstWord e) refl
-  type-once (Borrowed t) (Primitive p′) xs ys e = small p′ 15 (sym (ap firstWord e)) refl
-  type-once (Borrowed t) (TIdentifier x′) xs ys e = differ 15 12 (ap firstWord e) refl
-  type-once (Borrowed t) (TypeFromPath p′) xs ys e = differ 15 13 (ap firstWord e) refl
-  type-once (Borrowed t) (TypeApp b′ ts′) xs ys e = differ 15 14 (ap firstWord e) refl
-  type-once (Borrowed t) (Borrowed t′) xs ys e = let k = type-once t t′ xs ys (ap (drop 1) e) in (ap Borrowed (k .0), k .1)
-  type-once (Borrowed t) (BorrowedMut t′) xs ys e = differ 15 16 (ap firstWord e) refl
-  type-once (Borrowed t) (ImplType t′) xs ys e = differ 15 17 (ap firstWord e) refl
-  type-once (Borrowed t) (DynType t′) xs ys e = differ 15 18 (ap firstWord e) refl
-  type-once (Borrowed t) (TupleType ts′) xs ys e = differ 15 19 (ap firstWord e) refl
-  type-once (Borrowed t) (FnType ts′ t′) xs ys e = differ 15 20 (ap firstWord e) refl
-  type-once (Borrowed t) (IntersectionType l′ r′) xs ys e = differ 15 21 (ap firstWord e) refl
-  type-once (Borrowed t) (Array t′ s′) xs ys e = differ 15 22 (ap firstWord e) refl
-  type-once (Borrowed t) (TSynonym d′ b′) xs ys e = differ 15 23 (ap firstWord e) refl
-  type-once (Borrowed t) (TMetaData d′ c′ o′) xs ys e = differ 15 24 (ap firstWord e) refl
-  type-once (BorrowedMut t) (Primitive p′) xs ys e = small p′ 16 (sym (ap firstWord e)) refl
-  type-once (BorrowedMut t) (TIdentifier x′) xs ys e = differ 16 12 (ap firstWord e) refl
-  type-once (BorrowedMut t) (TypeFromPath p′) xs ys e = differ 16 13 (ap firstWord e) refl
-  type-once (BorrowedMut t) (TypeApp b′ ts′) xs ys e = differ 16 14 (ap firstWord e) refl
-  type-once (BorrowedMut t) (Borrowed t′) xs ys e = differ 16 15 (ap firstWord e) refl
-  type-once (BorrowedMut t) (BorrowedMut t′) xs ys e = let k = type-once t t′ xs ys (ap (drop 1) e) in (ap BorrowedMut (k .0), k .1)
-  type-once (BorrowedMut t) (ImplType t′) xs ys e = differ 16 17 (ap firstWord e) refl
-  type-once (BorrowedMut t) (DynType t′) xs ys e = differ 16 18 (ap firstWord e) refl
-  type-once (BorrowedMut t) (TupleType ts′) xs ys e = differ 16 19 (ap firstWord e) refl
-  type-once (BorrowedMut t) (FnType ts′ t′) xs ys e = differ 16 20 (ap firstWord e) refl
-  type-once (BorrowedMut t) (IntersectionType l′ r′) xs ys e = differ 16 21 (ap firstWord e) refl
-  type-once (BorrowedMut t) (Array t′ s′) xs ys e = differ 16 22 (ap firstWord e) refl
-  type-once (BorrowedMut t) (TSynonym d′ b′) xs ys e = differ 16 23 (ap firstWord e) refl
-  type-once (BorrowedMut t) (TMetaData d′ c′ o′) xs ys e = differ 16 24 (ap firstWord e) refl
-  type-once (ImplType t) (Primitive p′) xs ys e = small p′ 17 (sym (ap firstWord e)) refl
-  type-once (ImplType t) (TIdentifier x′) xs ys e = differ 17 12 (ap firstWord e) refl
-  type-once (ImplType t) (TypeFromPath p′) xs ys e = differ 17 13 (ap firstWord e) refl
-  type-once (ImplType t) (TypeApp b′ ts′) xs ys e = differ 17 14 (ap firstWord e) refl
-  type-once (ImplType t) (Borrowed t′) xs ys e = differ 17 15 (ap firstWord e) refl
-  type-once (ImplType t) (BorrowedMut t′) xs ys e = differ 17 16 (ap firstWord e) refl
-  type-once (ImplType t) (ImplType t′) xs ys e = let k = type-once t t′ xs ys (ap (drop 1) e) in (ap ImplType (k .0), k .1)
-  type-once (ImplType t) (DynType t′) xs ys e = differ 17 18 (ap firstWord e) refl
-  type-once (ImplType t) (TupleType ts′) xs ys e = differ 17 19 (ap firstWord e) refl
-  type-once (ImplType t) (FnType ts′ t′) xs ys e = differ 17 20 (ap firstWord e) refl
-  type-once (ImplType t) (IntersectionType l′ r′) xs ys e = differ 17 21 (ap firstWord e) refl
-  type-once (ImplType t) (Array t′ s′) xs ys e = differ 17 22 (ap firstWord e) refl
-  type-once (ImplType t) (TSynonym d′ b′) xs ys e = differ 17 23 (ap firstWord e) refl
-  type-once (ImplType t) (TMetaData d′ c′ o′) xs ys e = differ 17 24 (ap firstWord e) refl
-  type-once (DynType t) (Primitive p′) xs ys e = small p′ 18 (sym (ap firstWord e)) refl
-  type-once (DynType t) (TIdentifier x′) xs ys e = differ 18 12 (ap firstWord e) refl
-  type-once (DynType t) (TypeFromPath p′) xs ys e = differ 18 13 (ap firstWord e) refl
-  type-once (DynType t) (TypeApp b′ ts′) xs ys e = differ 18 14 (ap firstWord e) refl
-  type-once (DynType t) (Borrowed t′) xs ys e = differ 18 15 (ap firstWord e) refl
-  type-once (DynType t) (BorrowedMut t′) xs ys e = differ 18 16 (ap firstWord e) refl
-  type-once (DynType t) (ImplType t′) xs ys e = differ 18 17 (ap firstWord e) refl
-  type-once (DynType t) (DynType t′) xs ys e = let k = type-once t t′ xs ys (ap (drop 1) e) in (ap DynType (k .0), k .1)
-  type-once (DynType t) (TupleType ts′) xs ys e = differ 18 19 (ap firstWord e) refl
-  type-once (DynType t) (FnType ts′ t′) xs ys e = differ 18 20 (ap firstWord e) refl
-  type-once (DynType t) (IntersectionType l′ r′) xs ys e = differ 18 21 (ap firstWord e) refl
-  type-once (DynType t) (Array t′ s′) xs ys e = differ 18 22 (ap firstWord e) refl
-  type-once (DynType t) (TSynonym d′ b′) xs ys e = differ 18 23 (ap firstWord e) refl
-  type-once (DynType t) (TMetaData d′ c′ o′) xs ys e = differ 18 24 (ap firstWord e) refl
-  type-once (TupleType ts) (Primitive p′) xs ys e = small p′ 19 (sym (ap firstWord e)) refl
-  type-once (TupleType ts) (TIdentifier x′) xs ys e = differ 19 12 (ap firstWord e) refl
-  type-once (TupleType ts) (TypeFromPath p′) xs ys e = differ 19 13 (ap firstWord e) refl
-  type-once (TupleType ts) (TypeApp b′ ts′) xs ys e = differ 19 14 (ap firstWord e) refl
-  type-once (TupleType ts) (Borrowed t′) xs ys e = differ 19 15 (ap firstWord e) refl
-  type-once (TupleType ts) (BorrowedMut t′) xs ys e = differ 19 16 (ap firstWord e) refl
-  type-once (TupleType ts) (ImplType t′) xs ys e = differ 19 17 (ap firstWord e) refl
-  type-once (TupleType ts) (DynType t′) xs ys e = differ 19 18 (ap firstWord e) refl
-  type-once (TupleType ts) (TupleType ts′) xs ys e = let m = types-once ts ts′ xs ys (ap (λ l. firstWord (drop 1 l)) e) (ap (drop 2) e) in (ap TupleType (m .0), m .1)
-  type-once (TupleType ts) (FnType ts′ t′) xs ys e = differ 19 20 (ap firstWord e) refl
-  type-once (TupleType ts) (IntersectionType l′ r′) xs ys e = differ 19 21 (ap firstWord e) refl
-  type-once (TupleType ts) (Array t′ s′) xs ys e = differ 19 22 (ap firstWord e) refl
-  type-once (TupleType ts) (TSynonym d′ b′) xs ys e = differ 19 23 (ap firstWord e) refl
-  type-once (TupleType ts) (TMetaData d′ c′ o′) xs ys e = differ 19 24 (ap firstWord e) refl
-  type-once (FnType ts t) (Primitive p′) xs ys e = small p′ 20 (sym (ap firstWord e)) refl
-  type-once (FnType ts t) (TIdentifier x′) xs ys e = differ 20 12 (ap firstWord e) refl
-  type-once (FnType ts t) (TypeFromPath p′) xs ys e = differ 20 13 (ap firstWord e) refl
-  type-once (FnType ts t) (TypeApp b′ ts′) xs ys e = differ 20 14 (ap firstWord e) refl
-  type-once (FnType ts t) (Borrowed t′) xs ys e = differ 20 15 (ap firstWord e) refl
-  type-once (FnType ts t) (BorrowedMut t′) xs ys e = differ 20 16 (ap firstWord e) refl
-  type-once (FnType ts t) (ImplType t′) xs ys e = differ 20 17 (ap firstWord e) refl
-  type-once (FnType ts t) (DynType t′) xs ys e = differ 20 18 (ap firstWord e) refl
-  type-once (FnType ts t) (TupleType ts′) xs ys e = differ 20 19 (ap firstWord e) refl
-  type-once (FnType ts t) (FnType ts′ t′) xs ys e =
-      let m = types-once ts ts′ (tokens t ++ xs) (tokens t′ ++ ys) (ap (λ l. firstWord (drop 1 l)) e) (regroup (tokensAll ts) (tokens t) xs (tokensAll ts′) (tokens t′) ys (ap (drop 2) e)) in
-      let k = type-once t t′ xs ys (m .1) in
-      (ap (λ v. FnType v t) (m .0) ∙ ap (FnType ts′) (k .0), k .1)
-  type-once (FnType ts t) (IntersectionType l′ r′) xs ys e = differ 20 21 (ap firstWord e) refl
-  type-once (FnType ts t) (Array t′ s′) xs ys e = differ 20 22 (ap firstWord e) refl
-  type-once (FnType ts t) (TSynonym d′ b′) xs ys e = differ 20 23 (ap firstWord e) refl
-  type-once (FnType ts t) (TMetaData d′ c′ o′) xs ys e = differ 20 24 (ap firstWord e) refl
-  type-once (IntersectionType l r) (Primitive p′) xs ys e = small p′ 21 (sym (ap firstWord e)) refl
-  type-once (IntersectionType l r) (TIdentifier x′) xs ys e = differ 21 12 (ap firstWord e) refl
-  type-once (IntersectionType l r) (TypeFromPath p′) xs ys e = differ 21 13 (ap firstWord e) refl
-  type-once (IntersectionType l r) (TypeApp b′ ts′) xs ys e = differ 21 14 (ap firstWord e) refl
-  type-once (IntersectionType l r) (Borrowed t′) xs ys e = differ 21 15 (ap firstWord e) refl
-  type-once (IntersectionType l r) (BorrowedMut t′) xs ys e = differ 21 16 (ap firstWord e) refl
-  type-once (IntersectionType l r) (ImplType t′) xs ys e = differ 21 17 (ap firstWord e) refl
-  type-once (IntersectionType l r) (DynType t′) xs ys e = differ 21 18 (ap firstWord e) refl
-  type-once (IntersectionType l r) (TupleType ts′) xs ys e = differ 21 19 (ap firstWord e) refl
-  type-once (IntersectionType l r) (FnType ts′ t′) xs ys e = differ 21 20 (ap firstWord e) refl
-  type-once (IntersectionType l r) (IntersectionType l′ r′) xs ys e =
-      let k = type-once l l′ (tokens r ++ xs) (tokens r′ ++ ys) (regroup (tokens l) (tokens r) xs (tokens l′) (tokens r′) ys (ap (drop 1) e)) in
-      let m = type-once r r′ xs ys (k .1) in
-      (ap (λ v. IntersectionType v r) (k .0) ∙ ap (IntersectionType l′) (m .0), m .1)
-  type-once (IntersectionType l r) (Array t′ s′) xs ys e = differ 21 22 (ap firstWord e) refl
-  type-once (IntersectionType l r) (TSynonym d′ b′) xs ys e = differ 21 23 (ap firstWord e) refl
-  type-once (IntersectionType l r) (TMetaData d′ c′ o′) xs ys e = differ 21 24 (ap firstWord e) refl
-  type-once (Array t s) (Primitive p′) xs ys e = small p′ 22 (sym (ap firstWord e)) refl
-  type-once (Array t s) (TIdentifier x′) xs ys e = differ 22 12 (ap firstWord e) refl
-  type-once (Array t s) (TypeFromPath p′) xs ys e = differ 22 13 (ap firstWord e) refl
-  type-once (Array t s) (TypeApp b′ ts′) xs ys e = differ 22 14 (ap firstWord e) refl
-  type-once (Array t s) (Borrowed t′) xs ys e = differ 22 15 (ap firstWord e) refl
-  type-once (Array t s) (BorrowedMut t′) xs ys e = differ 22 16 (ap firstWord e) refl
-  type-once (Array t s) (ImplType t′) xs ys e = differ 22 17 (ap firstWord e) refl
-  type-once (Array t s) (DynType t′) xs ys e = differ 22 18 (ap firstWord e) refl
-  type-once (Array t s) (TupleType ts′) xs ys e = differ 22 19 (ap firstWord e) refl
-  type-once (Array t s) (FnType ts′ t′) xs ys e = differ 22 20 (ap firstWord e) refl
-  type-once (Array t s) (IntersectionType l′ r′) xs ys e = differ 22 21 (ap firstWord e) refl
-  type-once (Array t s) (Array t′ s′) xs ys e = let i : s ≡ s′ = cc in let k = type-once t t′ xs ys (ap (drop 2) e) in (ap (λ v. Array v s) (k .0) ∙ ap (Array t′) i, k .1)
-  type-once (Array t s) (TSynonym d′ b′) xs ys e = differ 22 23 (ap firstWord e) refl
-  type-once (Array t s) (TMetaData d′ c′ o′) xs ys e = differ 22 24 (ap firstWord e) refl
-  type-once (TSynonym d b) (Primitive p′) xs ys e = small p′ 23 (sym (ap firstWord e)) refl
-  type-once (TSynonym d b) (TIdentifier x′) xs ys e = differ 23 12 (ap firstWord e) refl
-  type-once (TSynonym d b) (TypeFromPath p′) xs ys e = differ 23 13 (ap firstWord e) refl
-  type-once (TSynonym d b) (TypeApp b′ ts′) xs ys e = differ 23 14 (ap firstWord e) refl
-  type-once (TSynonym d b) (Borrowed t′) xs ys e = differ 23 15 (ap firstWord e) refl
-  type-once (TSynonym d b) (BorrowedMut t′) xs ys e = differ 23 16 (ap firstWord e) refl
-  type-once (TSynonym d b) (ImplType t′) xs ys e = differ 23 17 (ap firstWord e) refl
-  type-once (TSynonym d b) (DynType t′) xs ys e = differ 23 18 (ap firstWord e) refl
-  type-once (TSynonym d b) (TupleType ts′) xs ys e = differ 23 19 (ap firstWord e) refl
-  type-once (TSynonym d b) (FnType ts′ t′) xs ys e = differ 23 20 (ap firstWord e) refl
-  type-once (TSynonym d b) (IntersectionType l′ r′) xs ys e = differ 23 21 (ap firstWord e) refl
-  type-once (TSynonym d b) (Array t′ s′) xs ys e = differ 23 22 (ap firstWord e) refl
-  type-once (TSynonym d b) (TSynonym d′ b′) xs ys e =
-      let k = type-once d d′ (tokens b ++ xs) (tokens b′ ++ ys) (regroup (tokens d) (tokens b) xs (tokens d′) (tokens b′) ys (ap (drop 1) e)) in
-      let m = type-once b b′ xs ys (k .1) in
-      (ap (λ v. TSynonym v b) (k .0) ∙ ap (TSynonym d′) (m .0), m .1)
-  type-once (TSynonym d b) (TMetaData d′ c′ o′) xs ys e = differ 23 24 (ap firstWord e) refl
-  type-once (TMetaData d c o) (Primitive p′) xs ys e = small p′ 24 (sym (ap firstWord e)) refl
-  type-once (TMetaData d c o) (TIdentifier x′) xs ys e = differ 24 12 (ap firstWord e) refl
-  type-once (TMetaData d c o) (TypeFromPath p′) xs ys e = differ 24 13 (ap firstWord e) refl
-  type-once (TMetaData d c o) (TypeApp b′ ts′) xs ys e = differ 24 14 (ap firstWord e) refl
-  type-once (TMetaData d c o) (Borrowed t′) xs ys e = differ 24 15 (ap firstWord e) refl
-  type-once (TMetaData d c o) (BorrowedMut t′) xs ys e = differ 24 16 (ap firstWord e) refl
-  type-once (TMetaData d c o) (ImplType t′) xs ys e = differ 24 17 (ap firstWord e) refl
-  type-once (TMetaData d c o) (DynType t′) xs ys e = differ 24 18 (ap firstWord e) refl
-  type-once (TMetaData d c o) (TupleType ts′) xs ys e = differ 24 19 (ap firstWord e) refl
-  type-once (TMetaData d c o) (FnType ts′ t′) xs ys e = differ 24 20 (ap firstWord e) refl
-  type-once (TMetaData d c o) (IntersectionType l′ r′) xs ys e = differ 24 21 (ap firstWord e) refl
-  type-once (TMetaData d c o) (Array t′ s′) xs ys e = differ 24 22 (ap firstWord e) refl
-  type-once (TMetaData d c o) (TSynonym d′ b′) xs ys e = differ 24 23 (ap firstWord e) refl
-  type-once (TMetaData d c o) (TMetaData d′ c′ o′) xs ys e =
-      let w : flagsWord c o ≡ flagsWord c′ o′ = ap (λ l. firstWord (drop 1 l)) e in
-      let f = flags-once c o c′ o′ w in
-      let k = type-once d d′ xs ys (ap (drop 2) e) in
-      (ap (λ v. TMetaData v c o) (k .0) ∙ ap (λ v. TMetaData d′ v o) (f .0) ∙ ap (TMetaData d′ c′) (f .1), k .1)
+  type-once (Primitive p) u xs ys e =
+      made-once Primitive p (rw (primitive-small p) at (of-kind u ys (primitiveWord p) (ap firstWord e)))
+      (λ q s. let d = rw s at e in (primitive-once p q (ap firstWord d), ap (drop 1) d))
+  type-once (TIdentifier x) u xs ys e =
+      made-once TIdentifier x (of-kind u ys 12 (ap firstWord e)) (λ y s. let d = rw s at e in let i : x ≡ y = cc in (i, ap (drop 2) d))
+  type-once (TypeFromPath p) u xs ys e =
+      made-once TypeFromPath p (of-kind u ys 13 (ap firstWord e)) (λ q s. path-once p q xs ys (ap (drop 1) (rw s at e)))
+  type-once (TypeApp b ts) u xs ys e =
+      made-once applied (b, ts) (of-kind u ys 14 (ap firstWord e)) λ x s.
+      let d = rw s at e in
+      let k = type-once b (x .0) (tokensAll ts ++ xs) (tokensAll (x .1) ++ ys) (regroup (tokens b) (tokensAll ts) xs (tokens (x .0)) (tokensAll (x .1)) ys (ap (drop 2) d)) in
+      let m = types-once ts (x .1) xs ys (ap (λ l. firstWord (drop 1 l)) d) (k .1) in
+      (pair-once (k .0) (m .0), m .1)
+  type-once (Borrowed t) u xs ys e = made-once Borrowed t (of-kind u ys 15 (ap firstWord e)) (λ v s. type-once t v xs ys (ap (drop 1) (rw s at e)))
+  type-once (BorrowedMut t) u xs ys e = made-once BorrowedMut t (of-kind u ys 16 (ap firstWord e)) (λ v s. type-once t v xs ys (ap (drop 1) (rw s at e)))
+  type-once (ImplType t) u xs ys e = made-once ImplType t (of-kind u ys 17 (ap firstWord e)) (λ v s. type-once t v xs ys (ap (drop 1) (rw s at e)))
+  type-once (DynType t) u xs ys e = made-once DynType t (of-kind u ys 18 (ap firstWord e)) (λ v s. type-once t v xs ys (ap (drop 1) (rw s at e)))
+  type-once (TupleType ts) u xs ys e =
+      made-once TupleType ts (of-kind u ys 19 (ap firstWord e))
+      (λ us s. let d = rw s at e in types-once ts us xs ys (ap (λ l. firstWord (drop 1 l)) d) (ap (drop 2) d))
+  type-once (FnType ts t) u xs ys e =
+      made-once function (ts, t) (of-kind u ys 20 (ap firstWord e)) λ x s.
+      let d = rw s at e in
+      let m = types-once ts (x .0) (tokens t ++ xs) (tokens (x .1) ++ ys) (ap (λ l. firstWord (drop 1 l)) d) (regroup (tokensAll ts) (tokens t) xs (tokensAll (x .0)) (tokens (x .1)) ys (ap (drop 2) d)) in
+      let k = type-once t (x .1) xs ys (m .1) in
+      (pair-once (m .0) (k .0), k .1)
+  type-once (IntersectionType l r) u xs ys e =
+      made-once both (l, r) (of-kind u ys 21 (ap firstWord e)) λ x s.
+      let k = type-once l (x .0) (tokens r ++ xs) (tokens (x .1) ++ ys) (regroup (tokens l) (tokens r) xs (tokens (x .0)) (tokens (x .1)) ys (ap (drop 1) (rw s at e))) in
+      let m = type-once r (x .1) xs ys (k .1) in
+      (pair-once (k .0) (m .0), m .1)
+  type-once (Array t n) u xs ys e =
+      made-once array (t, n) (of-kind u ys 22 (ap firstWord e)) λ x s.
+      let d = rw s at e in
+      let k = type-once t (x .0) xs ys (ap (drop 2) d) in
+      let i : n ≡ x .1 = cc in
+      (pair-once (k .0) i, k .1)
+  type-once (TSynonym t b) u xs ys e =
+      made-once synonym (t, b) (of-kind u ys 23 (ap firstWord e)) λ x s.
+      let k = type-once t (x .0) (tokens b ++ xs) (tokens (x .1) ++ ys) (regroup (tokens t) (tokens b) xs (tokens (x .0)) (tokens (x .1)) ys (ap (drop 1) (rw s at e))) in
+      let m = type-once b (x .1) xs ys (k .1) in
+      (pair-once (k .0) (m .0), m .1)
+  type-once (TMetaData t c o) u xs ys e =
+      made-once meta (t, (c, o)) (of-kind u ys 24 (ap firstWord e)) λ x s.
+      let d = rw s at e in
+      let w : flagsWord c o ≡ flagsWord (x .1 .0) (x .1 .1) = ap (λ l. firstWord (drop 1 l)) d in
+      let f = flags-once c o (x .1 .0) (x .1 .1) w in
+      let k = type-once t (x .0) xs ys (ap (drop 2) d) in
+      (pair-once (k .0) (pair-once (f .0) (f .1)), k .1)
 
   types-once : {N : Type 0} (ts us : Tys N) (xs ys : List (Token N)) → count ts ≡ count us → tokensAll ts ++ xs ≡ tokensAll us ++ ys → (ts ≡ us) × (xs ≡ ys)
   types-once nil nil xs ys c e = (refl, e)

@@ -22,6 +22,7 @@ use Rattle.soundness.specs.declared.NameCheck.the-variants.{Fine, Poor, 
 use Rattle.soundness.specs.Judging.{letters, beginsExcluded, WordBytes, Known, unlessJudged, Checked, fine, poor, no-name}
 use Rattle.encoding.proofs.Tables.{impossible, everyBelow, every-at, same-eq, name-fixed}
 use Rattle.encoding.proofs.Names.{beq-eq}
+use Rattle.measure.proofs.PathNames.{part-next, part-none}
 
 pub or-false : (a : Bool) → (a or false) ≡ a
 or-false true = refl
@@ -50,11 +51,11 @@ each-end f l i h = rw (drop-of-length-le l h)
 module _ (f : ℕ → Bool) (l : Bytes) (end : ℕ) where
   pub part-more : (i : ℕ) → i < end → i < length l → each f (take (end - i) (drop i l)) ≡ (f (getD l i 0) and each f (take (end - (i + 1)) (drop (i + 1) l)))
   unfolding each
-  part-more i h k = let e : end - i ≡ suc (end - (i + 1)) = omega arith in rw (e, drop-cons l i 0 k, add-one i)
+  part-more i h k = rw (part-next l i end h k)
 
   pub part-end : (i : ℕ) → end ≤ i → each f (take (end - i) (drop i l)) ≡ true
   unfolding each
-  part-end i h = let e : end - i ≡ 0 = omega arith in rw e
+  part-end i h = rw (part-none l i end h)
 
   -- bytes that are as f says can be passed over
   pub part-past : (k i : ℕ) → i + k ≤ length l → ((j : ℕ) → i ≤ j → j < i + k → f (getD l j 0) ≡ true)
@@ -71,11 +72,11 @@ module _ (f : ℕ → Bool) (l : Bytes) (end : ℕ) where
 pub word-part : (l : Bytes) (start end : ℕ) → start < end → start < length l
     → isWord (take (end - start) (drop start l)) ≡ (isWordStart (getD l start 0) and each isWordByte (take (end - (start + 1)) (drop (start + 1) l)))
 unfolding isWord
-word-part l start end h k = let e : end - start ≡ suc (end - (start + 1)) = omega arith in rw (e, drop-cons l start 0 k, add-one start)
+word-part l start end h k = rw (part-next l start end h k)
 
 pub no-word : (l : Bytes) (start end : ℕ) → end ≤ start → isWord (take (end - start) (drop start l)) ≡ false
 unfolding isWord
-no-word l start end h = let e : end - start ≡ 0 = omega arith in rw e
+no-word l start end h = rw (part-none l start end h)
 
 -- a byte that is strange in none of four ways
 pub word-byte : (x a b c d : ℕ) → _≡_ {A = ℕ} a (pick (within 65 90 x) 1 0) → _≡_ {A = ℕ} b (pick (within 97 122 x) 1 0) → _≡_ {A = ℕ} c (pick (within 95 95 x) 1 0) → _≡_ {A = ℕ} d (pick (within 48 57 x) 1 0)

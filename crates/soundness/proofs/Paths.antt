@@ -1,13 +1,11 @@
 -- Laws of paths.
-use Prim.Native.Nat.{ℕ, suc, _+_, _-_, _≤_, _<_}
+use Prim.Native.Nat.{ℕ, _+_, _-_, _≤_, _<_}
 use mathlib.Core.Path.{_≡_, refl, ap, sym, _∙_, subst}
 use mathlib.Core.Bool.{Bool, true, false, not}
 use mathlib.Core.List.{List, [], _∷_, map}
 use native.Mathlib.Omega.{arith}
-use native.Mathlib.Numerals.{add-one}
 use lib.Dec.{eqb}
 use lib.ListN.{length, getD, take, drop}
-use lib.Seq.{drop-cons}
 use Rattle.rast.specs.Bytes.{Bytes, _and_}
 use Rattle.rast.specs.Tree.{Path, Global, Crate, Self, PMemberSelect, MSels}
 use Rattle.rast.specs.Sound.{soundName, soundNames, isGlobal, soundPath}
@@ -23,8 +21,9 @@ use Rattle.encoding.specs.Types.{rootOf, pathOf}
 use Rattle.encoding.proofs.Tables.{impossible}
 use Rattle.encoding.proofs.Types.{bind-got, made-got}
 use Rattle.encoding.proofs.Inside.{Holds, Names, names-hold, below-there}
-use Rattle.encoding.proofs.Reading.{below-in, below-out, names-more as reads-more, names-stop as reads-stop, names-none as reads-none}
+use Rattle.encoding.proofs.Reading.{below-in, below-out}
 use Rattle.measure.specs.Lengths.{worded, namesPath, headOfPath}
+use Rattle.measure.proofs.PathNames.{part-next, part-none, NamesTo, names-on, names-halt, names-all}
 use Rattle.output.proofs.Laws.{part-length}
 use Rattle.soundness.specs.declared.OwnScan.{OwnScan}
 use Rattle.soundness.specs.declared.OwnScan.the-variants.{Leaf, NotSound, NoNode}
@@ -38,15 +37,11 @@ use Rattle.soundness.proofs.Scans.{scanned-leaf, scanned-unsound, scann
 names-more : (name : ℕ → Bytes) (ws : List ℕ) (i end : ℕ) → i < end → i < length ws
     → allNamesSound name (take (end - i) (drop i ws)) ≡ (soundName (name (getD ws i 0)) and allNamesSound name (take (end - (i + 1)) (drop (i + 1) ws)))
 unfolding allNamesSound
-names-more name ws i end h l =
-    let e : end - i ≡ suc (end - (i + 1)) = omega arith in
-    rw (e, drop-cons ws i 0 l, add-one i)
+names-more name ws i end h l = rw (part-next ws i end h l)
 
 names-end : (name : ℕ → Bytes) (ws : List ℕ) (i end : ℕ) → end ≤ i → allNamesSound name (take (end - i) (drop i ws)) ≡ true
 unfolding allNamesSound
-names-end name ws i end h =
-    let e : end - i ≡ 0 = omega arith in
-    rw e
+names-end name ws i end h = rw (part-none ws i end h)
 
 -- ---- a whole path
 
@@ -129,14 +124,15 @@ module _ (bound : ℕ) (ws : List ℕ) (name : ℕ → Bytes) (ask start end : �
   }
 
   module _ {i : ℕ} (o : Onward bound ws name ask start end i) where
+    names-to : NamesTo bound ws start end i
+    names-to = record { within = o .within; inside = o .inside; read = o .read }
+
     pub onward-more : i < end → i < length ws → getD ws i 0 < bound → unlessJudged ask (soundName (name (getD ws i 0))) ≡ true → Onward bound ws name ask start end (i + 1)
     onward-more h k b s = record {
       after = omega (arith, o .after);
       within = omega arith;
       inside = omega arith;
-      read =
-          ap (λ n. readNames bound ws n (i + 1)) (let e : end - (i + 1) ≡ end - i - 1 = omega arith in e)
-          ∙ sym (reads-more bound ws i (end - i) _ _ (omega arith) (below-in bound ws i k b)) ∙ o .read;
+      read = names-on bound ws start end i names-to h (below-in bound ws i k b) .read;
       fit = sym (judged-next ask (soundName (name (getD ws i 0))) (allNamesSound name (take (end - (i + 1)) (drop (i + 1) ws))) s) ∙ ap (unlessJudged ask) (sym (names-more name ws i end h k)) ∙ o .fit;
     }
 
@@ -145,10 +141,10 @@ module _ (bound : ℕ) (ws : List ℕ) (name : ℕ → Bytes) (ask start end : �
     onward-poor h k s = sym (o .fit) ∙ ap (unlessJudged ask) (names-more name ws i end h k) ∙ judged-poor ask (soundName (name (getD ws i 0))) (allNamesSound name (take (end - (i + 1)) (drop (i + 1) ws))) s
 
     pub onward-stop : {r : Refusal} → i < end → readBelow bound ws i ≡ stop r → readNames bound ws (end - start) start ≡ stop r
-    onward-stop h e = sym (o .read) ∙ reads-stop bound ws i (end - i) _ (omega arith) e
+    onward-stop = names-halt bound ws start end i names-to
 
     pub onward-end : i ≡ end → readNames bound ws (end - start) start ≡ got tt end
-    onward-end e = sym (o .read) ∙ reads-none bound ws i (end - i) (omega arith) ∙ rw e
+    onward-end e = names-all bound ws start end i names-to (omega arith)
 
     pub onward-fit : i ≡ end → unlessJudged ask (allNamesSound name (take (end - start) (drop start ws))) ≡ true
     unfolding unlessJudged

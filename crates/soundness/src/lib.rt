@@ -277,9 +277,8 @@ fn sound_name(pairs: &[u32], text: &[u8], name: u32) -> bool
     if name < 16 {
         return name != 0;
     }
-    let i = (name - 16) as usize;
-    let start = pairs[2 * i] as usize;
-    let end = start + pairs[2 * i + 1] as usize;
+    let start = encoding::pair_word(pairs, name, 0);
+    let end = start + encoding::pair_word(pairs, name, 1);
     if is_word(text, start, end) {
         return !is_excluded(encoding::part(text, start, end));
     }

@@ -1,7 +1,7 @@
 use mathlib.Core.Path.{refl}
 use Rattle.encoding.specs.declared.Head.the-variants.{Ref, RefMut, Impl, Dyn, Both, Synonym}
 use Rattle.encoding.specs.Heads.{headAfter}
-use Rattle.encoding.proofs.Heads.{head-other, past-six}
+use Rattle.encoding.proofs.Heads.{head-none}
 use Rattle.acceptance.proofs.Scans.{scanned-node, scanned-stop, scanned-as}
 use native.Mathlib.Omega.{arith}
 use borrow.Author.Needs.{needs}
@@ -86,12 +86,8 @@ returns-13 c = scanned-as (rw (c .before .match .keys13)) (c .own-one2 .ensures 
 
 returns-14 : tie.Need-returns-14
 returns-14 c =
-    let s = c .before .before in
-    let a = s .args in
-    let six = past-six (a .w) 12 (s .pre .0) (c .match .rest .0 .0 .0 .0 .0 .0 .0 .0 .0 .0 .0 .0 .1) (c .match .rest .0 .0 .0 .0 .0 .0 .0 .0 .0 .0 .0 .1) (c .match .rest .0 .0 .0 .0 .0 .0 .0 .0 .0 .0 .1) (c .match .rest .0 .0 .0 .0 .0 .0 .0 .0 .0 .1) (c .match .rest .0 .0 .0 .0 .0 .0 .0 .0 .1) (c .match .rest .0 .0 .0 .0 .0 .0 .0 .1) in
-    let twelve = past-six (a .w) 18 six (c .match .rest .0 .0 .0 .0 .0 .0 .1) (c .match .rest .0 .0 .0 .0 .0 .1) (c .match .rest .0 .0 .0 .0 .1) (c .match .rest .0 .0 .0 .1) (c .match .rest .0 .0 .1) (c .match .rest .0 .1) in
-    let last = (c .match .rest .1) in
-    scanned-stop (head-other (a .bound) (a .words .now) (a .w) (a .at) (omega arith)) refl
+    let a = c .before .before .args in
+    scanned-stop (head-none (a .bound) (a .words .now) (a .w) (a .at) (c .before .before .pre .0) (c .match .rest)) refl
 
 pub own-after-spec : {M : Type 1} → statement M
 own-after-spec =

@@ -3,8 +3,7 @@ use mathlib.Core.Path.{_∙_}
 use Rattle.encoding.specs.Reading.{readBelow, readWord}
 use Rattle.encoding.specs.Heads.{headAfter}
 use Rattle.encoding.specs.Scans.{headOf}
-use Rattle.encoding.proofs.Heads.{head-worded, head-other, past-six}
-use native.Mathlib.Omega.{arith}
+use Rattle.encoding.proofs.Heads.{head-worded, head-none}
 use borrow.Author.Needs.{needs}
 use Rattle.encoding.proofs.scan_after.Statement.{statement}
 use Rattle.encoding.proofs.scan_after.Tie as tie
@@ -118,10 +117,7 @@ returns-13 c =
 returns-14 : tie.Need-returns-14
 returns-14 c =
     let a = c .before .before .args in
-    let six = past-six (a .w) 12 (c .before .before .pre .0) (c .match .rest .0 .0 .0 .0 .0 .0 .0 .0 .0 .0 .0 .0 .1) (c .match .rest .0 .0 .0 .0 .0 .0 .0 .0 .0 .0 .0 .1) (c .match .rest .0 .0 .0 .0 .0 .0 .0 .0 .0 .0 .1) (c .match .rest .0 .0 .0 .0 .0 .0 .0 .0 .0 .1) (c .match .rest .0 .0 .0 .0 .0 .0 .0 .0 .1) (c .match .rest .0 .0 .0 .0 .0 .0 .0 .1) in
-    let twelve = past-six (a .w) 18 six (c .match .rest .0 .0 .0 .0 .0 .0 .1) (c .match .rest .0 .0 .0 .0 .0 .1) (c .match .rest .0 .0 .0 .0 .1) (c .match .rest .0 .0 .0 .1) (c .match .rest .0 .0 .1) (c .match .rest .0 .1) in
-    let last = (c .match .rest .1) in
-    rw (head-other (a .bound) (a .words .now) (a .w) (a .at) (omega arith))
+    rw (head-none (a .bound) (a .words .now) (a .w) (a .at) (c .before .before .pre .0) (c .match .rest))
 
 pub scan-after-spec : {M : Type 1} → statement M
 scan-after-spec =

@@ -1,12 +1,13 @@
 use Prim.Native.Nat.{_+_, _-_, _*_, _^_, _≤_}
-use mathlib.Core.Path.{_≡_, refl, sym, ap, _∙_}
-use lib.ListN.{length, take, drop}
+use mathlib.Core.Path.{_≡_, refl, ap}
+use lib.ListN.{take, drop}
 use Rattle.encoding.specs.Tested.{nameLength}
-use Rattle.encoding.specs.Reading.{readBelow, readNames}
-use Rattle.encoding.proofs.Reading.{word-got, word-stop, names-more as reads-more, names-stop, names-none as reads-none}
+use Rattle.encoding.specs.Reading.{readBelow}
+use Rattle.encoding.proofs.Reading.{word-got, word-stop}
 use Rattle.encoding.proofs.Inside.{below-there}
-use Rattle.measure.specs.Lengths.{namesLength, pathLength, namesPath}
+use Rattle.measure.specs.Lengths.{namesLength, pathLength}
 use Rattle.measure.proofs.Lengths.{name-fits, names-more, names-none}
+use Rattle.measure.proofs.PathNames.{NamesTo, names-on, path-halt, path-all}
 use Rattle.measure.proofs.Scans.{path-read, path-unread}
 use native.Mathlib.Omega.{arith}
 use borrow.Author.Needs.{needs}
@@ -16,8 +17,7 @@ use Rattle.measure.proofs.measure_names.Tie as tie
 -- what is left of the names is read as all of them are, and their lengths add up
 abbrev Inv-loop : tie.InvT-loop
 Inv-loop words pairs bound path i₀ end bytes₀ i bytes =
-    (i ≤ end) × (i ≤ length words) × (bytes ≤ 5 + i * (2 ^ 32 + 2))
-    × (readNames bound words (end - i) i ≡ readNames bound words (end - i₀) i₀)
+    NamesTo bound words i₀ end i × (bytes ≤ 5 + i * (2 ^ 32 + 2))
     × (bytes + namesLength (nameLength pairs) (take (end - i) (drop i words))
     ≡ bytes₀ + namesLength (nameLength pairs) (take (end - i₀) (drop i₀ words)))
 
@@ -36,7 +36,7 @@ root-length-requires c κs = search needs
 loop-holds : tie.Need-loop-holds Inv-loop μ-loop
 loop-holds c =
     let s = c .before .before .before .before in
-    (omega arith, s .pre .2, omega (arith, c .root-length .ensures .1), refl, refl)
+    (record { within = omega arith; inside = s .pre .2; read = refl }, omega (arith, c .root-length .ensures .1), refl)
 
 scan-below-requires : tie.Need-scan-below-requires Inv-loop μ-loop
 scan-below-requires c κs = search needs
@@ -63,7 +63,7 @@ add-bytes-2 c =
     let a = s .args in
     let l = c .before .before .before .before .before .before .loop in
     let n = name-fits (a .pairs .now) (λ j. omega (arith, c .before .before .before .before .before .before .before .before .before .shared-slice-known2 .given j)) _ _ (c .name-length .ensures) in
-    omega (arith, l .inv .2, l .inv .1, s .pre .1)
+    omega (arith, l .inv .1, l .inv .0 .inside, s .pre .1)
 
 loop-less : tie.Need-loop-less Inv-loop μ-loop
 loop-less c =
@@ -81,44 +81,34 @@ loop-again c =
     let e = word-got (readBelow (a .bound) (a .words .now) (l .i)) (c .before .before .before .before .scan-below .ensures) (c .before .before .value .given .1) in
     let k = below-there (a .bound) (a .words .now) (l .i) e in
     let n = name-fits (a .pairs .now) (λ j. omega (arith, c .before .before .before .before .before .before .before .before .before .shared-slice-known2 .given j)) _ _ (c .name-length .ensures) in
-    let m = names-more (nameLength (a .pairs .now)) (a .words .now) (l .i) end (search needs) (k .here) in
-    let r = reads-more (a .bound) (a .words .now) (l .i) (end - l .i) _ _ (omega arith) e in (
-      omega (arith, k .next),
-      omega (arith, k .next, k .here),
-      omega (arith, k .next, l .inv .2),
-      ap (λ j. readNames (a .bound) (a .words .now) j (c .before .before .value .given .0 .1 .0)) (omega (arith, k .next)) ∙ sym r ∙ l .inv .3,
-      rw (k .next) (omega (arith, l .inv .4, m, c .name-length .ensures, ap (nameLength (a .pairs .now)) (k .same))),
+    let m = names-more (nameLength (a .pairs .now)) (a .words .now) (l .i) end (search needs) (k .here) in (
+      names-on (a .bound) (a .words .now) (a .path .start) end (l .i) (l .inv .0) (search needs) e,
+      omega (arith, k .next, l .inv .1),
+      rw (k .next) (omega (arith, l .inv .2, m, c .name-length .ensures, ap (nameLength (a .pairs .now)) (k .same))),
     )
 
 enum-known-r : tie.Need-enum-known-r Inv-loop μ-loop
 enum-known-r c = search needs
 
 returns : tie.Need-returns Inv-loop μ-loop
-unfolding namesPath
 returns c =
     let a = c .before .before .before .before .before .before .before .before .before .before .args in
     let l = c .before .before .before .before .before .loop in
-    let end = a .path .start + a .path .count in
     let e = word-stop (readBelow (a .bound) (a .words .now) (l .i)) (c .before .before .before .scan-below .ensures) (c .before .r .given .1) in
-    let f = sym (names-stop (a .bound) (a .words .now) (l .i) (end - l .i) _ (omega arith) e) ∙ l .inv .3 in
-    let n : end - a .path .start ≡ a .path .count = omega arith in
-    path-unread (a .words .now) (a .pairs .now) (rw (sym (rw n at f))) refl
+    path-unread (a .words .now) (a .pairs .now) (path-halt (a .bound) (a .words .now) (a .path) (l .i) (l .inv .0) (search needs) e) refl
 
 returns-2 : tie.Need-returns-2 Inv-loop μ-loop
-unfolding namesPath pathLength
+unfolding pathLength
 returns-2 c =
     let s = c .before .before .before .before .before .before in
     let a = s .args in
     let l = c .before .loop in
     let end = a .path .start + a .path .count in
-    let z : end - l .i ≡ 0 = omega arith in
     let n : end - a .path .start ≡ a .path .count = omega arith in
-    let i : l .i ≡ end = omega arith in
-    let f = sym (reads-none (a .bound) (a .words .now) (l .i) (end - l .i) z) ∙ l .inv .3 in
     let m = names-none (nameLength (a .pairs .now)) (a .words .now) (l .i) end (search needs) in
-    path-read (a .words .now) (a .pairs .now) (a .path) (rw (sym (rw (n, i) at f))) refl
-    (omega (arith, c .before .before .root-length .ensures .0, m, rw n at (l .inv .4)))
-    (omega (arith, l .inv .2, l .inv .1, s .pre .1))
+    path-read (a .words .now) (a .pairs .now) (a .path) (path-all (a .bound) (a .words .now) (a .path) (l .i) (l .inv .0) (search needs)) refl
+    (omega (arith, c .before .before .root-length .ensures .0, m, rw n at (l .inv .2)))
+    (omega (arith, l .inv .1, l .inv .0 .inside, s .pre .1))
 
 pub measure-names-spec : {M : Type 1} → statement M
 measure-names-spec =

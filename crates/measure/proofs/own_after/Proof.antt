@@ -1,7 +1,7 @@
 use mathlib.Core.Path.{refl}
 use Rattle.encoding.specs.declared.Head.the-variants.{Ref, RefMut, Impl, Dyn, Both, Synonym}
 use Rattle.encoding.specs.Heads.{headAfter}
-use Rattle.encoding.proofs.Heads.{head-other, past-six}
+use Rattle.encoding.proofs.Heads.{head-unknown}
 use Rattle.measure.specs.Lengths.{ownLength}
 use Rattle.measure.proofs.Scans.{scanned-node, scanned-stop, scanned-as}
 use native.Mathlib.Omega.{arith}
@@ -120,9 +120,7 @@ returns-12 c =
 returns-13 : tie.Need-returns-13
 returns-13 c =
     let a = c .before .before .before .args in
-    let six = past-six (a .w) 13 (c .before .before .before .pre .0) (c .match .rest .0 .0 .0 .0 .0 .0 .0 .0 .0 .0 .0 .1) (c .match .rest .0 .0 .0 .0 .0 .0 .0 .0 .0 .0 .1) (c .match .rest .0 .0 .0 .0 .0 .0 .0 .0 .0 .1) (c .match .rest .0 .0 .0 .0 .0 .0 .0 .0 .1) (c .match .rest .0 .0 .0 .0 .0 .0 .0 .1) (c .match .rest .0 .0 .0 .0 .0 .0 .1) in
-    let twelve = past-six (a .w) 19 six (c .match .rest .0 .0 .0 .0 .0 .1) (c .match .rest .0 .0 .0 .0 .1) (c .match .rest .0 .0 .0 .1) (c .match .rest .0 .0 .1) (c .match .rest .0 .1) (c .match .rest .1) in
-    scanned-stop (a .words .now) (a .pairs .now) (head-other (a .bound) (a .words .now) (a .w) (a .at) (omega arith)) refl
+    scanned-stop (a .words .now) (a .pairs .now) (head-unknown (a .bound) (a .words .now) (a .w) (a .at) (c .before .before .before .pre .0) (c .match .rest)) refl
 
 pub own-after-spec : {M : Type 1} → statement M
 own-after-spec =

@@ -2,7 +2,7 @@ use native.Mathlib.Omega.{arith}
 use mathlib.Core.Path.{refl}
 use Rattle.encoding.specs.declared.Head.the-variants.{Ref, RefMut, Impl, Dyn, Synonym}
 use Rattle.encoding.specs.Heads.{headAfter}
-use Rattle.encoding.proofs.Heads.{head-other, past-six}
+use Rattle.encoding.proofs.Heads.{head-none}
 use Rattle.measure.specs.Lengths.{exact}
 use Rattle.soundness.specs.Judging.{wordsSound}
 use Rattle.soundness.proofs.Scans.{scanned-node, scanned-both, scanned-wrapper, scanned-stop, scanned-as}
@@ -127,10 +127,7 @@ returns-13 c =
 returns-14 : tie.Need-returns-14
 returns-14 c =
     let a = c .before .before .before .before .args in
-    let six = past-six (a .w) 12 (c .before .before .before .before .pre .0) (c .match .rest .0 .0 .0 .0 .0 .0 .0 .0 .0 .0 .0 .0 .1) (c .match .rest .0 .0 .0 .0 .0 .0 .0 .0 .0 .0 .0 .1) (c .match .rest .0 .0 .0 .0 .0 .0 .0 .0 .0 .0 .1) (c .match .rest .0 .0 .0 .0 .0 .0 .0 .0 .0 .1) (c .match .rest .0 .0 .0 .0 .0 .0 .0 .0 .1) (c .match .rest .0 .0 .0 .0 .0 .0 .0 .1) in
-    let twelve = past-six (a .w) 18 six (c .match .rest .0 .0 .0 .0 .0 .0 .1) (c .match .rest .0 .0 .0 .0 .0 .1) (c .match .rest .0 .0 .0 .0 .1) (c .match .rest .0 .0 .0 .1) (c .match .rest .0 .0 .1) (c .match .rest .0 .1) in
-    let last = c .match .rest .1 in
-    (scanned-stop (a .words .now) (a .pairs .now) (a .text .now) (a .ask) (head-other (a .bound) (a .words .now) (a .w) (a .at) (omega arith)) refl, c .before .before .before .before .pre .4)
+    (scanned-stop (a .words .now) (a .pairs .now) (a .text .now) (a .ask) (head-none (a .bound) (a .words .now) (a .w) (a .at) (c .before .before .before .before .pre .0) (c .match .rest)) refl, c .before .before .before .before .pre .4)
 
 pub own-after-spec : {M : Type 1} → statement M
 own-after-spec =
