@@ -1,4 +1,3 @@
-use Rattle.rules.specs.Table.{slot}
 use mathlib.Core.Path.{_∙_, ap}
 use lib.ListN.{getD}
 use borrow.Author.Needs.{needs}
