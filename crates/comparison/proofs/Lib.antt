@@ -1,3 +1,4 @@
+pub mod Words
 pub mod Steps
 pub mod Looks
 pub mod Trees

@@ -1,5 +1,5 @@
 -- What a look at two runs of words tells of the types.
-use Prim.Native.Nat.{ℕ, zero, suc, _+_, _-_, _≤_, _<_}
+use Prim.Native.Nat.{ℕ, zero, suc, _-_, _≤_, _<_}
 use mathlib.Core.Path.{_≡_, refl, sym, _∙_}
 use mathlib.Core.Bool.{Bool, true, false}
 use mathlib.Core.List.{List, [], _∷_}
@@ -7,10 +7,9 @@ use native.Mathlib.Omega.{arith}
 use native.Mathlib.Decide.{ℕ-discrete, decLt}
 use lib.Dec.{eqb, ltb}
 use borrow.Author.Tests.{eq-eqb, ne-eqb, lt-ltb, le-ltb}
-use lib.ListN.{length, getD, take, drop}
+use lib.ListN.{length}
 use Rattle.rast.specs.Bytes.{Bytes, same, _and_}
 use Rattle.rast.proofs.BytesLaws.{and-false, and-no, and-yes, same-self}
-use Rattle.output.proofs.Laws.{part-more}
 use Rattle.encoding.specs.Refusals.{pick}
 use Rattle.encoding.specs.Tables.{nameBytes}
 use Rattle.encoding.proofs.Tables.{impossible}
@@ -20,6 +19,7 @@ use Rattle.comparison.specs.declared.Look.{Look}
 use Rattle.comparison.specs.declared.Look.the-variants.{Same, Apart, Unclear}
 use Rattle.comparison.specs.Runs.{after, afterKind, agrees, sameRuns}
 use Rattle.comparison.specs.Looks.{apart, alike, looks, toldApart, mayAgree}
+use Rattle.comparison.proofs.Words.{Steps}
 use Rattle.comparison.proofs.Steps.{fixed-apart}
 
 -- ---- two words
@@ -201,18 +201,9 @@ told-apart pairs text due xs ys e = go (looks true xs ys) refl e
 
 -- ---- one word after the other
 
-module _ (equal : Bool) (a b : List ℕ) (i j left : ℕ) (h : i < length a) (k : j < length b) (l : 0 < left) where
-  looks-more : looks equal (take left (drop i a)) (take left (drop j b))
-      ≡ pick (apart (getD a i 0) (getD b j 0)) Apart (looks (alike equal (getD a i 0) (getD b j 0)) (take (left - 1) (drop (i + 1) a)) (take (left - 1) (drop (j + 1) b)))
-  unfolding looks
-  looks-more = rw (part-more a i left h l, part-more b j left k l) refl
-
-  pub looks-stop : apart (getD a i 0) (getD b j 0) ≡ true → looks equal (take left (drop i a)) (take left (drop j b)) ≡ Apart
-  looks-stop e = looks-more ∙ rw e refl
-
-  pub looks-on : apart (getD a i 0) (getD b j 0) ≡ false → looks equal (take left (drop i a)) (take left (drop j b))
-      ≡ looks (alike equal (getD a i 0) (getD b j 0)) (take (left - 1) (drop (i + 1) a)) (take (left - 1) (drop (j + 1) b))
-  looks-on e = looks-more ∙ rw e refl
+pub looks-step : Steps looks (λ equal x y. apart x y) alike Apart
+unfolding looks
+looks-step = record { stops = λ equal x y xs ys e. rw e refl; goes = λ equal x y xs ys e. rw e refl }
 
 pub look-same : (equal : Bool) → equal ≡ true → looks equal [] [] ≡ Same
 unfolding looks
@@ -221,7 +212,3 @@ look-same equal e = rw e refl
 pub look-unclear : (equal : Bool) → equal ≡ false → looks equal [] [] ≡ Unclear
 unfolding looks
 look-unclear equal e = rw e refl
-
-pub looks-none : (equal : Bool) (a b : List ℕ) (i j left : ℕ) → left ≡ 0 → looks equal (take left (drop i a)) (take left (drop j b)) ≡ looks equal [] []
-unfolding looks
-looks-none equal a b i j left e = rw e refl

@@ -1,12 +1,12 @@
 -- Laws of the comparison of words, one word after the other, and of names by their bytes.
 use Prim.Native.Nat.{ℕ, zero, suc, _+_, _-_, _*_, _≤_, _<_}
 use mathlib.Core.Path.{_≡_, refl, ap, sym, _∙_}
-use mathlib.Core.Bool.{true, false}
+use mathlib.Core.Bool.{false, not}
 use mathlib.Core.List.{List, [], _∷_}
 use native.Mathlib.Omega.{arith}
 use native.Mathlib.Decide.{ℕ-discrete}
 use lib.Dec.{eqb, leb}
-use borrow.Author.Tests.{ne-eqb, leb-true}
+use borrow.Author.Tests.{ne-eqb, leb-true, not-true, not-false}
 use lib.ListN.{length, getD, take, drop}
 use Rattle.rast.specs.Bytes.{Bytes, ascii, same, _and_}
 use Rattle.rast.proofs.BytesLaws.{and-false, and-no, and-yes}
@@ -17,6 +17,7 @@ use Rattle.encoding.proofs.Tables.{name-fixed, name-pair, everyBelow, every-at}
 use Rattle.encoding.proofs.Names.{fixed-same}
 use Rattle.comparison.specs.declared.Due.{Due}
 use Rattle.comparison.specs.Runs.{after, agrees, sameRuns}
+use Rattle.comparison.proofs.Words.{Steps}
 
 pub same-swap : (a b : Bytes) → same a b ≡ same b a
 unfolding same
@@ -67,21 +68,17 @@ module _ (name : ℕ → Bytes) (due : Due) (a b : List ℕ) (i j left : ℕ) (h
   unfolding sameRuns
   runs-more = rw (part-more a i left h l, part-more b j left k l) refl
 
-  pub runs-stop : agrees name due (getD a i 0) (getD b j 0) ≡ false → sameRuns name due (take left (drop i a)) (take left (drop j b)) ≡ false
+  runs-stop : agrees name due (getD a i 0) (getD b j 0) ≡ false → sameRuns name due (take left (drop i a)) (take left (drop j b)) ≡ false
   runs-stop e = runs-more ∙ and-no _ e
 
-  pub runs-on : agrees name due (getD a i 0) (getD b j 0) ≡ true → sameRuns name due (take left (drop i a)) (take left (drop j b))
-      ≡ sameRuns name (after due (getD a i 0)) (take (left - 1) (drop (i + 1) a)) (take (left - 1) (drop (j + 1) b))
-  runs-on e = runs-more ∙ and-yes _ e
-
   -- those behind them are not the same
-  pub runs-behind : sameRuns name (after due (getD a i 0)) (take (left - 1) (drop (i + 1) a)) (take (left - 1) (drop (j + 1) b)) ≡ false
+  runs-behind : sameRuns name (after due (getD a i 0)) (take (left - 1) (drop (i + 1) a)) (take (left - 1) (drop (j + 1) b)) ≡ false
       → sameRuns name due (take left (drop i a)) (take left (drop j b)) ≡ false
   runs-behind e = runs-more ∙ rw e (and-false (agrees name due (getD a i 0) (getD b j 0)))
 
-pub runs-none : (name : ℕ → Bytes) (due : Due) (a b : List ℕ) (i j left : ℕ) → left ≡ 0 → sameRuns name due (take left (drop i a)) (take left (drop j b)) ≡ true
+pub runs-step : (name : ℕ → Bytes) → Steps (sameRuns name) (λ due x y. not (agrees name due x y)) (λ due x y. after due x) false
 unfolding sameRuns
-runs-none name due a b i j left e = rw e refl
+runs-step name = record { stops = λ due x y xs ys e. and-no _ (not-true (agrees name due x y) e); goes = λ due x y xs ys e. and-yes _ (not-false (agrees name due x y) e) }
 
 -- runs of different lengths are not the same
 pub runs-uneven : (name : ℕ → Bytes) (due : Due) (xs ys : List ℕ) → (length xs ≡ length ys → ⊥) → sameRuns name due xs ys ≡ false

@@ -20,10 +20,9 @@ use Rattle.encoding.specs.Heads.{readPath}
 use Rattle.encoding.specs.Types.{readNode, readType, typeAt}
 use Rattle.encoding.specs.Declarations.{structHead, enumHead, synonymHead, useHead, readList, readCounted, readVisibility, readName, readAttribute, readParameter, readFormal, readField, readNamelessField, readFields, readCase, readStruct, readEnum, readTypeSynonym, readUse, declarationAfter}
 use Rattle.encoding.proofs.Heads.{head-at, head-plain}
-use Rattle.encoding.proofs.Reading.{scan-stop}
 use Rattle.pieces.specs.Walks.{readEntry, readTwo, readAttributes}
 use Rattle.pieces.specs.Ends.{thenAt, parameterAt, formalAt, fieldAt, namelessAt, fieldEnd, eachFieldEnd, fieldsAt, caseAt, signatureEnd, headingEnd, structAt, enumAt, synonymAt, useEnd}
-use Rattle.pieces.proofs.Scans.{ended-made, ended-map, end-got, NoPair, at-first, at-second, entry, no-entry, two, no-two, list-more, list-stops, list-none}
+use Rattle.pieces.proofs.Scans.{ended-made, ended-map, NoPair, at-first, at-second, entry, no-entry, two, no-two, Each, list-each}
 use Rattle.pieces.proofs.Steps.{parameter-halts, fields-halt, field-halts, nameless-halts, case-halts}
 use Rattle.pieces.proofs.Openings.{attributes-read, titleThen}
 
@@ -81,29 +80,13 @@ module _ (ws pairs : List ℕ) (text : Bytes) where
       go true = ap ended (sym (field-halts (nameCount pairs) ws (nameBytes pairs text) (typeAt ws pairs text) p (at-first e)))
       go false = ap ended (sym (nameless-halts (nameCount pairs) ws (nameBytes pairs text) (typeAt ws pairs text) p e))
 
-  pub fields-more : (k left p : ℕ) {q : ℕ} → 0 < left → fieldEnd ws pairs text k p ≡ At q → eachFieldEnd ws pairs text k left p ≡ eachFieldEnd ws pairs text k (left - 1) q
-  fields-more k left p {q} h = go (eqb k 0)
+  pub fields-each : (k : ℕ) → Each (fieldEnd ws pairs text k) (eachFieldEnd ws pairs text k)
+  fields-each k = go (eqb k 0)
     where
-      go : (b : Bool) → pick b (ended (fieldAt ws pairs text p)) (ended (namelessAt ws pairs text p)) ≡ At q
-          → pick b (ended (readList (fieldAt ws pairs text) left p)) (ended (readList (namelessAt ws pairs text) left p))
-          ≡ pick b (ended (readList (fieldAt ws pairs text) (left - 1) q)) (ended (readList (namelessAt ws pairs text) (left - 1) q))
-      go true e = list-more (fieldAt ws pairs text) left p h (end-got (fieldAt ws pairs text p) refl e)
-      go false e = list-more (namelessAt ws pairs text) left p h (end-got (namelessAt ws pairs text p) refl e)
-
-  pub fields-stop : (k left p : ℕ) {r : Refusal} → 0 < left → fieldEnd ws pairs text k p ≡ Refused r → eachFieldEnd ws pairs text k left p ≡ Refused r
-  fields-stop k left p {r} h = go (eqb k 0)
-    where
-      go : (b : Bool) → pick b (ended (fieldAt ws pairs text p)) (ended (namelessAt ws pairs text p)) ≡ Refused r
-          → pick b (ended (readList (fieldAt ws pairs text) left p)) (ended (readList (namelessAt ws pairs text) left p)) ≡ Refused r
-      go true e = list-stops (fieldAt ws pairs text) left p h (scan-stop (fieldAt ws pairs text p) refl e)
-      go false e = list-stops (namelessAt ws pairs text) left p h (scan-stop (namelessAt ws pairs text p) refl e)
-
-  pub fields-none : (k left p : ℕ) → left ≡ 0 → eachFieldEnd ws pairs text k left p ≡ At p
-  fields-none k left p h = go (eqb k 0)
-    where
-      go : (b : Bool) → pick b (ended (readList (fieldAt ws pairs text) left p)) (ended (readList (namelessAt ws pairs text) left p)) ≡ At p
-      go true = list-none (fieldAt ws pairs text) left p h
-      go false = list-none (namelessAt ws pairs text) left p h
+      go : (b : Bool) → Each (λ p. pick b (ended (fieldAt ws pairs text p)) (ended (namelessAt ws pairs text p)))
+          (λ n p. pick b (ended (readList (fieldAt ws pairs text) n p)) (ended (readList (namelessAt ws pairs text) n p)))
+      go true = list-each (fieldAt ws pairs text)
+      go false = list-each (namelessAt ws pairs text)
 
   pub fields-ended : (p : ℕ) {k n q : ℕ} → readEntry 2 ws p ≡ got (k, n) q → eachFieldEnd ws pairs text k n q ≡ ended (fieldsAt ws pairs text p)
   unfolding readFields readCounted

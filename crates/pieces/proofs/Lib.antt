@@ -2,6 +2,7 @@
 pub mod Scans
 pub mod Ahead
 pub mod Steps
+pub mod NextSteps
 pub mod Openings
 pub mod OpeningRuns
 pub mod Passes

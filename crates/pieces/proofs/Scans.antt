@@ -10,7 +10,7 @@ use Rattle.encoding.specs.declared.Refusal.{Refusal}
 use Rattle.encoding.specs.declared.Refusal.the-variants.{UnknownWord}
 use Rattle.encoding.specs.declared.Scan.{Scan}
 use Rattle.encoding.specs.declared.Scan.the-variants.{At, Refused}
-use Rattle.encoding.proofs.Reading.{scan-got}
+use Rattle.encoding.proofs.Reading.{scan-got, scan-stop}
 use Rattle.encoding.specs.Reading.{Reading, got, stop, _>>=_, readWord, readBelow, readNames}
 use Rattle.encoding.specs.Scans.{ended, mapReading}
 use Rattle.encoding.specs.Declarations.{readList, readCounted, readAttribute, readName, structHead, enumHead, synonymHead, useHead}
@@ -119,20 +119,35 @@ attribute-halts b ws p {r} e = go (no-entry b ws p e)
     go (at-first d) = rw d
     go (at-second d k) = rw (d, k)
 
--- some things, the first of which is read
-pub list-more : {A : Type 0} (item : ℕ → Reading A) (left p : ℕ) {q : ℕ} → 0 < left → EndsAt (item p) q → ended (readList item left p) ≡ ended (readList item (left - 1) q)
-unfolding readList
-list-more item zero p h e = absurd (let z : ⊥ = omega arith in z)
-list-more item (suc n) p {q} h e = rw (e .reads, sub-one (suc n)) (ended-made (readList item n q) (_∷_ (e .value)))
+-- ---- lists: `each n p` is where n things end that begin at p, `one p` where the first of them does
 
-pub list-stops : {A : Type 0} (item : ℕ → Reading A) (left p : ℕ) {r : Refusal} → 0 < left → item p ≡ stop r → ended (readList item left p) ≡ Refused r
-unfolding readList
-list-stops item zero p h e = absurd (let z : ⊥ = omega arith in z)
-list-stops item (suc n) p h e = rw e
+pub record Each (one : ℕ → Scan) (each : ℕ → ℕ → Scan) : Type 0 where
+  pub more : (left p q : ℕ) → 0 < left → one p ≡ At q → each left p ≡ each (left - 1) q
+  pub stops : (left p : ℕ) (r : Refusal) → 0 < left → one p ≡ Refused r → each left p ≡ Refused r
+  pub none : (p : ℕ) → each 0 p ≡ At p
 
-pub list-none : {A : Type 0} (item : ℕ → Reading A) (left p : ℕ) → left ≡ 0 → ended (readList item left p) ≡ At p
+pub list-each : {A : Type 0} (item : ℕ → Reading A) → Each (λ p. ended (item p)) (λ n p. ended (readList item n p))
 unfolding readList
-list-none item left p e = rw e
+list-each item = record { more = more; stops = stops; none = λ p. refl }
+  where
+    more : (left p q : ℕ) → 0 < left → ended (item p) ≡ At q → ended (readList item left p) ≡ ended (readList item (left - 1) q)
+    more zero p q h e = absurd (let z : ⊥ = omega arith in z)
+    more (suc n) p q h e = let t = scan-got (item p) refl e in rw (t .reads, sub-one (suc n)) (ended-made (readList item n q) (_∷_ (t .value)))
+
+    stops : (left p : ℕ) (r : Refusal) → 0 < left → ended (item p) ≡ Refused r → ended (readList item left p) ≡ Refused r
+    stops zero p r h e = absurd (let z : ⊥ = omega arith in z)
+    stops (suc n) p r h e = rw (scan-stop (item p) refl e)
+
+-- what a loop over a list of things keeps, where the first of those left was scanned and the whole ends at `end`
+module _ {one : ℕ → Scan} {each : ℕ → ℕ → Scan} (l : Each one each) {left p : ℕ} {end : Scan} (inv : each left p ≡ end) where
+  pub each-next : {s : Scan} {q : ℕ} → 0 < left → s ≡ one p → s ≡ At q → each (left - 1) q ≡ end
+  each-next {q = q} h e d = sym (l .more left p q h (sym e ∙ d)) ∙ inv
+
+  pub each-refused : {s : Scan} {r : Refusal} → 0 < left → s ≡ one p → s ≡ Refused r → Refused r ≡ end
+  each-refused {r = r} h e d = sym (l .stops left p r h (sym e ∙ d)) ∙ inv
+
+  pub each-ended : left ≡ 0 → At p ≡ end
+  each-ended h = sym (l .none p) ∙ ap (λ n. each n p) (sym h) ∙ inv
 
 -- ---- openings
 

@@ -255,14 +255,11 @@ fn next_member(words: &[u32], bound: usize, walk: Walk) -> Next
     Next::Ended
 }
 
-// Whether a field comes next.
-pub fn is_field_next(walk: Walk) -> bool
-    ensures { λ r. ⌜ (r ≡ true → FieldNext walk) ⌝ }
+// Whether a walk stands between fields and cases, with no type and no parameter due.
+pub fn is_at_members(walk: Walk) -> bool
+    ensures { λ r. ⌜ (r ≡ true → (walk .types ≡ 0) × (walk .parameters ≡ 0) × (walk .after ≡ NoMore)) ⌝ }
 {
     let after = walk.after;
-    if walk.fields == 0 {
-        return false;
-    }
     if walk.types != 0 {
         return false;
     }
@@ -275,6 +272,16 @@ pub fn is_field_next(walk: Walk) -> bool
         After::OneType => false,
         After::NoMore => true,
     }
+}
+
+// Whether a field comes next.
+pub fn is_field_next(walk: Walk) -> bool
+    ensures { λ r. ⌜ (r ≡ true → FieldNext walk) ⌝ }
+{
+    if walk.fields == 0 {
+        return false;
+    }
+    is_at_members(walk)
 }
 
 // Where the type of the next field stands: behind its visibility, and behind its name if fields have names.

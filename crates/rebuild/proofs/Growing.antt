@@ -7,8 +7,8 @@ use native.Mathlib.Numerals.{add-one}
 use lib.ListN.{length, take, drop, getD, set, length-append, length-drop}
 use lib.Seq.{sets, sets-eq, length-sets, take-suc, take-at, drop-at, take-take, take-add, length-take-le, getD-drop}
 use Rattle.output.proofs.Laws.{part-length, sets-append}
-use Rattle.rules.specs.Table.{toWords}
-use Rattle.rules.specs.Scans.{depthOf}
+use Rattle.rules.specs.Table.{toWords, Fits}
+use Rattle.rules.specs.Scans.{Spans, depthOf}
 use Rattle.encoding.specs.Reading.{got}
 use Rattle.trees.specs.Numbered.{treeAt}
 use Rattle.rebuild.specs.declared.Laying.{Laying}
@@ -127,12 +127,23 @@ module _ {limit : ℕ} (o : List ℕ) (w p at : ℕ) where
 
 -- ---- the to of a rule in place of a finished type
 
-module _ {rules pairs table : List ℕ} {limit start i : ℕ} {o o′ : List ℕ} {r : Laying}
-    (l : Lays limit o start (take (getD table (4 * i + 2) 0 - getD table (4 * i + 1) 0) (drop (getD table (4 * i + 1) 0) rules)) o′ r) where
-  pub gives-to : {q d : ℕ} → r ≡ To q → d ≡ depthOf (treeAt rules pairs (getD table (4 * i + 1) 0)) → GivesTo rules pairs table i limit o start o′ (Settled q d)
-  unfolding toWords
-  gives-to d e = let k = lays-to l d in given (k .0) (k .1) e
+-- as the entries say that it begins at `to`
+module _ {rules table : List ℕ} {i to end : ℕ} (d : to ≡ getD table (4 * i + 1) 0) (e : end ≡ getD table (4 * i + 2) 0) where
+  module _ {k : ℕ} (f : Fits rules table k) (h : i < k) where
+    pub to-ends : to ≤ end
+    to-ends = omega (arith, f .to i h, d, e)
 
-  pub gives-over : r ≡ Over → GivesTo rules pairs table i limit o start o′ Overfull
-  unfolding toWords
-  gives-over d = let k = lays-over l d in tooLong (k .0) (k .1)
+    pub to-inside : to + (end - to) ≤ length rules
+    to-inside = omega (arith, to-ends, f .inside i h, e)
+
+    pub to-spans : (pairs : List ℕ) → Spans (treeAt rules pairs (getD table (4 * i + 1) 0)) (getD table (4 * i + 2) 0) → Spans (treeAt rules pairs to) (to + (end - to))
+    to-spans pairs t = let z : to + (end - to) ≡ end = omega (arith, to-ends) in rw (z, d, e) t
+
+  module _ {pairs : List ℕ} {limit start : ℕ} {o o′ : List ℕ} {r : Laying} (l : Lays limit o start (take (end - to) (drop to rules)) o′ r) where
+    pub gives-to : {q n : ℕ} → r ≡ To q → n ≡ depthOf (treeAt rules pairs to) → GivesTo rules pairs table i limit o start o′ (Settled q n)
+    unfolding toWords
+    gives-to k m = let t = lays-to (rw (d, e) at l) k in given (t .0) (t .1) (rw d at m)
+
+    pub gives-over : r ≡ Over → GivesTo rules pairs table i limit o start o′ Overfull
+    unfolding toWords
+    gives-over k = let t = lays-over (rw (d, e) at l) k in tooLong (t .0) (t .1)

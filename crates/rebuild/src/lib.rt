@@ -117,8 +117,8 @@ fn give_way(
         × (start ≤ limit) × (limit ≤ length (now out)) ⌝ }
     ensures { λ r. ⌜ GivesTo (now (rules .entry)) (now (pairs .entry)) (now (table .entry)) i limit (now (out .entry)) start (now (out .exit)) r ⌝ }
 {
-    let to = table[4 * i + 1] as usize;
-    let count = table[4 * i + 2] as usize - to;
+    let to = rules::entry(table, i, rules::TO);
+    let count = rules::entry(table, i, rules::END) - to;
     match lay(rules, to, count, out, start, limit) {
         Laying::To(pos) => {
             let depth = rules::depth_in(rules, pairs, to, count);

@@ -13,9 +13,10 @@ use lib.Seq.{getD-set-same, getD-set-other}
 use Rattle.rast.specs.Bytes.{Bytes}
 use Rattle.encoding.specs.Refusals.{pick}
 use Rattle.encoding.proofs.Tables.{impossible}
+use Rattle.rules.specs.declared.Found.{Found}
 use Rattle.rules.specs.declared.Found.the-variants.{At, Nothing}
 use Rattle.rules.specs.Table.{slot, linked, slotOf, nextRule, firstOf, isFound, firstAlong, fromWords, isFrom, foundFrom, amongFrom, stands, someStands, Fits, Links, Along, Unlinked, Entries}
-use Rattle.rules.proofs.Steps.{from-missed, stands-missed}
+use Rattle.rules.proofs.Steps.{From, first-entry, from-missed, stands-missed}
 
 -- ---- slots
 
@@ -44,6 +45,10 @@ togo k (suc m) = k - m
 along-suc : (test : ℕ → Bool) (k i : ℕ) → firstAlong test k (i + 1) ≡ firstOf test i (k - i)
 unfolding firstAlong
 along-suc test k i = rw (add-one i) refl
+
+along-here : (test : ℕ → Bool) (k i : ℕ) → i < k → test i ≡ true → firstAlong test k (suc i) ≡ At i
+unfolding firstAlong firstOf
+along-here test k i h e = let z : k - i ≡ suc (k - (i + 1)) = omega arith in rw (z, e) refl
 
 module _ (rules table : List ℕ) where
   -- it is one of those that are asked for, and has the slot
@@ -78,19 +83,23 @@ module _ (rules table : List ℕ) where
     after : (m : ℕ) → m < k → getD table (4 * m + 3) 0 ≡ nextRule rules table (slotOf rules table m) (m + 1) (k - (m + 1))
     after m h = l .next m (omega arith) h
 
-    pub along-first : (s : ℕ) → 128 ≤ s → s < 160 → Along rules table k s (getD table s 0)
-    along-first s a b = let z : k - 0 ≡ k = omega arith in rw (l .first s a b, z) (along-next k s 0 k (omega arith))
+    pub along-first : (w : ℕ) {link : ℕ} → link ≡ getD table (slot w) 0 → Along rules table k (slot w) link
+    along-first w e = let r = slot-range w in let z : k - 0 ≡ k = omega arith in rw (e, l .first (slot w) (r .0) (r .1), z) (along-next k (slot w) 0 k (omega arith))
 
-    pub along-more : (m : ℕ) → m < k → Along rules table k (slotOf rules table m) (getD table (4 * m + 3) 0)
+    along-more : (m : ℕ) → m < k → Along rules table k (slotOf rules table m) (getD table (4 * m + 3) 0)
     along-more m h = rw (after m h) (along-next k (slotOf rules table m) (m + 1) (k - (m + 1)) (omega arith))
 
-    pub togo-less : (m : ℕ) → m < k → togo k (getD table (4 * m + 3) 0) < togo k (suc m)
+    pub along-behind : (i : ℕ) {p link : ℕ} → i < k → p ≡ getD table (4 * i + 0) 0 → link ≡ getD table (4 * i + 3) 0 → Along rules table k (slot (getD rules p 0)) link
+    unfolding slotOf
+    along-behind i h d e = rw (d, first-entry table i, e) (along-more i h)
+
+    togo-less : (m : ℕ) → m < k → togo k (getD table (4 * m + 3) 0) < togo k (suc m)
     togo-less m h = togo-next k m (slotOf rules table m) h (getD table (4 * m + 3) 0) (sym (after m h))
 
     -- ---- a search goes along the links, since rules of other slots do not pass
 
     module _ (test : ℕ → Bool) (s : ℕ) (miss : (j : ℕ) → j < k → (slotOf rules table j ≡ s → ⊥) → test j ≡ false) where
-      pub skipped : (i n : ℕ) → i + n ≡ k → firstOf test i n ≡ firstAlong test k (nextRule rules table s i n)
+      skipped : (i n : ℕ) → i + n ≡ k → firstOf test i n ≡ firstAlong test k (nextRule rules table s i n)
       unfolding firstOf firstAlong nextRule
       skipped i zero e = refl
       skipped i (suc n) e = go (ℕ-discrete (slotOf rules table i) s) (skipped (i + 1) n (omega (arith, e)))
@@ -103,11 +112,7 @@ module _ (rules table : List ℕ) where
           go (yes d) more = rw (eq-eqb (slotOf rules table i) s d) (ap (firstOf test i) left ∙ sym (along-suc test k i))
           go (no d) more = rw (ne-eqb (slotOf rules table i) s d, miss i (omega (arith, e)) d) more
 
-      pub along-here : (m : ℕ) → m < k → test m ≡ true → firstAlong test k (suc m) ≡ At m
-      unfolding firstAlong firstOf
-      along-here m h e = let z : k - m ≡ suc (k - (m + 1)) = omega arith in rw (z, e) refl
-
-      pub along-on : (m : ℕ) → m < k → slotOf rules table m ≡ s → test m ≡ false → firstAlong test k (suc m) ≡ firstAlong test k (getD table (4 * m + 3) 0)
+      along-on : (m : ℕ) → m < k → slotOf rules table m ≡ s → test m ≡ false → firstAlong test k (suc m) ≡ firstAlong test k (getD table (4 * m + 3) 0)
       unfolding firstAlong firstOf
       along-on m h d e =
           step ∙ skipped (m + 1) (k - (m + 1)) (omega arith) ∙ ap (firstAlong test k) (ap (λ x. nextRule rules table x (m + 1) (k - (m + 1))) (sym d) ∙ sym (after m h))
@@ -115,12 +120,44 @@ module _ (rules table : List ℕ) where
           step : firstOf test m (k - m) ≡ firstOf test (m + 1) (k - (m + 1))
           step = let z : k - m ≡ suc (k - (m + 1)) = omega arith in rw (z, e) refl
 
-      pub along-all : 128 ≤ s → s < 160 → firstOf test 0 k ≡ firstAlong test k (getD table s 0)
-      along-all a b = let z : k ≡ k - 0 = omega arith in skipped 0 k (omega arith) ∙ ap (firstAlong test k) (ap (nextRule rules table s 0) z ∙ sym (l .first s a b))
+    along-all : (test : ℕ → Bool) (w : ℕ) → ((j : ℕ) → j < k → (slotOf rules table j ≡ slot w → ⊥) → test j ≡ false) → firstOf test 0 k ≡ firstAlong test k (getD table (slot w) 0)
+    along-all test w miss =
+        let r = slot-range w in let z : k ≡ k - 0 = omega arith in
+        skipped test (slot w) miss 0 k (omega arith) ∙ ap (firstAlong test k) (ap (nextRule rules table (slot w) 0) z ∙ sym (l .first (slot w) (r .0) (r .1)))
 
-pub along-none : (test : ℕ → Bool) (k : ℕ) → firstAlong test k 0 ≡ Nothing
-unfolding firstAlong
-along-none test k = refl
+-- ---- a loop along the links
+
+-- it has come to the link `next`, and what is found from there on is what is asked for
+pub record Search {R : Type 0} (show : Found → R) (rules table : List ℕ) (k s : ℕ) (test : ℕ → Bool) (goal : R) (next : ℕ) : Type 0 where
+  pub along : Along rules table k s next
+  pub finds : show (firstAlong test k next) ≡ goal
+
+module _ {R : Type 0} {show : Found → R} {rules table : List ℕ} {k s : ℕ} {test : ℕ → Bool} {goal : R} {next : ℕ} (v : Search show rules table k s test goal next) where
+  -- no rule is left
+  pub search-none : next ≡ 0 → show Nothing ≡ goal
+  unfolding firstAlong
+  search-none e = rw e at (v .finds)
+
+  -- or one is; it passes, or the search goes on with the link behind it
+  module _ (h : 0 < next) where
+    next-suc : next ≡ suc (next - 1)
+    next-suc = omega arith
+
+    pub search-within : next - 1 < k
+    search-within = v .along .within (next - 1) next-suc
+
+    pub search-here : test (next - 1) ≡ true → show (At (next - 1)) ≡ goal
+    search-here e = ap show (sym (along-here test k (next - 1) search-within e) ∙ ap (firstAlong test k) (sym next-suc)) ∙ v .finds
+
+    module _ (l : Links rules table 0 k) {behind : ℕ} (e : behind ≡ getD table (4 * (next - 1) + 3) 0) where
+      pub search-less : togo k behind < togo k next
+      search-less = rw e (subst (λ n. togo k (getD table (4 * (next - 1) + 3) 0) < togo k n) (sym next-suc) (togo-less rules table k l (next - 1) search-within))
+
+      pub search-on : ((j : ℕ) → j < k → (slotOf rules table j ≡ s → ⊥) → test j ≡ false) → test (next - 1) ≡ false → Search show rules table k s test goal behind
+      search-on miss d = let t = v .along .slots (next - 1) next-suc in record {
+        along = rw (e, ← t) (along-more rules table k l (next - 1) search-within);
+        finds = rw e (ap show (sym (along-on rules table k l test s miss (next - 1) search-within t d) ∙ ap (firstAlong test k) (sym next-suc)) ∙ v .finds);
+      }
 
 -- ---- linking
 
@@ -225,32 +262,24 @@ linking-next rules table₀ table i k few h size g =
 
 -- ---- what the searches ask for
 
-module _ (name : ℕ → Bytes) (rules table : List ℕ) {k : ℕ} (f : Fits rules table k) (l : Links rules table 0 k) where
-  pub found-along : (out : List ℕ) (start count : ℕ) → start < length out → 0 < count
-      → foundFrom name rules table 0 k (take count (drop start out)) ≡ firstAlong (isFrom name rules table (take count (drop start out))) k (getD table (slot (getD out start 0)) 0)
+module _ (name : ℕ → Bytes) (rules table : List ℕ) {k : ℕ} (f : Fits rules table k) (l : Links rules table 0 k) {link : ℕ} where
+  pub found-along : (out : List ℕ) (start count : ℕ) → start + count ≤ length out → 0 < count → link ≡ getD table (slot (getD out start 0)) 0
+      → firstAlong (isFrom name rules table (take count (drop start out))) k link ≡ foundFrom name rules table 0 k (take count (drop start out))
   unfolding foundFrom
-  found-along out start count m h =
-      let r = slot-range (getD out start 0) in
-      along-all rules table k l (isFrom name rules table (take count (drop start out))) (slot (getD out start 0)) (from-missed name rules table f out start count m h) (r .0) (r .1)
+  found-along out start count m h e = rw e (sym (along-all rules table k l (isFrom name rules table (take count (drop start out))) (getD out start 0) (from-missed name rules table f out start count m h)))
 
-  pub some-along : (ws : List ℕ) (at : ℕ) → at < length ws
-      → someStands name rules table 0 k (drop at ws) ≡ isFound (firstAlong (stands name rules table (drop at ws)) k (getD table (slot (getD ws at 0)) 0))
+  pub some-along : (ws : List ℕ) (at : ℕ) → at < length ws → link ≡ getD table (slot (getD ws at 0)) 0
+      → isFound (firstAlong (stands name rules table (drop at ws)) k link) ≡ someStands name rules table 0 k (drop at ws)
   unfolding someStands
-  some-along ws at m =
-      let r = slot-range (getD ws at 0) in
-      ap isFound (along-all rules table k l (stands name rules table (drop at ws)) (slot (getD ws at 0)) (stands-missed name rules table f ws at m) (r .0) (r .1))
+  some-along ws at m e = rw e (ap isFound (sym (along-all rules table k l (stands name rules table (drop at ws)) (getD ws at 0) (stands-missed name rules table f ws at m))))
 
-  pub among-along : (i : ℕ) → i < k
-      → amongFrom name rules table (i + 1) (k - (i + 1)) (fromWords rules table i) ≡ isFound (firstAlong (isFrom name rules table (fromWords rules table i)) k (getD table (4 * i + 3) 0))
-  unfolding amongFrom foundFrom fromWords slotOf
-  among-along i h =
-      ap isFound
-      (skipped rules table k l (isFrom name rules table (fromWords rules table i)) (slotOf rules table i)
-      (from-missed name rules table f rules (getD table (4 * i) 0) (getD table (4 * i + 1) 0 - getD table (4 * i) 0) (omega (arith, f .from i h, f .to i h, f .inside i h)) (omega (arith, f .from i h)))
+  pub among-along : (i : ℕ) {p n : ℕ} → i < k → From rules table i p n → p ≡ getD table (4 * i + 0) 0 → link ≡ getD table (4 * i + 3) 0
+      → isFound (firstAlong (isFrom name rules table (take n (drop p rules))) k link) ≡ amongFrom name rules table (i + 1) (k - (i + 1)) (fromWords rules table i)
+  unfolding amongFrom foundFrom slotOf
+  among-along i {p} {n} h g d e =
+      rw (g .words, e)
+      (ap isFound
+      (sym
+      (skipped rules table k l (isFrom name rules table (take n (drop p rules))) (slotOf rules table i) (rw (← first-entry table i, ← d) (from-missed name rules table f rules p n (g .inside) (g .some)))
       (i + 1) (k - (i + 1)) (omega arith)
-      ∙ ap (firstAlong (isFrom name rules table (fromWords rules table i)) k) (sym (l .next i (omega arith) h)))
-
--- a link is no more than there are rules
-pub link-within : (rules table : List ℕ) (k s link : ℕ) → Along rules table k s link → link ≤ k
-link-within rules table k s zero a = omega arith
-link-within rules table k s (suc i) a = omega (arith, a .within i refl)
+      ∙ ap (firstAlong (isFrom name rules table (take n (drop p rules))) k) (sym (l .next i (omega arith) h)))))

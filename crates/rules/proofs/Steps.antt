@@ -18,27 +18,55 @@ use Rattle.comparison.proofs.Steps.{runs-uneven}
 use Rattle.rules.specs.declared.Found.the-variants.{At}
 use Rattle.rules.specs.Table.{slot, slotOf, fromWords, firstOf, isFrom, foundFrom, amongFrom, repeatedFrom, stands, someStands, noneStands, Fits}
 
--- a from of another length
-pub from-uneven : (name : ℕ → Bytes) (rules table out : List ℕ) (k i start count : ℕ) → Fits rules table k → i < k → start + count ≤ length out
-    → (getD table (4 * i + 1) 0 - getD table (4 * i) 0 ≡ count → ⊥) → sameRuns name Kind (take count (drop start out)) (fromWords rules table i) ≡ false
-unfolding fromWords
-from-uneven name rules table out k i start count f h l d =
-    let a = getD table (4 * i) 0 in
-    let b = getD table (4 * i + 1) 0 in
-    let fits : a + (b - a) ≤ length rules = omega (arith, f .from i h, f .to i h, f .inside i h) in
-    runs-uneven name Kind (take count (drop start out)) (take (b - a) (drop a rules)) (λ e. d (sym (part-length rules a (b - a) fits) ∙ sym e ∙ part-length out start count l))
+-- the from of rule i are n words of the rules from p on
+pub record From (rules table : List ℕ) (i p n : ℕ) : Type 0 where
+  pub some : 0 < n
+  pub inside : p + n ≤ length rules
+  pub words : fromWords rules table i ≡ take n (drop p rules)
+
+-- the first entry of a rule, as `entry` reads it
+pub first-entry : (table : List ℕ) (i : ℕ) → getD table (4 * i + 0) 0 ≡ getD table (4 * i) 0
+first-entry table i = let z : 4 * i + 0 ≡ 4 * i = omega arith in rw z refl
+
+-- as the entries say that its from begins at p and its to at q
+module _ {rules table : List ℕ} {k i p q : ℕ} (f : Fits rules table k) (h : i < k) (d : p ≡ getD table (4 * i + 0) 0) (e : q ≡ getD table (4 * i + 1) 0) where
+  pub from-some : p < q
+  from-some = omega (arith, f .from i h, d, first-entry table i, e)
+
+  pub from-at : From rules table i p (q - p)
+  unfolding fromWords
+  from-at = record { some = omega (arith, from-some); inside = omega (arith, from-some, e, f .to i h, f .inside i h); words = rw (d, first-entry table i, e) refl }
+
+from-length : {rules table : List ℕ} {i p n : ℕ} → From rules table i p n → length (fromWords rules table i) ≡ n
+from-length {rules} {p = p} {n = n} g = ap length (g .words) ∙ part-length rules p n (g .inside)
+
+module _ (name : ℕ → Bytes) {rules table : List ℕ} {i p n : ℕ} (g : From rules table i p n) where
+  -- a from of another length, and of the same
+  pub from-uneven : (out : List ℕ) (start count : ℕ) → start + count ≤ length out → (n ≡ count → ⊥) → isFrom name rules table (take count (drop start out)) i ≡ false
+  unfolding isFrom
+  from-uneven out start count l d =
+      runs-uneven name Kind (take count (drop start out)) (fromWords rules table i) (λ e. d (sym (from-length g) ∙ sym e ∙ part-length out start count l))
+
+  pub from-even : (b : List ℕ) {count : ℕ} → n ≡ count → sameRuns name Kind b (take count (drop p rules)) ≡ isFrom name rules table b i
+  unfolding isFrom
+  from-even b e = ap (sameRuns name Kind b) (rw (← e) (sym (g .words)))
+
+  -- one that is longer than what is left of the words, and one that may stand there
+  pub stands-short : (ws : List ℕ) (at : ℕ) → at < length ws → length ws - at < n → stands name rules table (drop at ws) i ≡ false
+  unfolding stands
+  stands-short ws at l s =
+      let m = from-length g in
+      let a = length-drop at ws in
+      runs-uneven name Kind (take (length (fromWords rules table i)) (drop at ws)) (fromWords rules table i) (λ e. omega (arith, e, m, s, a, length-take (length (fromWords rules table i)) (drop at ws)))
+
+  pub stands-run : (ws : List ℕ) → stands name rules table ws i ≡ sameRuns name Kind (take n ws) (take n (drop p rules))
+  unfolding stands
+  stands-run ws = rw (from-length g, g .words)
 
 -- ---- first words
 
 from-front : (rules table : List ℕ) (k i : ℕ) → Fits rules table k → i < k → (rest : List ℕ) × (fromWords rules table i ≡ getD rules (getD table (4 * i) 0) 0 ∷ rest)
-unfolding fromWords
-from-front rules table k i f h =
-    (_, part-more rules (getD table (4 * i) 0) (getD table (4 * i + 1) 0 - getD table (4 * i) 0) (omega (arith, f .from i h, f .to i h, f .inside i h)) (omega (arith, f .from i h)))
-
-from-length : (rules table : List ℕ) (k i : ℕ) → Fits rules table k → i < k → length (fromWords rules table i) ≡ getD table (4 * i + 1) 0 - getD table (4 * i) 0
-unfolding fromWords
-from-length rules table k i f h =
-    part-length rules (getD table (4 * i) 0) (getD table (4 * i + 1) 0 - getD table (4 * i) 0) (omega (arith, f .from i h, f .to i h, f .inside i h))
+from-front rules table k i f h = let g = from-at f h (sym (first-entry table i)) refl in (_, g .words ∙ part-more rules _ _ (omega (arith, g .some, g .inside)) (g .some))
 
 module _ (name : ℕ → Bytes) (rules table : List ℕ) {k : ℕ} (f : Fits rules table k) where
   -- a from that begins with another word, of another slot
@@ -46,27 +74,14 @@ module _ (name : ℕ → Bytes) (rules table : List ℕ) {k : ℕ} (f : Fits rul
   unfolding isFrom slotOf sameRuns agrees _and_
   from-other i w ws h d = rw (from-front rules table k i f h .1, ne-eqb w (getD rules (getD table (4 * i) 0) 0) (λ e. d (ap slot (sym e)))) refl
 
-  pub from-missed : (out : List ℕ) (start count : ℕ) → start < length out → 0 < count → (i : ℕ) → i < k → (slotOf rules table i ≡ slot (getD out start 0) → ⊥) → isFrom name rules table (take count (drop start out)) i ≡ false
-  from-missed out start count l h i m d = rw (part-more out start count l h) (from-other i (getD out start 0) _ m d)
+  pub from-missed : (out : List ℕ) (start count : ℕ) → start + count ≤ length out → 0 < count → (i : ℕ) → i < k → (slotOf rules table i ≡ slot (getD out start 0) → ⊥) → isFrom name rules table (take count (drop start out)) i ≡ false
+  from-missed out start count l h i m d = rw (part-more out start count (omega arith) h) (from-other i (getD out start 0) _ m d)
 
-  module _ (ws : List ℕ) (at : ℕ) (l : at < length ws) where
-    pub stands-missed : (i : ℕ) → i < k → (slotOf rules table i ≡ slot (getD ws at 0) → ⊥) → stands name rules table (drop at ws) i ≡ false
-    unfolding stands isFrom
-    stands-missed i h d =
-        let e = from-front rules table k i f h in
-        rw (drop-cons ws at 0 l, ap length (e .1)) (from-other i (getD ws at 0) (take (length (e .0)) (drop (suc at) ws)) h d)
-
-    pub stands-short : (i : ℕ) → i < k → length ws - at < getD table (4 * i + 1) 0 - getD table (4 * i) 0 → stands name rules table (drop at ws) i ≡ false
-    unfolding stands
-    stands-short i h s =
-        let n = from-length rules table k i f h in
-        let a = length-drop at ws in
-        runs-uneven name Kind (take (length (fromWords rules table i)) (drop at ws)) (fromWords rules table i) (λ e. omega (arith, e, n, s, a, length-take (length (fromWords rules table i)) (drop at ws)))
-
-    pub stands-run : (i : ℕ) → i < k → stands name rules table (drop at ws) i
-        ≡ sameRuns name Kind (take (getD table (4 * i + 1) 0 - getD table (4 * i) 0) (drop at ws)) (take (getD table (4 * i + 1) 0 - getD table (4 * i) 0) (drop (getD table (4 * i) 0) rules))
-    unfolding stands fromWords
-    stands-run i h = ap (λ n. sameRuns name Kind (take n (drop at ws)) (take (getD table (4 * i + 1) 0 - getD table (4 * i) 0) (drop (getD table (4 * i) 0) rules))) (from-length rules table k i f h)
+  pub stands-missed : (ws : List ℕ) (at : ℕ) → at < length ws → (i : ℕ) → i < k → (slotOf rules table i ≡ slot (getD ws at 0) → ⊥) → stands name rules table (drop at ws) i ≡ false
+  unfolding stands isFrom
+  stands-missed ws at l i h d =
+      let e = from-front rules table k i f h in
+      rw (drop-cons ws at 0 l, ap length (e .1)) (from-other i (getD ws at 0) (take (length (e .0)) (drop (suc at) ws)) h d)
 
 -- of k, those from i on are one and those from i + 1 on
 pub counted : (i k : ℕ) → i < k → k - i ≡ suc (k - (i + 1))

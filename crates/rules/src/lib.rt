@@ -176,6 +176,36 @@ fn link_rules(rules: &[u32], table: &mut [u16; 160], k: usize)
     }
 }
 
+// What an entry of a rule says: where its from begins, where its to begins and ends, and which rule of its slot comes after it.
+const FROM: usize = 0;
+
+pub const TO: usize = 1;
+
+pub const END: usize = 2;
+
+const LINK: usize = 3;
+
+fn wide(value: u16) -> usize
+    ensures { λ r. ⌜ r ≡ value ⌝ }
+{
+    value as usize
+}
+
+// An entry of rule `i`.
+pub fn entry(table: &[u16; 160], i: usize, kind: usize) -> usize
+    requires { ⌜ (i < 32) × (kind < 4) ⌝ }
+    ensures { λ r. ⌜ r ≡ getD (now (table .entry)) (4 * i + kind) 0 ⌝ }
+{
+    wide(table[4 * i + kind])
+}
+
+// The rule that comes first for a word.
+fn first_link(table: &[u16; 160], word: u32) -> usize
+    ensures { λ r. ⌜ r ≡ getD (now (table .entry)) (slot word) 0 ⌝ }
+{
+    wide(table[slot_of(word)])
+}
+
 // Whether the from of rule `i` is the same type as `count` words of `out`. Lengths are compared before words.
 fn is_from(
     rules: &[u32],
@@ -191,8 +221,8 @@ fn is_from(
     requires { ⌜ Good (now pairs) (now text) × Fits (now rules) (now table) k × (i < k) × (start + count ≤ length (now out)) ⌝ }
     ensures { λ r. ⌜ r ≡ isFrom (nameBytes (now (pairs .entry)) (now (text .entry))) (now (rules .entry)) (now (table .entry)) (take count (drop start (now (out .entry)))) i ⌝ }
 {
-    let from = table[4 * i] as usize;
-    if table[4 * i + 1] as usize - from != count {
+    let from = entry(table, i, FROM);
+    if entry(table, i, TO) - from != count {
         return false;
     }
     comparison::same_words(pairs, text, out, start, rules, from, count)
@@ -226,7 +256,7 @@ fn find_along(
         if is_from(rules, pairs, text, table, k, i, out, start, count) {
             return Found::At(i);
         }
-        next = table[4 * i + 3] as usize;
+        next = entry(table, i, LINK);
     }
     Found::Nothing
 }
@@ -246,7 +276,7 @@ pub fn find_rule(
     ensures { λ r. ⌜ r ≡ foundFrom (nameBytes (now (pairs .entry)) (now (text .entry))) (now (rules .entry)) (now (table .entry)) 0 k
         (take count (drop start (now (out .entry)))) ⌝ }
 {
-    let link = table[slot_of(out[start])] as usize;
+    let link = first_link(table, out[start]);
     find_along(rules, pairs, text, table, k, link, out, start, count)
 }
 
@@ -264,8 +294,8 @@ fn stands_at(
     requires { ⌜ Good (now pairs) (now text) × Fits (now rules) (now table) k × (i < k) × (at < length (now words)) ⌝ }
     ensures { λ r. ⌜ r ≡ stands (nameBytes (now (pairs .entry)) (now (text .entry))) (now (rules .entry)) (now (table .entry)) (drop at (now (words .entry))) i ⌝ }
 {
-    let from = table[4 * i] as usize;
-    let count = table[4 * i + 1] as usize - from;
+    let from = entry(table, i, FROM);
+    let count = entry(table, i, TO) - from;
     if words.len() - at < count {
         return false;
     }
@@ -288,13 +318,13 @@ fn some_stands(
     requires { ⌜ Good (now pairs) (now text) × Fits (now rules) (now table) k × Links (now rules) (now table) 0 k × (at < length (now words)) ⌝ }
     ensures { λ r. ⌜ r ≡ someStands (nameBytes (now (pairs .entry)) (now (text .entry))) (now (rules .entry)) (now (table .entry)) 0 k (drop at (now (words .entry))) ⌝ }
 {
-    let mut next = table[slot_of(words[at])] as usize;
+    let mut next = first_link(table, words[at]);
     while 0 < next {
         let i = next - 1;
         if stands_at(rules, pairs, text, table, k, i, words, at) {
             return true;
         }
-        next = table[4 * i + 3] as usize;
+        next = entry(table, i, LINK);
     }
     false
 }
@@ -343,9 +373,9 @@ fn is_among(
     ensures { λ r. ⌜ r ≡ amongFrom (nameBytes (now (pairs .entry)) (now (text .entry))) (now (rules .entry)) (now (table .entry)) (i + 1) (k - (i + 1))
         (fromWords (now (rules .entry)) (now (table .entry)) i) ⌝ }
 {
-    let start = table[4 * i] as usize;
-    let count = table[4 * i + 1] as usize - start;
-    let link = table[4 * i + 3] as usize;
+    let start = entry(table, i, FROM);
+    let count = entry(table, i, TO) - start;
+    let link = entry(table, i, LINK);
     is_found(find_along(rules, pairs, text, table, k, link, rules, start, count))
 }
 

@@ -9,9 +9,18 @@ use Rattle.rast.specs.Tree.{nil, cons}
 use Rattle.output.proofs.Laws.{wrote-as}
 use Rattle.encoding.specs.declared.Refusal.{Refusal}
 use Rattle.encoding.specs.declared.Refusal.the-variants.{LeftOver, BufferTooShort}
-use Rattle.encoding.specs.Reading.{got, stop}
-use Rattle.encoding.specs.Types.{typeAt}
-use Rattle.encoding.proofs.Answers.{filled-stop, filled-left, filled-short, filled-done}
+use Rattle.encoding.specs.declared.Check.{Check}
+use Rattle.encoding.specs.declared.Check.the-variants.{Passed, Failed}
+use Rattle.encoding.specs.declared.Scan.{Scan}
+use Rattle.encoding.specs.declared.Scan.the-variants.{At, Refused as Halted}
+use Rattle.encoding.specs.Refusals.{Answer, unless}
+use Rattle.encoding.specs.Reading.{got, whole}
+use Rattle.encoding.specs.Scans.{ended}
+use Rattle.encoding.specs.Tables.{checkTables}
+use Rattle.encoding.specs.Types.{typeAt, typeOf}
+use Rattle.encoding.specs.Declarations.{declarationOf}
+use Rattle.encoding.proofs.Answers.{filled-stop, filled-left, filled-short, filled-done, filled-passed, filled-failed, map-unless}
+use Rattle.encoding.proofs.Reading.{scan-got, scan-stop}
 use Rattle.encoding.proofs.Types.{type-lies}
 use Rattle.trees.proofs.Nodes.{one-read}
 use Rattle.writing.specs.declared.Spot.{Spot}
@@ -19,8 +28,8 @@ use Rattle.writing.specs.Written.{Readable}
 use Rattle.visits.specs.declared.VisitAnswer.{VisitAnswer}
 use Rattle.visits.specs.declared.VisitAnswer.the-variants.{Count, Refused}
 use Rattle.pieces.specs.declared.Whole.{Whole}
-use Rattle.pieces.specs.declared.Whole.the-variants.{AType}
-use Rattle.visits.specs.Visited.{visited, visitedFrom, positions}
+use Rattle.pieces.specs.declared.Whole.the-variants.{AType, ADeclaration}
+use Rattle.visits.specs.Visited.{visited, visitedFrom, positions, typeVisits, declarationVisits}
 use Rattle.visits.specs.Calls.{filled}
 use Rattle.visits.specs.Passes.{Due, Visited, heldVisits, Fills, AllVisited, wholeVisits}
 use Rattle.pieces.specs.Ends.{Held, heldAt}
@@ -55,12 +64,6 @@ module _ (ws pairs : List ℕ) (text : Bytes) where
       omega (arith, v .wrote .next, w .wrote .next, ap (λ (x : Held what). length (heldVisits what x)) e)
 
   module _ (what : Whole) (o : List ℕ) where
-    pub visits-stop : {k : Refusal} → heldAt what ws pairs text ≡ stop k → _≡_ {A = VisitAnswer × List ℕ} (Refused k, o) (filled o (wholeVisits what ws pairs text))
-    visits-stop e = filled-stop Count Refused o (heldVisits what) (length ws) (heldAt what ws pairs text) e
-
-    pub visits-left : {v : Held what} {n : ℕ} → heldAt what ws pairs text ≡ got v n → (n ≡ length ws → ⊥) → _≡_ {A = VisitAnswer × List ℕ} (Refused LeftOver, o) (filled o (wholeVisits what ws pairs text))
-    visits-left e h = filled-left Count Refused o (heldVisits what) (length ws) (heldAt what ws pairs text) e h
-
     module _ (f : Fills what ws pairs text) where
       whole-read : {o₁ o₂ : List ℕ} {p : ℕ} (v : AllVisited what ws pairs text o₁ o₂ p) → v .end ≡ length ws
       whole-read v = let m : length ws ≡ v .end = cc (f .reads, v .reads) in sym m
@@ -73,10 +76,39 @@ module _ (ws pairs : List ℕ) (text : Bytes) where
           filled-done Count Refused o (heldVisits what) (length ws) (heldAt what ws pairs text) p (v .reads) (whole-read v)
           (omega (arith, v .wrote .next, l)) (omega (arith, v .wrote .next)) (v .wrote .bytes)
 
-  -- a tree that ends where the words do
-  module _ (what : Whole) {v : Held what} {n : ℕ} (e : heldAt what ws pairs text ≡ got v n) (h : n ≡ length ws) where
-    pub fills : Fills what ws pairs text
-    fills = record { value = v; reads = e ∙ ap (got v) h }
+      -- there are no more positions than words
+      pub visits-within : {o′ : List ℕ} {p : ℕ} → AllVisited what ws pairs text o o′ p → length ws ≤ length o → _≡_ {A = VisitAnswer × List ℕ} (Count p, o′) (filled o (wholeVisits what ws pairs text))
+      visits-within v l = visits-done v (omega (arith, v .counted, l))
+
+  -- by what acceptance said: the tree ends where the words do, or before, or it is refused
+  module _ (what : Whole) {s : Scan} (e : s ≡ ended (heldAt what ws pairs text)) where
+    pub fills : {n : ℕ} → s ≡ At n → n ≡ length ws → Fills what ws pairs text
+    fills d h = let t = scan-got (heldAt what ws pairs text) e d in record { value = t .value; reads = t .reads ∙ ap (got (t .value)) h }
+
+    pub visits-left : (o : List ℕ) {n : ℕ} → s ≡ At n → (n ≡ length ws → ⊥) → _≡_ {A = VisitAnswer × List ℕ} (Refused LeftOver, o) (filled o (wholeVisits what ws pairs text))
+    visits-left o d h = filled-left Count Refused o (heldVisits what) (length ws) (heldAt what ws pairs text) (scan-got (heldAt what ws pairs text) e d .reads) h
+
+    pub visits-stop : (o : List ℕ) {k : Refusal} → s ≡ Halted k → _≡_ {A = VisitAnswer × List ℕ} (Refused k, o) (filled o (wholeVisits what ws pairs text))
+    visits-stop o d = filled-stop Count Refused o (heldVisits what) (length ws) (heldAt what ws pairs text) (scan-stop (heldAt what ws pairs text) e d)
 
   pub fills-readable : {what : Whole} → Fills what ws pairs text → Readable (heldAt what ws pairs text)
   fills-readable f = record { value = f .value; end = length ws; reads = f .reads }
+
+  -- ---- the tables are tested first
+
+  -- what the two calls are to give
+  abbrev callVisits : Whole → Answer (List ℕ)
+  callVisits AType = typeVisits ws pairs text
+  callVisits ADeclaration = declarationVisits ws pairs text
+
+  call-tested : (what : Whole) → unless (checkTables ws pairs text) (wholeVisits what ws pairs text) ≡ callVisits what
+  unfolding typeVisits typeOf declarationVisits declarationOf
+  call-tested AType = sym (map-unless (heldVisits AType) (checkTables ws pairs text) (whole (length ws) (heldAt AType ws pairs text)))
+  call-tested ADeclaration = sym (map-unless (heldVisits ADeclaration) (checkTables ws pairs text) (whole (length ws) (heldAt ADeclaration ws pairs text)))
+
+  module _ (what : Whole) (o : List ℕ) {t : Check} (e : t ≡ checkTables ws pairs text) where
+    pub tables-passed-visits : {p : VisitAnswer × List ℕ} → t ≡ Passed → p ≡ filled o (wholeVisits what ws pairs text) → p ≡ filled o (callVisits what)
+    tables-passed-visits d h = filled-passed Count Refused o (checkTables ws pairs text) (wholeVisits what ws pairs text) (sym e ∙ d) h ∙ ap (filled o) (call-tested what)
+
+    pub tables-failed-visits : {k : Refusal} → t ≡ Failed k → _≡_ {A = VisitAnswer × List ℕ} (Refused k, o) (filled o (callVisits what))
+    tables-failed-visits d = filled-failed Count Refused o (checkTables ws pairs text) (wholeVisits what ws pairs text) (sym e ∙ d) ∙ ap (filled o) (call-tested what)

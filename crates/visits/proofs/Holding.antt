@@ -3,14 +3,13 @@ use Prim.Native.Nat.{ℕ, zero, suc, _+_, _≤_, _<_}
 use mathlib.Core.Path.{_≡_, refl, ap, sym, _∙_, subst}
 use mathlib.Core.Logic.{⊎-elim}
 use mathlib.Core.List.{List, [], _∷_, _++_, List·Memᴰ, List·Memᴰ·not-nil, List·Memᴰ·cases-cons, List·Memᴰ·append-cases}
-use native.Mathlib.Decide.{ℕ-discrete, decLt}
+use native.Mathlib.Decide.{ℕ-discrete}
 use native.Mathlib.Omega.{arith}
 use lib.ListN.{length, length-map}
 use Rattle.rast.specs.Bytes.{Bytes}
 use Rattle.rast.specs.Tree.{Ty, Tys, TSynonym, nil, cons}
 use Rattle.rast.specs.Declaration.{Declaration}
-use Rattle.encoding.specs.declared.Refusal.{Refusal}
-use Rattle.encoding.specs.Reading.{Reading, got, stop, readWord, readBelow}
+use Rattle.encoding.specs.Reading.{Reading, got, stop}
 use Rattle.encoding.specs.Tables.{checkTables, nameBytes, nameCount}
 use Rattle.encoding.specs.Heads.{readHead}
 use Rattle.encoding.specs.HeadWords.{kids}
@@ -27,14 +26,13 @@ use Rattle.trees.specs.Places.{Place, place}
 use Rattle.trees.proofs.Nodes.{node-below, one-read}
 use Rattle.trees.proofs.Renaming.{type-words}
 use Rattle.writing.proofs.Accepted.{type-here, synonym-head}
-use Rattle.pieces.specs.declared.After.{After}
-use Rattle.pieces.specs.declared.After.the-variants.{FieldList, CaseList, OneType, NoMore}
 use Rattle.pieces.specs.declared.Walk.{Walk}
 use Rattle.pieces.specs.declared.Next.{Next}
 use Rattle.pieces.specs.declared.Next.the-variants.{OwnWords, TypeDue, Ended, Halted}
 use Rattle.pieces.specs.Pieces.{Piece, type, typePiece}
-use Rattle.pieces.specs.Walks.{leftAt, moved, readEntry, readTwo, Stepped, type-due, parameter, no-parameter, fields, no-fields, cases, no-cases, alias, field, no-field, nameless, no-nameless, case, no-case, end, Opening, opened, readOpening, started}
+use Rattle.pieces.specs.Walks.{leftAt, moved, Stepped, Opening, opened, readOpening, started}
 use Rattle.pieces.proofs.Steps.{own-step, due-step, end-step, halt-step}
+use Rattle.pieces.proofs.NextSteps.{next-step}
 use Rattle.pieces.proofs.Fronts.{behind-got}
 use Rattle.visits.specs.Visited.{visited, visitedFrom, visitedAll, visitedPieces, visitedDeclaration}
 use Rattle.visits.specs.Passes.{enteredWalk}
@@ -45,48 +43,6 @@ use Rattle.visits.proofs.Entering.{visited-behind, entered-left, not-be
 -- the type of the place is read there, to the last of the words that it takes
 abbrev pub Holding : List ℕ → List ℕ → Bytes → Place Bytes → Type 0
 Holding ws pairs text x = typeAt ws pairs text (x .at) ≡ got (x .tpe) (x .at + words (x .tpe))
-
--- ---- a walk has a next step
-
-module _ (bound : ℕ) (ws : List ℕ) (w : Walk) where
-  record Step : Type 0 where
-    next : Next
-    steps : Stepped bound ws w next
-
-  by : {s : Next} → Stepped bound ws w s → Step
-  by {s} k = record { next = s; steps = k }
-
-  -- by own words, or by a refusal
-  reading : {A : Type 0} (y : Reading A) → ((a : A) (q : ℕ) → y ≡ got a q → Step) → ((r : Refusal) → y ≡ stop r → Step) → Step
-  reading (got a q) f g = f a q refl
-  reading (stop r) f g = g r refl
-
-  member-step : w .types ≡ 0 → w .parameters ≡ 0 → w .after ≡ NoMore → Step
-  member-step e d a = elim (decLt 0 (w .fields)) [
-    | yes h ↦ elim (ℕ-discrete (w .kind) 0) [
-      | yes k ↦ reading (readTwo 2 bound ws (w .place)) (λ v q r. by (field e d a h k r)) (λ i r. by (no-field e d a h k r))
-      | no k ↦ reading (readBelow 2 ws (w .place)) (λ v q r. by (nameless e d a h k r)) (λ i r. by (no-nameless e d a h k r))
-    ]
-    | no h ↦ elim (decLt 0 (w .cases)) [
-      | yes k ↦ reading (readTwo bound bound ws (w .place)) (λ v q r. by (case e d a (omega arith) k r)) (λ i r. by (no-case e d a (omega arith) k r))
-      | no k ↦ by (end e d a (omega arith) (omega arith))
-    ]
-  ]
-
-  body-step : w .types ≡ 0 → w .parameters ≡ 0 → (a : After) → w .after ≡ a → Step
-  body-step e d FieldList a = reading (readEntry 2 ws (w .place)) (λ v q r. by (fields e d a r)) (λ i r. by (no-fields e d a r))
-  body-step e d CaseList a = reading (readWord ws (w .place)) (λ v q r. by (cases e d a r)) (λ i r. by (no-cases e d a r))
-  body-step e d OneType a = by (alias e d a)
-  body-step e d NoMore a = member-step e d a
-
-  next-step : Step
-  next-step = elim (decLt 0 (w .types)) [
-    | yes h ↦ by (type-due h)
-    | no h ↦ elim (decLt 0 (w .parameters)) [
-      | yes k ↦ reading (readEntry bound ws (w .place)) (λ v q r. by (parameter (omega arith) k r)) (λ i r. by (no-parameter (omega arith) k r))
-      | no k ↦ body-step (omega arith) (omega arith) (w .after) refl
-    ]
-  ]
 
 module _ (ws pairs : List ℕ) (text : Bytes) (x : Place Bytes) where
   -- ---- types

@@ -179,25 +179,13 @@ fn visit_fields(
 fn is_done(walk: Walk) -> bool
     ensures { λ r. ⌜ (r ≡ true → Done walk) ⌝ }
 {
-    let after = walk.after;
     if walk.cases != 0 {
         return false;
     }
     if walk.fields != 0 {
         return false;
     }
-    if walk.types != 0 {
-        return false;
-    }
-    if walk.parameters != 0 {
-        return false;
-    }
-    match after {
-        After::FieldList => false,
-        After::CaseList => false,
-        After::OneType => false,
-        After::NoMore => true,
-    }
+    pieces::is_at_members(walk)
 }
 
 // The types that a walk comes to, which were accepted. The answer is how many positions there are.

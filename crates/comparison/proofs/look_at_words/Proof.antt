@@ -1,17 +1,16 @@
-use Prim.Native.Nat.{_+_, _≤_}
-use Rattle.comparison.proofs.Looks.{looks-none, looks-on, looks-stop}
+use Rattle.comparison.proofs.Looks.{looks-step}
+use Rattle.comparison.proofs.Words.{Compares, compares-none, compares-on, compares-stop}
 use Rattle.comparison.specs.Looks.{looks}
-use lib.ListN.{drop, length, take}
+use lib.ListN.{drop, take}
 use mathlib.Core.Bool.{true}
-use mathlib.Core.Path.{_∙_, _≡_, sym}
+use mathlib.Core.Path.{_∙_, sym}
 use native.Mathlib.Omega.{arith}
 use borrow.Author.Needs.{needs}
 use Rattle.comparison.proofs.look_at_words.Statement.{statement}
 use Rattle.comparison.proofs.look_at_words.Tie as tie
 
 abbrev Inv-loop : tie.InvT-loop
-Inv-loop a start b from count equal₀ i₀ j₀ left₀ equal i j left =
-    (i + left ≤ length a) × (j + left ≤ length b) × (looks equal (take left (drop i a)) (take left (drop j b)) ≡ looks true (take count (drop start a)) (take count (drop from b)))
+Inv-loop a start b from count equal₀ i₀ j₀ left₀ equal i j left = Compares looks a b (looks true (take count (drop start a)) (take count (drop from b))) equal i j left
 
 abbrev μ-loop : tie.MeasureT-loop
 μ-loop a start b from count equal₀ i₀ j₀ left₀ equal i j left = left
@@ -35,9 +34,7 @@ never-agree-requires : tie.Need-never-agree-requires Inv-loop μ-loop
 never-agree-requires c κs = search needs
 
 returns : tie.Need-returns Inv-loop μ-loop
-returns c =
-    let a = c .before .before .before .before .before .before .before .before .args in let l = c .before .before .before .before .before .loop in
-    sym (sym (l .inv .2) ∙ looks-stop (l .equal) (a .a .now) (a .b .now) (l .i) (l .j) (l .left) (omega arith) (omega arith) (omega arith) (sym (c .before .never-agree .ensures) ∙ c .if1 .taken))
+returns c = compares-stop (c .before .before .before .before .before .loop .inv) looks-step (omega arith) (sym (c .before .never-agree .ensures) ∙ c .if1 .taken)
 
 still-equal-requires : tie.Need-still-equal-requires Inv-loop μ-loop
 still-equal-requires c κs = search needs
@@ -55,18 +52,13 @@ loop-less : tie.Need-loop-less Inv-loop μ-loop
 loop-less c = search needs
 
 loop-again : tie.Need-loop-again Inv-loop μ-loop
-loop-again c =
-    let a = c .before .before .before .before .before .before .before .before .before .args in let l = c .before .before .before .before .before .before .loop in
-    let e = looks-on (l .equal) (a .a .now) (a .b .now) (l .i) (l .j) (l .left) (omega arith) (omega arith) (omega arith) (sym (c .before .before .never-agree .ensures) ∙ c .before .if1 .left) in
-    (omega arith, omega arith, rw (c .still-equal .ensures) (sym e ∙ l .inv .2))
+loop-again c = compares-on (c .before .before .before .before .before .before .loop .inv) looks-step (omega arith) (sym (c .before .before .never-agree .ensures) ∙ c .before .if1 .left) (c .still-equal .ensures)
 
 look-of-requires : tie.Need-look-of-requires Inv-loop μ-loop
 look-of-requires c κs = search needs
 
 returns-2 : tie.Need-returns-2 Inv-loop μ-loop
-returns-2 c =
-    let a = c .before .before .before .before .before .args in let l = c .before .before .loop in
-    c .look-of .ensures ∙ sym (looks-none (l .equal) (a .a .now) (a .b .now) (l .i) (l .j) (l .left) (omega arith)) ∙ l .inv .2
+returns-2 c = c .look-of .ensures ∙ compares-none (c .before .before .loop .inv) (omega arith)
 
 pub look-at-words-spec : {M : Type 1} → statement M
 look-at-words-spec =

@@ -1,21 +1,18 @@
-use Prim.Native.Nat.{_+_, _≤_}
-use Rattle.comparison.proofs.Steps.{runs-none, runs-on, runs-stop}
-use Rattle.comparison.specs.Runs.{agrees, sameRuns}
+use Rattle.comparison.proofs.Steps.{runs-step}
+use Rattle.comparison.proofs.Words.{Compares, compares-none, compares-on, compares-stop}
+use Rattle.comparison.specs.Runs.{sameRuns}
 use Rattle.comparison.specs.declared.Due.the-variants.{Kind}
 use Rattle.encoding.specs.Tables.{nameBytes}
-use borrow.Author.Tests.{not-false, not-true}
-use lib.ListN.{drop, getD, length, take}
-use mathlib.Core.Bool.{false, true}
-use mathlib.Core.Path.{_∙_, _≡_, sym}
+use lib.ListN.{drop, take}
+use mathlib.Core.Bool.{not}
+use mathlib.Core.Path.{_∙_, ap, sym}
 use native.Mathlib.Omega.{arith}
 use borrow.Author.Needs.{needs}
 use Rattle.comparison.proofs.same_types.Statement.{statement}
 use Rattle.comparison.proofs.same_types.Tie as tie
 
 abbrev Inv-loop : tie.InvT-loop
-Inv-loop pairs text a start b from count due₀ i₀ j₀ left₀ due i j left =
-    (i + left ≤ length a) × (j + left ≤ length b)
-    × (sameRuns (nameBytes pairs text) due (take left (drop i a)) (take left (drop j b)) ≡ sameRuns (nameBytes pairs text) Kind (take count (drop start a)) (take count (drop from b)))
+Inv-loop pairs text a start b from count due₀ i₀ j₀ left₀ due i j left = Compares (sameRuns (nameBytes pairs text)) a b (sameRuns (nameBytes pairs text) Kind (take count (drop start a)) (take count (drop from b))) due i j left
 
 abbrev μ-loop : tie.MeasureT-loop
 μ-loop pairs text a start b from count due₀ i₀ j₀ left₀ due i j left = left
@@ -40,9 +37,8 @@ words-agree-requires c κs = search needs
 
 returns : tie.Need-returns Inv-loop μ-loop
 returns c =
-    let a = c .before .before .before .before .before .before .before .before .before .before .args in let l = c .before .before .before .before .before .loop in
-    let e : agrees (nameBytes (a .pairs .now) (a .text .now)) (l .due) (getD (a .a .now) (l .i) 0) (getD (a .b .now) (l .j) 0) ≡ false = sym (c .before .words-agree .ensures) ∙ not-true _ (c .if1 .taken) in
-    sym (sym (l .inv .2) ∙ runs-stop (nameBytes (a .pairs .now) (a .text .now)) (l .due) (a .a .now) (a .b .now) (l .i) (l .j) (l .left) (omega arith) (omega arith) (omega arith) e)
+    let a = c .before .before .before .before .before .before .before .before .before .before .args in
+    compares-stop (c .before .before .before .before .before .loop .inv) (runs-step (nameBytes (a .pairs .now) (a .text .now))) (omega arith) (ap not (sym (c .before .words-agree .ensures)) ∙ c .if1 .taken)
 
 due-after-requires : tie.Need-due-after-requires Inv-loop μ-loop
 due-after-requires c κs = search needs
@@ -61,14 +57,12 @@ loop-less c = search needs
 
 loop-again : tie.Need-loop-again Inv-loop μ-loop
 loop-again c =
-    let a = c .before .before .before .before .before .before .before .before .before .before .before .args in let l = c .before .before .before .before .before .before .loop in
-    let e : agrees (nameBytes (a .pairs .now) (a .text .now)) (l .due) (getD (a .a .now) (l .i) 0) (getD (a .b .now) (l .j) 0) ≡ true = sym (c .before .before .words-agree .ensures) ∙ not-false _ (c .before .if1 .left) in
-    (omega arith, omega arith, rw (c .due-after .ensures) (sym (runs-on (nameBytes (a .pairs .now) (a .text .now)) (l .due) (a .a .now) (a .b .now) (l .i) (l .j) (l .left) (omega arith) (omega arith) (omega arith) e) ∙ l .inv .2))
+    let a = c .before .before .before .before .before .before .before .before .before .before .before .args in
+    compares-on (c .before .before .before .before .before .before .loop .inv) (runs-step (nameBytes (a .pairs .now) (a .text .now))) (omega arith) (ap not (sym (c .before .before .words-agree .ensures)) ∙ c .before .if1 .left) (c .due-after .ensures)
 
 returns-2 : tie.Need-returns-2 Inv-loop μ-loop
-returns-2 c =
-    let a = c .before .before .before .before .before .before .args in let l = c .before .loop in
-    sym (sym (l .inv .2) ∙ runs-none (nameBytes (a .pairs .now) (a .text .now)) (l .due) (a .a .now) (a .b .now) (l .i) (l .j) (l .left) (omega arith))
+unfolding sameRuns
+returns-2 c = compares-none (c .before .loop .inv) (omega arith)
 
 pub same-types-spec : {M : Type 1} → statement M
 same-types-spec =

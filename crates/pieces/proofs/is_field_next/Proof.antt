@@ -1,54 +1,17 @@
 use Rattle.encoding.proofs.Tables.{impossible}
 use native.Mathlib.Omega.{arith}
-use Rattle.pieces.proofs.is_field_next.Statement.{statement}
 use borrow.Author.Needs.{needs}
+use Rattle.pieces.proofs.is_field_next.Statement.{statement}
 use Rattle.pieces.proofs.is_field_next.Tie as tie
 
 returns : tie.Need-returns
 returns c = λ e. impossible (cc)
 
+is-at-members-requires : tie.Need-is-at-members-requires
+is-at-members-requires c κs = search needs
+
 returns-2 : tie.Need-returns-2
-returns-2 c = λ e. impossible (cc)
-
-returns-3 : tie.Need-returns-3
-returns-3 c = λ e. impossible (cc)
-
-enum-told : tie.Need-enum-told
-enum-told c = search needs
-
-enum-told-2 : tie.Need-enum-told-2
-enum-told-2 c = search needs
-
-enum-told-3 : tie.Need-enum-told-3
-enum-told-3 c = search needs
-
-enum-told-4 : tie.Need-enum-told-4
-enum-told-4 c = search needs
-
-returns-4 : tie.Need-returns-4
-returns-4 c = λ e. impossible (cc)
-
-returns-5 : tie.Need-returns-5
-returns-5 c = λ e. impossible (cc)
-
-returns-6 : tie.Need-returns-6
-returns-6 c = λ e. impossible (cc)
-
-returns-7 : tie.Need-returns-7
-returns-7 c = λ e. (c .before .before .before .before .if2 .left, c .before .before .if3 .left, c .enum-told4 .given .1, omega (arith, c .before .before .before .before .before .before .if1 .left))
+returns-2 c = λ e. let m = c .is-at-members .ensures e in (m .0, m .1, m .2, omega (arith, c .before .if1 .left))
 
 pub is-field-next-spec : {M : Type 1} → statement M
-is-field-next-spec =
-    tie.close
-    (tie.spec
-    returns
-    returns-2
-    returns-3
-    enum-told
-    enum-told-2
-    enum-told-3
-    enum-told-4
-    returns-4
-    returns-5
-    returns-6
-    returns-7)
+is-field-next-spec = tie.close (tie.spec returns is-at-members-requires returns-2)

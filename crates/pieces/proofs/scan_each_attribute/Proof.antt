@@ -1,9 +1,8 @@
 use Rattle.encoding.specs.Scans.{ended}
-use Rattle.encoding.proofs.Reading.{scan-stop}
 use Rattle.encoding.specs.Declarations.{readList}
-use Rattle.pieces.proofs.Scans.{end-got, list-more, list-none, list-stops}
+use Rattle.pieces.proofs.Scans.{each-ended, each-next, each-refused, list-each}
 use Rattle.pieces.specs.Walks.{readOneAttribute}
-use mathlib.Core.Path.{_∙_, _≡_, refl, sym}
+use mathlib.Core.Path.{_≡_, refl}
 use native.Mathlib.Omega.{arith}
 use borrow.Author.Needs.{needs}
 use Rattle.pieces.proofs.scan_each_attribute.Statement.{statement}
@@ -29,7 +28,8 @@ enum-known-r c = search needs
 
 returns : tie.Need-returns Inv-loop μ-loop
 returns c =
-    sym (list-stops (readOneAttribute (c .before .before .before .before .before .before .before .args .bound) (c .before .before .before .before .before .before .before .args .words .now)) (c .before .before .before .before .before .loop .left) (c .before .before .before .before .before .loop .pos) (search needs) (scan-stop ((readOneAttribute (c .before .before .before .before .before .before .before .args .bound) (c .before .before .before .before .before .before .before .args .words .now)) (c .before .before .before .before .before .loop .pos)) (c .before .before .before .scan-attribute .ensures) (c .before .r .given .1))) ∙ c .before .before .before .before .before .loop .inv
+    let a = c .before .before .before .before .before .before .before .args in
+    each-refused (list-each (readOneAttribute (a .bound) (a .words .now))) (c .before .before .before .before .before .loop .inv) (search needs) (c .before .before .before .scan-attribute .ensures) (c .before .r .given .1)
 
 sub-left : tie.Need-sub-left Inv-loop μ-loop
 sub-left c = search needs
@@ -39,11 +39,13 @@ loop-less c = search needs
 
 loop-again : tie.Need-loop-again Inv-loop μ-loop
 loop-again c =
-    sym (list-more (readOneAttribute (c .before .before .before .before .before .before .before .args .bound) (c .before .before .before .before .before .before .before .args .words .now)) (c .before .before .before .before .before .loop .left) (c .before .before .before .before .before .loop .pos) (search needs) (end-got ((readOneAttribute (c .before .before .before .before .before .before .before .args .bound) (c .before .before .before .before .before .before .before .args .words .now)) (c .before .before .before .before .before .loop .pos)) (c .before .before .before .scan-attribute .ensures) (c .before .next .given .1))) ∙ c .before .before .before .before .before .loop .inv
+    let a = c .before .before .before .before .before .before .before .args in
+    each-next (list-each (readOneAttribute (a .bound) (a .words .now))) (c .before .before .before .before .before .loop .inv) (search needs) (c .before .before .before .scan-attribute .ensures) (c .before .next .given .1)
 
 returns-2 : tie.Need-returns-2 Inv-loop μ-loop
 returns-2 c =
-    sym (list-none (readOneAttribute (c .before .before .before .args .bound) (c .before .before .before .args .words .now)) (c .before .loop .left) (c .before .loop .pos) (omega arith)) ∙ c .before .loop .inv
+    let a = c .before .before .before .args in
+    each-ended (list-each (readOneAttribute (a .bound) (a .words .now))) (c .before .loop .inv) (omega arith)
 
 pub scan-each-attribute-spec : {M : Type 1} → statement M
 scan-each-attribute-spec =

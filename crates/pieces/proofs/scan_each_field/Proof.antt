@@ -1,6 +1,7 @@
 use Rattle.pieces.specs.Ends.{eachFieldEnd}
-use Rattle.pieces.proofs.Ends.{fields-more, fields-none, fields-stop}
-use mathlib.Core.Path.{_≡_, refl, sym, _∙_}
+use Rattle.pieces.proofs.Ends.{fields-each}
+use Rattle.pieces.proofs.Scans.{each-ended, each-next, each-refused}
+use mathlib.Core.Path.{_≡_, refl}
 use native.Mathlib.Omega.{arith}
 use borrow.Author.Needs.{needs}
 use Rattle.pieces.proofs.scan_each_field.Statement.{statement}
@@ -27,8 +28,7 @@ enum-known-r c = search needs
 returns : tie.Need-returns Inv-loop μ-loop
 returns c =
     let a = c .before .before .before .before .before .before .before .before .before .args in
-    let l = c .before .before .before .before .before .loop in
-    sym (fields-stop (a .words .now) (a .pairs .now) (a .text .now) (a .kind) (l .left) (l .pos) (search needs) (sym (c .before .before .before .scan-field .ensures) ∙ c .before .r .given .1)) ∙ l .inv
+    each-refused (fields-each (a .words .now) (a .pairs .now) (a .text .now) (a .kind)) (c .before .before .before .before .before .loop .inv) (search needs) (c .before .before .before .scan-field .ensures) (c .before .r .given .1)
 
 sub-left : tie.Need-sub-left Inv-loop μ-loop
 sub-left c = search needs
@@ -39,14 +39,12 @@ loop-less c = search needs
 loop-again : tie.Need-loop-again Inv-loop μ-loop
 loop-again c =
     let a = c .before .before .before .before .before .before .before .before .before .args in
-    let l = c .before .before .before .before .before .loop in
-    sym (fields-more (a .words .now) (a .pairs .now) (a .text .now) (a .kind) (l .left) (l .pos) (search needs) (sym (c .before .before .before .scan-field .ensures) ∙ c .before .next .given .1)) ∙ l .inv
+    each-next (fields-each (a .words .now) (a .pairs .now) (a .text .now) (a .kind)) (c .before .before .before .before .before .loop .inv) (search needs) (c .before .before .before .scan-field .ensures) (c .before .next .given .1)
 
 returns-2 : tie.Need-returns-2 Inv-loop μ-loop
 returns-2 c =
     let a = c .before .before .before .before .before .args in
-    let l = c .before .loop in
-    sym (fields-none (a .words .now) (a .pairs .now) (a .text .now) (a .kind) (l .left) (l .pos) (omega arith)) ∙ l .inv
+    each-ended (fields-each (a .words .now) (a .pairs .now) (a .text .now) (a .kind)) (c .before .loop .inv) (omega arith)
 
 pub scan-each-field-spec : {M : Type 1} → statement M
 scan-each-field-spec =

@@ -1,9 +1,8 @@
 use Rattle.encoding.specs.Scans.{ended}
 use Rattle.encoding.specs.Types.{typeAt}
 use Rattle.encoding.specs.Declarations.{readList}
-use Rattle.encoding.proofs.Reading.{scan-stop}
-use Rattle.pieces.proofs.Scans.{end-got, list-more, list-none, list-stops}
-use mathlib.Core.Path.{_≡_, refl, sym, _∙_}
+use Rattle.pieces.proofs.Scans.{each-ended, each-next, each-refused, list-each}
+use mathlib.Core.Path.{_≡_, refl}
 use native.Mathlib.Omega.{arith}
 use borrow.Author.Needs.{needs}
 use Rattle.pieces.proofs.scan_types.Statement.{statement}
@@ -30,8 +29,7 @@ enum-known-r c = search needs
 returns : tie.Need-returns Inv-loop μ-loop
 returns c =
     let a = c .before .before .before .before .before .before .before .before .before .args in
-    let l = c .before .before .before .before .before .loop in
-    sym (list-stops (typeAt (a .words .now) (a .pairs .now) (a .text .now)) (l .left) (l .pos) (search needs) (scan-stop (typeAt (a .words .now) (a .pairs .now) (a .text .now) (l .pos)) (c .before .before .before .scan-type .ensures) (c .before .r .given .1))) ∙ l .inv
+    each-refused (list-each (typeAt (a .words .now) (a .pairs .now) (a .text .now))) (c .before .before .before .before .before .loop .inv) (search needs) (c .before .before .before .scan-type .ensures) (c .before .r .given .1)
 
 sub-left : tie.Need-sub-left Inv-loop μ-loop
 sub-left c = search needs
@@ -42,14 +40,12 @@ loop-less c = search needs
 loop-again : tie.Need-loop-again Inv-loop μ-loop
 loop-again c =
     let a = c .before .before .before .before .before .before .before .before .before .args in
-    let l = c .before .before .before .before .before .loop in
-    sym (list-more (typeAt (a .words .now) (a .pairs .now) (a .text .now)) (l .left) (l .pos) (search needs) (end-got (typeAt (a .words .now) (a .pairs .now) (a .text .now) (l .pos)) (c .before .before .before .scan-type .ensures) (c .before .next .given .1))) ∙ l .inv
+    each-next (list-each (typeAt (a .words .now) (a .pairs .now) (a .text .now))) (c .before .before .before .before .before .loop .inv) (search needs) (c .before .before .before .scan-type .ensures) (c .before .next .given .1)
 
 returns-2 : tie.Need-returns-2 Inv-loop μ-loop
 returns-2 c =
     let a = c .before .before .before .before .before .args in
-    let l = c .before .loop in
-    sym (list-none (typeAt (a .words .now) (a .pairs .now) (a .text .now)) (l .left) (l .pos) (omega arith)) ∙ l .inv
+    each-ended (list-each (typeAt (a .words .now) (a .pairs .now) (a .text .now))) (c .before .loop .inv) (omega arith)
 
 pub scan-types-spec : {M : Type 1} → statement M
 scan-types-spec =

@@ -1,67 +1,30 @@
-use Prim.Native.Nat.{_*_, _+_, _-_, _<_, _^_}
-use Rattle.rules.specs.Scans.{Spans}
-use Rattle.trees.specs.Numbered.{treeAt}
-use Rattle.rebuild.proofs.Growing.{gives-over, gives-to}
-use lib.ListN.{getD}
-use mathlib.Core.Path.{_≡_, subst}
+use Rattle.rebuild.proofs.Growing.{gives-over, gives-to, to-ends, to-inside, to-spans}
 use native.Mathlib.Omega.{arith}
 use borrow.Author.Needs.{needs}
 use Rattle.rebuild.proofs.give_way.Statement.{statement}
 use Rattle.rebuild.proofs.give_way.Tie as tie
 
-mul-to : tie.Need-mul-to
-mul-to c = search needs
+entry-requires : tie.Need-entry-requires
+entry-requires c κs = search needs
 
-add-to : tie.Need-add-to
-add-to c = search needs
-
-mul-to-2 : tie.Need-mul-to-2
-mul-to-2 c = search needs
-
-element-copy-out-to : tie.Need-element-copy-out-to
-element-copy-out-to c = search needs
-
-cast-to : tie.Need-cast-to
-cast-to c =
-    let s = c .before .before .before .before in let a = s .args in let f = s .pre .0 in
-    let h : getD (a .table .now) (4 * a .i + 1) 0 < 2 ^ 64 = omega (arith, f .to (a .i) (s .pre .1), f .inside (a .i) (s .pre .1)) in search needs
-
-mul-count : tie.Need-mul-count
-mul-count c = search needs
-
-add-count : tie.Need-add-count
-add-count c = search needs
-
-mul-count-2 : tie.Need-mul-count-2
-mul-count-2 c = search needs
-
-element-copy-out-count : tie.Need-element-copy-out-count
-element-copy-out-count c = search needs
-
-cast-count : tie.Need-cast-count
-cast-count c =
-    let s = c .before .before .before .before .before in let a = s .args in let f = s .pre .0 in
-    let h : getD (a .table .now) (4 * a .i + 2) 0 < 2 ^ 64 = omega (arith, f .inside (a .i) (s .pre .1)) in search needs
+entry-requires-2 : tie.Need-entry-requires-2
+entry-requires-2 c κs = search needs
 
 sub-count : tie.Need-sub-count
 sub-count c =
-    let a = c .before .before .before .before .before .args in let pre = c .before .before .before .before .before .pre in let f = pre .0 in omega (arith, f .to (a .i) (pre .1))
+    let s = c .before .before .before .before .before in to-ends (c .before .entry .ensures) (c .entry2 .ensures) (s .pre .0) (s .pre .1)
 
 lay-requires : tie.Need-lay-requires
 lay-requires c κs =
-    let a = c .before .before .before .before .before .before .args in let pre = c .before .before .before .before .before .before .pre in let f = pre .0 in
-    (omega (arith, f .to (a .i) (pre .1), f .inside (a .i) (pre .1)), pre .3, pre .4)
+    let s = c .before .before .before .before .before .before in (to-inside (c .before .before .entry .ensures) (c .before .entry2 .ensures) (s .pre .0) (s .pre .1), s .pre .3, s .pre .4)
 
 enum-known-pos : tie.Need-enum-known-pos
 enum-known-pos c = search needs
 
 depth-in-requires : tie.Need-depth-in-requires
 depth-in-requires c κs =
-    let a = c .before .before .before .before .before .before .before .before .before .before .before .before .args in let pre = c .before .before .before .before .before .before .before .before .before .before .before .before .pre in let f = pre .0 in
-    let to = getD (a .table .now) (4 * a .i + 1) 0 in
-    let end = getD (a .table .now) (4 * a .i + 2) 0 in
-    let z : end ≡ to + (end - to) = omega (arith, f .to (a .i) (pre .1)) in
-    (omega (arith, f .to (a .i) (pre .1), f .inside (a .i) (pre .1)), subst (Spans (treeAt (a .rules .now) (a .pairs .now) to)) z (pre .2))
+    let s = c .before .before .before .before .before .before .before .before .before .before .before .before in let t = to-inside (c .before .before .before .before .before .before .before .before .entry .ensures) (c .before .before .before .before .before .before .before .entry2 .ensures) (s .pre .0) (s .pre .1) in
+    (omega (arith, t), to-spans (c .before .before .before .before .before .before .before .before .entry .ensures) (c .before .before .before .before .before .before .before .entry2 .ensures) (s .pre .0) (s .pre .1) (s .args .pairs .now) (s .pre .2))
 
 enum-told : tie.Need-enum-told
 enum-told c = search needs
@@ -70,28 +33,20 @@ same-length : tie.Need-same-length
 same-length c = search needs
 
 returns : tie.Need-returns
-returns c = gives-to (c .before .before .before .before .before .before .lay .ensures) (c .before .before .pos .given .1) (c .depth-in .ensures)
+returns c = gives-to (c .before .before .before .before .before .before .before .before .before .entry .ensures) (c .before .before .before .before .before .before .before .before .entry2 .ensures) (c .before .before .before .before .before .before .lay .ensures) (c .before .before .pos .given .1) (c .depth-in .ensures)
 
 same-length-2 : tie.Need-same-length-2
 same-length-2 c = search needs
 
 returns-2 : tie.Need-returns-2
-returns-2 c = gives-over (c .before .before .before .before .lay .ensures) (c .enum-told .given .1)
+returns-2 c = gives-over (c .before .before .before .before .before .before .before .entry .ensures) (c .before .before .before .before .before .before .entry2 .ensures) (c .before .before .before .before .lay .ensures) (c .enum-told .given .1)
 
 pub give-way-spec : {M : Type 1} → statement M
 give-way-spec =
     tie.close
     (tie.spec
-    mul-to
-    add-to
-    mul-to-2
-    element-copy-out-to
-    cast-to
-    mul-count
-    add-count
-    mul-count-2
-    element-copy-out-count
-    cast-count
+    entry-requires
+    entry-requires-2
     sub-count
     lay-requires
     enum-known-pos

@@ -1,9 +1,5 @@
-use Rattle.encoding.specs.Declarations.{declarationAt}
-use Rattle.encoding.proofs.Reading.{scan-stop}
 use Rattle.pieces.specs.declared.Whole.the-variants.{ADeclaration}
-use Rattle.pieces.proofs.Scans.{end-got}
-use native.Mathlib.Omega.{arith}
-use Rattle.visits.proofs.Answers.{fills, fills-readable, visits-done, visits-left, visits-stop}
+use Rattle.visits.proofs.Answers.{fills, fills-readable, visits-left, visits-stop, visits-within}
 use Rattle.visits.proofs.fill_declaration.Statement.{statement}
 use borrow.Author.Needs.{needs}
 use Rattle.visits.proofs.fill_declaration.Tie as tie
@@ -16,13 +12,13 @@ enum-known-end c = search needs
 
 returns : tie.Need-returns
 returns c =
-    let a = c .before .before .before .before .before .before .before .before .before .args in
-    visits-left (a .words .now) (a .pairs .now) (a .text .now) ADeclaration (a .out .now) (end-got (declarationAt (a .words .now) (a .pairs .now) (a .text .now) 0) (c .before .before .before .before .accept-declaration .ensures) (c .before .before .end .given .1) .reads) (c .if1 .taken)
+    let s = c .before .before .before .before .before .before .before .before .before in let a = s .args in
+    visits-left (a .words .now) (a .pairs .now) (a .text .now) ADeclaration (c .before .before .before .before .accept-declaration .ensures) (a .out .now) (c .before .before .end .given .1) (c .if1 .taken)
 
 fill-short-requires : tie.Need-fill-short-requires
 fill-short-requires c κs =
-    let a = c .before .before .before .before .before .before .before .before .before .before .before .args in
-    (c .before .before .before .before .before .before .before .before .before .before .before .pre .1, fills (a .words .now) (a .pairs .now) (a .text .now) ADeclaration (end-got (declarationAt (a .words .now) (a .pairs .now) (a .text .now) 0) (c .before .before .before .before .before .before .accept-declaration .ensures) (c .before .before .before .before .end .given .1) .reads) (c .before .before .if1 .left))
+    let s = c .before .before .before .before .before .before .before .before .before .before .before in let a = s .args in
+    (s .pre .1, fills (a .words .now) (a .pairs .now) (a .text .now) ADeclaration (c .before .before .before .before .before .before .accept-declaration .ensures) (c .before .before .before .before .end .given .1) (c .before .before .if1 .left))
 
 same-length : tie.Need-same-length
 same-length c = search needs
@@ -32,8 +28,8 @@ returns-2 c = c .before .before .fill-short .ensures
 
 visit-declaration-requires : tie.Need-visit-declaration-requires
 visit-declaration-requires c κs =
-    let a = c .before .before .before .before .before .before .before .before .before .before .before .args in
-    (c .before .before .before .before .before .before .before .before .before .before .before .pre .1, fills-readable (a .words .now) (a .pairs .now) (a .text .now) (fills (a .words .now) (a .pairs .now) (a .text .now) ADeclaration (end-got (declarationAt (a .words .now) (a .pairs .now) (a .text .now) 0) (c .before .before .before .before .before .before .accept-declaration .ensures) (c .before .before .before .before .end .given .1) .reads) (c .before .before .if1 .left)))
+    let s = c .before .before .before .before .before .before .before .before .before .before .before in let a = s .args in
+    (s .pre .1, fills-readable (a .words .now) (a .pairs .now) (a .text .now) (fills (a .words .now) (a .pairs .now) (a .text .now) ADeclaration (c .before .before .before .before .before .before .accept-declaration .ensures) (c .before .before .before .before .end .given .1) (c .before .before .if1 .left)))
 
 enum-known-r : tie.Need-enum-known-r
 enum-known-r c = search needs
@@ -43,14 +39,13 @@ same-length-2 c = search needs
 
 returns-3 : tie.Need-returns-3
 returns-3 c =
-    let a = c .before .before .before .before .before .before .before .before .before .before .before .before .before .before .args in
-    let v = c .before .before .visit-declaration .ensures in
-    visits-done (a .words .now) (a .pairs .now) (a .text .now) ADeclaration (a .out .now) (fills (a .words .now) (a .pairs .now) (a .text .now) ADeclaration (end-got (declarationAt (a .words .now) (a .pairs .now) (a .text .now) 0) (c .before .before .before .before .before .before .before .before .before .accept-declaration .ensures) (c .before .before .before .before .before .before .before .end .given .1) .reads) (c .before .before .before .before .before .if1 .left)) v (omega (arith, v .counted, c .before .before .before .before .if2 .left))
+    let s = c .before .before .before .before .before .before .before .before .before .before .before .before .before .before in let a = s .args in
+    visits-within (a .words .now) (a .pairs .now) (a .text .now) ADeclaration (a .out .now) (fills (a .words .now) (a .pairs .now) (a .text .now) ADeclaration (c .before .before .before .before .before .before .before .before .before .accept-declaration .ensures) (c .before .before .before .before .before .before .before .end .given .1) (c .before .before .before .before .before .if1 .left)) (c .before .before .visit-declaration .ensures) (c .before .before .before .before .if2 .left)
 
 returns-4 : tie.Need-returns-4
 returns-4 c =
-    let a = c .before .before .before .before .before .before .before .before .args in
-    visits-stop (a .words .now) (a .pairs .now) (a .text .now) ADeclaration (a .out .now) (scan-stop (declarationAt (a .words .now) (a .pairs .now) (a .text .now) 0) (c .before .before .before .accept-declaration .ensures) (c .before .r .given .1))
+    let s = c .before .before .before .before .before .before .before .before in let a = s .args in
+    visits-stop (a .words .now) (a .pairs .now) (a .text .now) ADeclaration (c .before .before .before .accept-declaration .ensures) (a .out .now) (c .before .r .given .1)
 
 pub fill-declaration-spec : {M : Type 1} → statement M
 fill-declaration-spec =

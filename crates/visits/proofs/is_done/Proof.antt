@@ -9,49 +9,11 @@ returns c = λ e. impossible (cc)
 returns-2 : tie.Need-returns-2
 returns-2 c = λ e. impossible (cc)
 
+is-at-members-requires : tie.Need-is-at-members-requires
+is-at-members-requires c κs = search needs
+
 returns-3 : tie.Need-returns-3
-returns-3 c = λ e. impossible (cc)
-
-returns-4 : tie.Need-returns-4
-returns-4 c = λ e. impossible (cc)
-
-enum-told : tie.Need-enum-told
-enum-told c = search needs
-
-enum-told-2 : tie.Need-enum-told-2
-enum-told-2 c = search needs
-
-enum-told-3 : tie.Need-enum-told-3
-enum-told-3 c = search needs
-
-enum-told-4 : tie.Need-enum-told-4
-enum-told-4 c = search needs
-
-returns-5 : tie.Need-returns-5
-returns-5 c = λ e. impossible (cc)
-
-returns-6 : tie.Need-returns-6
-returns-6 c = λ e. impossible (cc)
-
-returns-7 : tie.Need-returns-7
-returns-7 c = λ e. impossible (cc)
-
-returns-8 : tie.Need-returns-8
-returns-8 c = λ e. (c .before .before .before .before .if3 .left, c .before .before .if4 .left, c .enum-told4 .given .1, c .before .before .before .before .before .before .if2 .left, c .before .before .before .before .before .before .before .before .if1 .left)
+returns-3 c = λ e. let m = c .is-at-members .ensures e in (m .0, m .1, m .2, c .before .if2 .left, c .before .before .before .if1 .left)
 
 pub is-done-spec : {M : Type 1} → statement M
-is-done-spec =
-    tie.close
-    (tie.spec
-    returns
-    returns-2
-    returns-3
-    returns-4
-    enum-told
-    enum-told-2
-    enum-told-3
-    enum-told-4
-    returns-5
-    returns-6
-    returns-7
-    returns-8)
+is-done-spec = tie.close (tie.spec returns returns-2 is-at-members-requires returns-3)
