@@ -23,92 +23,57 @@ use Rattle.classes.specs.Steps.{when, typeAtIndex, argumentAt, argumentO
 
 -- ---- the match on an application of a path
 
-module _ (f g : Path Bytes → Tys Bytes → Bool) (h : (p : Path Bytes) (ts : Tys Bytes) → f p ts ≡ g p ts) where
-  path-alike : (ts : Tys Bytes) (b : Ty Bytes) → onPath (λ p. f p ts) b ≡ onPath (λ p. g p ts) b
-  unfolding onPath
-  path-alike ts (Primitive p) = refl
-  path-alike ts (TIdentifier x) = refl
-  path-alike ts (TypeFromPath p) = h p ts
-  path-alike ts (TypeApp b us) = refl
-  path-alike ts (Borrowed t) = refl
-  path-alike ts (BorrowedMut t) = refl
-  path-alike ts (ImplType t) = refl
-  path-alike ts (DynType t) = refl
-  path-alike ts (TupleType us) = refl
-  path-alike ts (FnType us t) = refl
-  path-alike ts (IntersectionType l r) = refl
-  path-alike ts (Array t s) = refl
-  path-alike ts (TSynonym d b) = refl
-  path-alike ts (TMetaData d c o) = refl
+-- a type is a path, or what is asked of a path is false of it
+path-cases : (P : Ty Bytes → Type 0) → ((p : Path Bytes) → P (TypeFromPath p)) → ((b : Ty Bytes) → ((f : Path Bytes → Bool) → onPath f b ≡ false) → P b) → (b : Ty Bytes) → P b
+unfolding onPath
+path-cases P h k (Primitive x) = k (Primitive x) (λ f. refl)
+path-cases P h k (TIdentifier x) = k (TIdentifier x) (λ f. refl)
+path-cases P h k (TypeFromPath p) = h p
+path-cases P h k (TypeApp b ts) = k (TypeApp b ts) (λ f. refl)
+path-cases P h k (Borrowed t) = k (Borrowed t) (λ f. refl)
+path-cases P h k (BorrowedMut t) = k (BorrowedMut t) (λ f. refl)
+path-cases P h k (ImplType t) = k (ImplType t) (λ f. refl)
+path-cases P h k (DynType t) = k (DynType t) (λ f. refl)
+path-cases P h k (TupleType ts) = k (TupleType ts) (λ f. refl)
+path-cases P h k (FnType ts t) = k (FnType ts t) (λ f. refl)
+path-cases P h k (IntersectionType l r) = k (IntersectionType l r) (λ f. refl)
+path-cases P h k (Array t s) = k (Array t s) (λ f. refl)
+path-cases P h k (TSynonym d b) = k (TSynonym d b) (λ f. refl)
+path-cases P h k (TMetaData d c o) = k (TMetaData d c o) (λ f. refl)
 
-  pub applied-alike : (t : Ty Bytes) → applied f t ≡ applied g t
-  unfolding applied
-  applied-alike (Primitive p) = refl
-  applied-alike (TIdentifier x) = refl
-  applied-alike (TypeFromPath p) = refl
-  applied-alike (TypeApp b ts) = path-alike ts b
-  applied-alike (Borrowed t) = refl
-  applied-alike (BorrowedMut t) = refl
-  applied-alike (ImplType t) = refl
-  applied-alike (DynType t) = refl
-  applied-alike (TupleType ts) = refl
-  applied-alike (FnType ts t) = refl
-  applied-alike (IntersectionType l r) = refl
-  applied-alike (Array t s) = refl
-  applied-alike (TSynonym d b) = refl
-  applied-alike (TMetaData d c o) = refl
+-- a type is an application of a path, or what is asked of one is false of it
+pub applied-cases : (P : Ty Bytes → Type 0) → ((p : Path Bytes) (ts : Tys Bytes) → P (TypeApp (TypeFromPath p) ts))
+    → ((t : Ty Bytes) → ((f : Path Bytes → Tys Bytes → Bool) → applied f t ≡ false) → P t) → (t : Ty Bytes) → P t
+unfolding applied
+applied-cases P h k (Primitive x) = k (Primitive x) (λ f. refl)
+applied-cases P h k (TIdentifier x) = k (TIdentifier x) (λ f. refl)
+applied-cases P h k (TypeFromPath p) = k (TypeFromPath p) (λ f. refl)
+applied-cases P h k (TypeApp b ts) = path-cases (λ u. P (TypeApp u ts)) (λ p. h p ts) (λ u e. k (TypeApp u ts) (λ f. e (λ p. f p ts))) b
+applied-cases P h k (Borrowed t) = k (Borrowed t) (λ f. refl)
+applied-cases P h k (BorrowedMut t) = k (BorrowedMut t) (λ f. refl)
+applied-cases P h k (ImplType t) = k (ImplType t) (λ f. refl)
+applied-cases P h k (DynType t) = k (DynType t) (λ f. refl)
+applied-cases P h k (TupleType ts) = k (TupleType ts) (λ f. refl)
+applied-cases P h k (FnType ts t) = k (FnType ts t) (λ f. refl)
+applied-cases P h k (IntersectionType l r) = k (IntersectionType l r) (λ f. refl)
+applied-cases P h k (Array t s) = k (Array t s) (λ f. refl)
+applied-cases P h k (TSynonym d b) = k (TSynonym d b) (λ f. refl)
+applied-cases P h k (TMetaData d c o) = k (TMetaData d c o) (λ f. refl)
+
+pub applied-alike : (f g : Path Bytes → Tys Bytes → Bool) → ((p : Path Bytes) (ts : Tys Bytes) → f p ts ≡ g p ts) → (t : Ty Bytes) → applied f t ≡ applied g t
+unfolding applied onPath
+applied-alike f g h = applied-cases (λ t. applied f t ≡ applied g t) h (λ t k. k f ∙ sym (k g))
 
 -- a type of another kind is no application, and one with another base is none of a path
 pub applied-other : (f : Path Bytes → Tys Bytes → Bool) (t : Ty Bytes) → (kind t ≡ 14 → ⊥) → applied f t ≡ false
-unfolding applied
-applied-other f (Primitive p) h = refl
-applied-other f (TIdentifier x) h = refl
-applied-other f (TypeFromPath p) h = refl
-applied-other f (TypeApp b ts) h = absurd (h refl)
-applied-other f (Borrowed t) h = refl
-applied-other f (BorrowedMut t) h = refl
-applied-other f (ImplType t) h = refl
-applied-other f (DynType t) h = refl
-applied-other f (TupleType ts) h = refl
-applied-other f (FnType ts t) h = refl
-applied-other f (IntersectionType l r) h = refl
-applied-other f (Array t s) h = refl
-applied-other f (TSynonym d b) h = refl
-applied-other f (TMetaData d c o) h = refl
+applied-other f = applied-cases (λ t. (kind t ≡ 14 → ⊥) → applied f t ≡ false) (λ p ts h. absurd (h refl)) (λ t k h. k f)
 
 base-other : (f : Path Bytes → Bool) (b : Ty Bytes) → (kind b ≡ 13 → ⊥) → onPath f b ≡ false
-unfolding onPath
-base-other f (Primitive p) h = refl
-base-other f (TIdentifier x) h = refl
-base-other f (TypeFromPath p) h = absurd (h refl)
-base-other f (TypeApp b ts) h = refl
-base-other f (Borrowed t) h = refl
-base-other f (BorrowedMut t) h = refl
-base-other f (ImplType t) h = refl
-base-other f (DynType t) h = refl
-base-other f (TupleType ts) h = refl
-base-other f (FnType ts t) h = refl
-base-other f (IntersectionType l r) h = refl
-base-other f (Array t s) h = refl
-base-other f (TSynonym d b) h = refl
-base-other f (TMetaData d c o) h = refl
+base-other f = path-cases (λ b. (kind b ≡ 13 → ⊥) → onPath f b ≡ false) (λ p h. absurd (h refl)) (λ b k h. k f)
 
 path-false : (f : Path Bytes → Bool) (b : Ty Bytes) → ((p : Path Bytes) → f p ≡ false) → onPath f b ≡ false
 unfolding onPath
-path-false f (Primitive p) h = refl
-path-false f (TIdentifier x) h = refl
-path-false f (TypeFromPath p) h = h p
-path-false f (TypeApp b ts) h = refl
-path-false f (Borrowed t) h = refl
-path-false f (BorrowedMut t) h = refl
-path-false f (ImplType t) h = refl
-path-false f (DynType t) h = refl
-path-false f (TupleType ts) h = refl
-path-false f (FnType ts t) h = refl
-path-false f (IntersectionType l r) h = refl
-path-false f (Array t s) h = refl
-path-false f (TSynonym d b) h = refl
-path-false f (TMetaData d c o) h = refl
+path-false f b h = path-cases (λ u. onPath f u ≡ false) h (λ u k. k f) b
 
 -- ---- whether a type is of a class
 
@@ -188,39 +153,12 @@ index-some p nil h = absurd (let z : ⊥ = omega arith in z)
 index-some p (cons t ts) h = refl
 
 -- an application to at least one argument has a first one
-base-some : (f : Path Bytes → Bool) (p : ℕ) (b : Ty Bytes) (ts : Tys Bytes) → ((q : Path Bytes) → f q ≡ true → 0 < count ts) → onPath f b ≡ true → some-there (typeAtIndex 0 p ts) ≡ true
-unfolding onPath
-base-some f p (Primitive x) ts h e = impossible (cc)
-base-some f p (TIdentifier x) ts h e = impossible (cc)
-base-some f p (TypeFromPath q) ts h e = index-some p ts (h q e)
-base-some f p (TypeApp b us) ts h e = impossible (cc)
-base-some f p (Borrowed t) ts h e = impossible (cc)
-base-some f p (BorrowedMut t) ts h e = impossible (cc)
-base-some f p (ImplType t) ts h e = impossible (cc)
-base-some f p (DynType t) ts h e = impossible (cc)
-base-some f p (TupleType us) ts h e = impossible (cc)
-base-some f p (FnType us t) ts h e = impossible (cc)
-base-some f p (IntersectionType l r) ts h e = impossible (cc)
-base-some f p (Array t s) ts h e = impossible (cc)
-base-some f p (TSynonym d b) ts h e = impossible (cc)
-base-some f p (TMetaData d c o) ts h e = impossible (cc)
-
 applied-some : (f : Path Bytes → Tys Bytes → Bool) (p : ℕ) (t : Ty Bytes) → ((q : Path Bytes) (ts : Tys Bytes) → f q ts ≡ true → 0 < count ts) → applied f t ≡ true → some-there (argumentAt 0 p t) ≡ true
-unfolding applied argumentAt
-applied-some f p (Primitive x) h e = impossible (cc)
-applied-some f p (TIdentifier x) h e = impossible (cc)
-applied-some f p (TypeFromPath x) h e = impossible (cc)
-applied-some f p (TypeApp b ts) h e = base-some _ (p + 2 + words b) b ts (λ q. h q ts) e
-applied-some f p (Borrowed t) h e = impossible (cc)
-applied-some f p (BorrowedMut t) h e = impossible (cc)
-applied-some f p (ImplType t) h e = impossible (cc)
-applied-some f p (DynType t) h e = impossible (cc)
-applied-some f p (TupleType ts) h e = impossible (cc)
-applied-some f p (FnType ts t) h e = impossible (cc)
-applied-some f p (IntersectionType l r) h e = impossible (cc)
-applied-some f p (Array t s) h e = impossible (cc)
-applied-some f p (TSynonym d b) h e = impossible (cc)
-applied-some f p (TMetaData d c o) h e = impossible (cc)
+unfolding applied onPath argumentAt
+applied-some f p t h =
+    applied-cases (λ u. applied f u ≡ true → some-there (argumentAt 0 p u) ≡ true)
+    (λ q ts e. index-some (p + 2 + words (TypeFromPath q)) ts (h q ts e))
+    (λ u k e. let z = k f in impossible (cc)) t
 
 some-when : (b : Bool) (x : Option (Place Bytes)) → (b ≡ true → some-there x ≡ true) → some-there (when b x) ≡ b
 unfolding when some-there

@@ -10,7 +10,7 @@ use Rattle.rast.specs.Tree.{Ty, Tys, Primitive, TIdentifier, TypeFromPath, Type
 use Rattle.encoding.specs.Reading.{Reading, got}
 use Rattle.encoding.specs.Types.{readTypes, typeAt}
 use Rattle.encoding.proofs.Tables.{impossible}
-use Rattle.encoding.proofs.Types.{made₂-got}
+use Rattle.encoding.proofs.Types.{Made, made₂-got}
 use Rattle.encoding.proofs.TypeKinds.{type-kind}
 use Rattle.trees.specs.Encode.{words}
 use Rattle.trees.specs.Places.{Place, place}
@@ -30,6 +30,9 @@ pub record Keeps (ws pairs : List ℕ) (text : Bytes) (f : Place Bytes → Optio
 pub some-same : {A : Type 0} {a b : A} → some a ≡ some b → a ≡ b
 some-same e = cc
 
+made-below : {x : Reading (Ty Bytes)} {c : Ty Bytes → Ty Bytes} {t u : Ty Bytes} {n : ℕ} (m : Made x c t n) → m .value ≡ u → x ≡ got u n
+made-below {n = n} m i = m .reads ∙ ap (λ v. got v n) i
+
 module _ (ws pairs : List ℕ) (text : Bytes) where
   abbrev again : ℕ → Reading (Ty Bytes)
   again = typeAt ws pairs text
@@ -44,28 +47,16 @@ module _ (ws pairs : List ℕ) (text : Bytes) where
 
   module _ (p : ℕ) {n : ℕ} where
     pub ref-below : {u : Ty Bytes} → again p ≡ got (Borrowed u) n → again (p + 1) ≡ got u n
-    ref-below {u} e =
-        let m = ref-of ws pairs text p e (sym (type-kind ws pairs text p e)) in
-        let i : m .value ≡ u = cc (m .made) in
-        m .reads ∙ ap (λ v. got v n) i
+    ref-below e = let m = ref-of ws pairs text p e (sym (type-kind ws pairs text p e)) in made-below m (cc (m .made))
 
     pub mut-below : {u : Ty Bytes} → again p ≡ got (BorrowedMut u) n → again (p + 1) ≡ got u n
-    mut-below {u} e =
-        let m = mut-of ws pairs text p e (sym (type-kind ws pairs text p e)) in
-        let i : m .value ≡ u = cc (m .made) in
-        m .reads ∙ ap (λ v. got v n) i
+    mut-below e = let m = mut-of ws pairs text p e (sym (type-kind ws pairs text p e)) in made-below m (cc (m .made))
 
     pub impl-below : {u : Ty Bytes} → again p ≡ got (ImplType u) n → again (p + 1) ≡ got u n
-    impl-below {u} e =
-        let m = impl-of ws pairs text p e (sym (type-kind ws pairs text p e)) in
-        let i : m .value ≡ u = cc (m .made) in
-        m .reads ∙ ap (λ v. got v n) i
+    impl-below e = let m = impl-of ws pairs text p e (sym (type-kind ws pairs text p e)) in made-below m (cc (m .made))
 
     pub dyn-below : {u : Ty Bytes} → again p ≡ got (DynType u) n → again (p + 1) ≡ got u n
-    dyn-below {u} e =
-        let m = dyn-of ws pairs text p e (sym (type-kind ws pairs text p e)) in
-        let i : m .value ≡ u = cc (m .made) in
-        m .reads ∙ ap (λ v. got v n) i
+    dyn-below e = let m = dyn-of ws pairs text p e (sym (type-kind ws pairs text p e)) in made-below m (cc (m .made))
 
     pub display-below : {d b : Ty Bytes} → again p ≡ got (TSynonym d b) n → again (p + 1) ≡ got d (p + 1 + words d)
     display-below {d} {b} e =
@@ -83,16 +74,10 @@ module _ (ws pairs : List ℕ) (text : Bytes) where
         rw (sym o) (m .reads₂ ∙ ap (λ v. got v n) j)
 
     pub meta-below : {d : Ty Bytes} {c o : Bool} → again p ≡ got (TMetaData d c o) n → again (p + 2) ≡ got d n
-    meta-below {d} e =
-        let m = meta-of ws pairs text p e (sym (type-kind ws pairs text p e)) .1 in
-        let i : m .value ≡ d = cc (m .made) in
-        m .reads ∙ ap (λ v. got v n) i
+    meta-below e = let m = meta-of ws pairs text p e (sym (type-kind ws pairs text p e)) .1 in made-below m (cc (m .made))
 
     pub element-below : {u : Ty Bytes} {s : Option Bytes} → again p ≡ got (Array u s) n → again (p + 2) ≡ got u n
-    element-below {u} e =
-        let m = array-of ws pairs text p e (sym (type-kind ws pairs text p e)) .1 in
-        let i : m .value ≡ u = cc (m .made) in
-        m .reads ∙ ap (λ v. got v n) i
+    element-below e = let m = array-of ws pairs text p e (sym (type-kind ws pairs text p e)) .1 in made-below m (cc (m .made))
 
   types-below : (k p : ℕ) (ts : Tys Bytes) (n i : ℕ) (q : Place Bytes) → readTypes again k p ≡ got ts n → typeAtIndex i p ts ≡ some q → Standing ws pairs text q
   unfolding readTypes typeAtIndex

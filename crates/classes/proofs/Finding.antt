@@ -1,5 +1,5 @@
 -- Where the first argument of an application is found, and what was found.
-use Prim.Native.Nat.{ℕ, _+_, _-_}
+use Prim.Native.Nat.{ℕ, _+_, _-_, _<_}
 use mathlib.Core.Path.{_≡_, refl, ap, sym, _∙_, subst}
 use mathlib.Core.Bool.{Bool, true, false, not}
 use mathlib.Core.List.{List, [], _∷_}
@@ -25,6 +25,7 @@ use Rattle.encoding.specs.Reading.{Reading, got, stop, readWord}
 use Rattle.encoding.specs.Heads.{headAfter, readHead}
 use Rattle.encoding.specs.HeadWords.{headKind, InsideHead}
 use Rattle.encoding.specs.Scans.{headScan}
+use Rattle.encoding.specs.Tested.{Good}
 use Rattle.encoding.specs.Types.{pathOf, readTypes, readNode, readType, typeAt}
 use Rattle.encoding.proofs.Head.{the-type}
 use Rattle.encoding.proofs.Tables.{impossible}
@@ -34,6 +35,7 @@ use Rattle.encoding.proofs.Inside.{head-lies}
 use Rattle.encoding.proofs.Types.{Made₂, made-got, made₂-got, node-of, types-count}
 use Rattle.encoding.proofs.TypeKinds.{kind, head-kind, node-kind}
 use Rattle.writing.specs.Written.{Readable}
+use Rattle.writing.proofs.Accepted.{type-here}
 use Rattle.trees.specs.Encode.{words}
 use Rattle.trees.specs.Places.{Place, place}
 use Rattle.trees.proofs.Renaming.{type-words}
@@ -228,3 +230,10 @@ module _ (ws pairs : List ℕ) (text : Bytes) (at : ℕ) where
   found-readable k r d y =
       let l = located ws pairs text at (r .reads) k d y in
       record { value = l .tpe; end = l .end; reads = l .reads }
+
+  pub found-ready : {f : Place Bytes → Option (Place Bytes)} {m : Found} {s : ℕ} → Keeps ws pairs text f → Good pairs text × Readable (typeAt ws pairs text at) → Finds f (typeAt ws pairs text) at m → m ≡ At s
+      → Good pairs text × Readable (typeAt ws pairs text s)
+  found-ready k r d y = (r .0, found-readable k (r .1) d y)
+
+  pub found-here : {f : Place Bytes → Option (Place Bytes)} {m : Found} {s : ℕ} → Keeps ws pairs text f → Readable (typeAt ws pairs text at) → Finds f (typeAt ws pairs text) at m → m ≡ At s → s < length ws
+  found-here {s = s} k r d y = type-here ws pairs text s (found-readable k r d y .reads)

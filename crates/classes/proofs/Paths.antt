@@ -172,6 +172,19 @@ pub class-pointer : (p : Path Bytes) → inClass PtrClass p ≡ runtimeMember (m
 unfolding inClass memberIn PtrPath
 class-pointer p = member-same (ascii "Ptr") p
 
+-- the classes with two names in their paths are those of members of `dafny_runtime`
+pub class-member : (class : Class) → pathLength class ≡ 2 → (p : Path Bytes) → runtimeMember (memberIn class) p ≡ inClass class p
+unfolding inClass memberIn pathLength
+class-member Counted o p = impossible (omega (arith, o))
+class-member Boxed o p = impossible (omega (arith, o))
+class-member Uninit o p = impossible (omega (arith, o))
+class-member Placebo o p = sym (class-placebo p)
+class-member ObjectClass o p = sym (class-object p)
+class-member PtrClass o p = sym (class-pointer p)
+class-member ArrayClass o p = refl
+class-member Collection o p = refl
+class-member MapClass o p = refl
+
 -- a path of more or fewer names than a class asks for
 module _ (bound : ℕ) (ws : List ℕ) (name : ℕ → Bytes) (p : PathAt) (i : InsidePath bound ws p) where
   pub class-count : (class : Class) → (p .count ≡ pathLength class → ⊥) → inClass class (pathOf ws name p) ≡ false
@@ -249,29 +262,6 @@ module _ (p : Path Bytes) {a : Bool} (e : a ≡ samePath p RcPath) where
   pub counted-no : {b : Bool} → a ≡ false → b ≡ samePath p ArcPath → b ≡ inClass Counted p
   unfolding inClass
   counted-no k d = rw (sym e, k) d
-
--- a class of members of `dafny_runtime`
-module _ (p : Path Bytes) {class : Class} {b : Bool} (e : b ≡ runtimeMember (memberIn class) p) where
-  pub in-placebo : class ≡ Placebo → b ≡ inClass class p
-  in-placebo k = e ∙ rw k (sym (class-placebo p))
-
-  pub in-object : class ≡ ObjectClass → b ≡ inClass class p
-  in-object k = e ∙ rw k (sym (class-object p))
-
-  pub in-pointer : class ≡ PtrClass → b ≡ inClass class p
-  in-pointer k = e ∙ rw k (sym (class-pointer p))
-
-  pub in-array : class ≡ ArrayClass → b ≡ inClass class p
-  unfolding inClass memberIn
-  in-array k = e ∙ rw k refl
-
-  pub in-collection : class ≡ Collection → b ≡ inClass class p
-  unfolding inClass memberIn
-  in-collection k = e ∙ rw k refl
-
-  pub in-map : class ≡ MapClass → b ≡ inClass class p
-  unfolding inClass memberIn
-  in-map k = e ∙ rw k refl
 
 module _ (x : Bytes) {a : Bool} (e : a ≡ same x (ascii "Set")) where
   pub set-first : a ≡ true → true ≡ isSet x

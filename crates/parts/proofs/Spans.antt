@@ -10,7 +10,8 @@ use Rattle.rast.specs.Tree.{Ty}
 use Rattle.rast.specs.DeclarationToString.{Expand}
 use Rattle.encoding.specs.declared.Refusal.{Refusal}
 use Rattle.encoding.specs.declared.Refusal.the-variants.{NoSuchPart}
-use Rattle.encoding.specs.declared.Check.the-variants.{Passed}
+use Rattle.encoding.specs.declared.Check.{Check}
+use Rattle.encoding.specs.declared.Check.the-variants.{Passed, Failed}
 use Rattle.encoding.specs.Refusals.{Answer, given, refused}
 use Rattle.encoding.specs.Tables.{nameBytes}
 use Rattle.encoding.specs.Reading.{Reading, got}
@@ -28,6 +29,7 @@ use Rattle.wrappers.specs.Asked.{Judges, ExpandsAt}
 use Rattle.classes.specs.declared.Found.{Found}
 use Rattle.classes.specs.declared.Found.the-variants.{At, NoPart}
 use Rattle.classes.specs.Asked.{Finds, found}
+use Rattle.shapes.specs.Accepted.{acceptance}
 use Rattle.shapes.specs.Parts.{removedAt, ownedAt, RemoveSynonyms, ExpandAt, ToOwned}
 use Rattle.parts.specs.declared.PartAnswer.{PartAnswer}
 use Rattle.parts.specs.declared.PartAnswer.the-variants.{Part, Refused}
@@ -35,9 +37,9 @@ use Rattle.parts.specs.declared.Wanted.{Wanted}
 use Rattle.parts.specs.declared.Wanted.the-variants.{Removed, Expanded, Owned, OfMultiArray, OfBox, OfPointer, OfRc, OfBoxDyn, OfCollection, OfPlacebo, OfUninitArray}
 use Rattle.parts.specs.Answers.{Span, spanOf, spanIn, partOf, partAnswer, partWords}
 use Rattle.parts.specs.Asked.{partFor, Spans}
-use Rattle.classes.proofs.Children.{Keeps}
+use Rattle.classes.proofs.Children.{Standing, Keeps}
 use Rattle.classes.proofs.Finding.{located, nowhere}
-use Rattle.shapes.proofs.Answers.{Accepted, accepted}
+use Rattle.shapes.proofs.Answers.{Accepted, accepted, not-accepted}
 use Rattle.shapes.proofs.Behind.{finds-expanded}
 use Rattle.shapes.proofs.Parts.{removed-keeps, expanded-keeps, owned-keeps, box-keeps, rc-keeps, placebo-keeps, multi-array-keeps, pointer-keeps, box-dyn-keeps, collection-keeps, uninit-array-keeps}
 
@@ -96,9 +98,9 @@ module _ (ws pairs : List ℕ) (text : Bytes) where
     unfolding partOf spanIn
     part-given a s = rw (a .is) (s .says (a .type) (length ws) (a .reads))
 
-    pub part-refused : {r : Refusal} → typeOf ws pairs text ≡ refused r → Refused r ≡ partAnswer (partOf f ws pairs text)
+    pub part-refused : {c : Check} {r : Refusal} → c ≡ acceptance (typeOf ws pairs text) → c ≡ Failed r → Refused r ≡ partAnswer (partOf f ws pairs text)
     unfolding partOf spanIn
-    part-refused e = rw e refl
+    part-refused e d = rw (not-accepted ws pairs text e d) refl
 
   -- what `Expand` gives of a type that fills the words ends where they do
   module _ {s : ℕ} (a : Accepted ws pairs text) (x : ExpandsAt again 0 s) where
@@ -131,6 +133,13 @@ span-some (some q) {p} e A k = let d = same-given e in k q refl (ap (λ (s : Spa
     same-given e = cc
 
 module _ (ws pairs : List ℕ) (text : Bytes) (f : Place Bytes → Option (Place Bytes)) (k : Keeps ws pairs text f) where
+  -- a part of the type that fills the words stands where it is said
+  part-stands : {t : Ty Bytes} (q : Place Bytes) → typeOf ws pairs text ≡ given t → f (place 0 t) ≡ some q → Standing ws pairs text q
+  part-stands {t} q i o =
+      let a = accepted ws pairs text {c = Passed} (rw i refl) refl in
+      let j : a .type ≡ t = cc (a .is) in
+      k .keeps (place 0 t) q (record { end = length ws; reads = a .reads ∙ ap (λ y. got y (length ws)) j }) o
+
   -- a part's words lie within the words
   within : {p : Span} → partOf f ws pairs text ≡ given p → p .start + p .length ≤ length ws
   unfolding partOf spanIn
@@ -138,10 +147,8 @@ module _ (ws pairs : List ℕ) (text : Bytes) (f : Place Bytes → Option (Place
     where
       lies : (t : Ty Bytes) → typeOf ws pairs text ≡ given t → spanOf (f (place 0 t)) ≡ given p → p .start + p .length ≤ length ws
       lies t i d =
-          let a = accepted ws pairs text {c = Passed} (rw i refl) refl in
-          let j : a .type ≡ t = cc (a .is) in
           span-some (f (place 0 t)) d (p .start + p .length ≤ length ws) λ q o u v.
-          let s = k .keeps (place 0 t) q (record { end = length ws; reads = a .reads ∙ ap (λ y. got y (length ws)) j }) o in
+          let s = part-stands q i o in
           let h = type-here ws pairs text (q .at) (s .reads) in
           let l = type-lies ws pairs text (q .at) (omega (arith, h)) (s .reads) in
           omega (arith, l .ends, type-words ws pairs text (q .at) (s .reads), u, v)
@@ -177,9 +184,7 @@ module _ (ws pairs : List ℕ) (text : Bytes) (f : Place Bytes → Option (Place
   pub part-encoded : {t : Ty Bytes} (q : Place Bytes) → typeOf ws pairs text ≡ given t → f (place 0 t) ≡ some q → Encoded ws pairs text (partWords ws (partOf f ws pairs text)) (q .tpe)
   unfolding partOf spanIn spanOf partWords
   part-encoded {t} q i o =
-      let a = accepted ws pairs text {c = Passed} (rw i refl) refl in
-      let j : a .type ≡ t = cc (a .is) in
-      let s = k .keeps (place 0 t) q (record { end = length ws; reads = a .reads ∙ ap (λ y. got y (length ws)) j }) o in
+      let s = part-stands ws pairs text f k q i o in
       let h = type-here ws pairs text (q .at) (s .reads) in
       let u = numbered ws pairs text (q .at) (s .reads) in
       let r = tree-run ws pairs (q .at) (omega (arith, h)) (u .reads) in

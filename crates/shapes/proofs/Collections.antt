@@ -7,7 +7,7 @@ use native.Mathlib.Omega.{arith}
 use borrow.Author.Tests.{eqb-true}
 use lib.Dec.{eqb}
 use Rattle.rast.specs.Bytes.{Bytes, ascii, same, _and_, _or_}
-use Rattle.rast.specs.Tree.{Path, Global, Crate, Self, PMemberSelect, Ty, Tys, Primitive, TIdentifier, TypeFromPath, TypeApp, Borrowed, BorrowedMut, ImplType, DynType, TupleType, FnType, IntersectionType, Array, TSynonym, TMetaData, nil, cons, count}
+use Rattle.rast.specs.Tree.{Path, Global, Crate, Self, PMemberSelect, Ty, Tys, TypeFromPath, nil, cons, count}
 use Rattle.rast.specs.DeclarationToString.{Expand}
 use Rattle.rast.proofs.BytesLaws.{and-right}
 use Rattle.encoding.specs.Refusals.{pick}
@@ -23,7 +23,7 @@ use Rattle.classes.specs.Paths.{samePath, dafny_runtime, runtimeMember}
 use Rattle.classes.specs.Steps.{when, typeAtIndex, argumentAt, argumentOf}
 use Rattle.shapes.specs.Parts.{isMap, GetBuiltinCollectionElement, expanded}
 use Rattle.shapes.specs.Shapes.{IsBuiltinCollection}
-use Rattle.classes.proofs.Applying.{first-found}
+use Rattle.classes.proofs.Applying.{applied-cases, first-found}
 use Rattle.classes.proofs.Children.{some-same}
 use Rattle.shapes.proofs.Pointers.{expanded-tree}
 
@@ -70,40 +70,11 @@ member-answers Self ts = no-answers
 member-answers (PMemberSelect q x) ts =
     answers-of (samePath q dafny_runtime) (isSet x) (same x (ascii "Map")) (eqb (count ts) 1) (eqb (count ts) 2) (no-map x)
 
-base-answers : (b : Ty Bytes) (ts : Tys Bytes)
-    → Answers (onPath (λ p. built p ts) b) (onPath (λ p. inClass Collection p and eqb (count ts) 1) b) (onPath (λ p. inClass MapClass p and eqb (count ts) 2) b) (onPath (runtimeMember (λ tpe. same tpe (ascii "Map"))) b)
-unfolding onPath
-base-answers (Primitive p) ts = no-answers
-base-answers (TIdentifier x) ts = no-answers
-base-answers (TypeFromPath p) ts = member-answers p ts
-base-answers (TypeApp b us) ts = no-answers
-base-answers (Borrowed t) ts = no-answers
-base-answers (BorrowedMut t) ts = no-answers
-base-answers (ImplType t) ts = no-answers
-base-answers (DynType t) ts = no-answers
-base-answers (TupleType us) ts = no-answers
-base-answers (FnType us t) ts = no-answers
-base-answers (IntersectionType l r) ts = no-answers
-base-answers (Array t s) ts = no-answers
-base-answers (TSynonym d b) ts = no-answers
-base-answers (TMetaData d c o) ts = no-answers
-
 type-answers : (t : Ty Bytes) → Answers (applied built t) (isOf Collection t) (isOf MapClass t) (isMap t)
-unfolding applied isOf isMap arity
-type-answers (Primitive p) = no-answers
-type-answers (TIdentifier x) = no-answers
-type-answers (TypeFromPath p) = no-answers
-type-answers (TypeApp b ts) = base-answers b ts
-type-answers (Borrowed t) = no-answers
-type-answers (BorrowedMut t) = no-answers
-type-answers (ImplType t) = no-answers
-type-answers (DynType t) = no-answers
-type-answers (TupleType ts) = no-answers
-type-answers (FnType ts t) = no-answers
-type-answers (IntersectionType l r) = no-answers
-type-answers (Array t s) = no-answers
-type-answers (TSynonym d b) = no-answers
-type-answers (TMetaData d c o) = no-answers
+unfolding applied onPath isOf isMap arity
+type-answers =
+    applied-cases (λ t. Answers (applied built t) (isOf Collection t) (isOf MapClass t) (isMap t)) member-answers
+    (λ t k. rw (k built, k (λ p ts. inClass Collection p and eqb (count ts) 1), k (λ p ts. inClass MapClass p and eqb (count ts) 2), k (λ p ts. runtimeMember (λ tpe. same tpe (ascii "Map")) p)) no-answers)
 
 collection-answers : (t : Ty Bytes) → Answers (IsBuiltinCollection t) (isOf Collection (Expand t)) (isOf MapClass (Expand t)) (isMap (Expand t))
 unfolding IsBuiltinCollection
@@ -141,56 +112,6 @@ collection-first p =
 
 -- ---- a map's second argument
 
-abbrev arguments : Ty Bytes → ℕ
-arguments (Primitive p) = 0
-arguments (TIdentifier x) = 0
-arguments (TypeFromPath p) = 0
-arguments (TypeApp b ts) = count ts
-arguments (Borrowed t) = 0
-arguments (BorrowedMut t) = 0
-arguments (ImplType t) = 0
-arguments (DynType t) = 0
-arguments (TupleType ts) = 0
-arguments (FnType ts t) = 0
-arguments (IntersectionType l r) = 0
-arguments (Array t s) = 0
-arguments (TSynonym d b) = 0
-arguments (TMetaData d c o) = 0
-
-base-count : (f : Path Bytes → Bool) (k : ℕ) (b : Ty Bytes) (ts : Tys Bytes) → ((q : Path Bytes) → f q ≡ true → count ts ≡ k) → onPath f b ≡ true → count ts ≡ k
-unfolding onPath
-base-count f k (Primitive x) ts h e = impossible (cc)
-base-count f k (TIdentifier x) ts h e = impossible (cc)
-base-count f k (TypeFromPath q) ts h e = h q e
-base-count f k (TypeApp b us) ts h e = impossible (cc)
-base-count f k (Borrowed t) ts h e = impossible (cc)
-base-count f k (BorrowedMut t) ts h e = impossible (cc)
-base-count f k (ImplType t) ts h e = impossible (cc)
-base-count f k (DynType t) ts h e = impossible (cc)
-base-count f k (TupleType us) ts h e = impossible (cc)
-base-count f k (FnType us t) ts h e = impossible (cc)
-base-count f k (IntersectionType l r) ts h e = impossible (cc)
-base-count f k (Array t s) ts h e = impossible (cc)
-base-count f k (TSynonym d b) ts h e = impossible (cc)
-base-count f k (TMetaData d c o) ts h e = impossible (cc)
-
-map-count : (t : Ty Bytes) → isOf MapClass t ≡ true → arguments t ≡ 2
-unfolding isOf applied arity
-map-count (Primitive x) e = impossible (cc)
-map-count (TIdentifier x) e = impossible (cc)
-map-count (TypeFromPath q) e = impossible (cc)
-map-count (TypeApp b ts) e = base-count _ 2 b ts (λ q d. eqb-true (count ts) 2 (and-right (inClass MapClass q) (eqb (count ts) 2) d)) e
-map-count (Borrowed t) e = impossible (cc)
-map-count (BorrowedMut t) e = impossible (cc)
-map-count (ImplType t) e = impossible (cc)
-map-count (DynType t) e = impossible (cc)
-map-count (TupleType us) e = impossible (cc)
-map-count (FnType us t) e = impossible (cc)
-map-count (IntersectionType l r) e = impossible (cc)
-map-count (Array t s) e = impossible (cc)
-map-count (TSynonym d b) e = impossible (cc)
-map-count (TMetaData d c o) e = impossible (cc)
-
 second-index : (p : ℕ) (ts : Tys Bytes) (k : ℕ) (a : Ty Bytes) → count ts ≡ 2 → typeAtIndex 0 p ts ≡ some (place k a) → found (typeAtIndex 1 p ts) ≡ At (k + words a)
 unfolding count typeAtIndex found
 second-index p nil k a c e = impossible (let z : _≡_ {A = ℕ} 0 1 = omega (arith, c) in z)
@@ -201,22 +122,12 @@ second-index p (cons t (cons u us)) k a c e =
     let j : t ≡ a = ap (λ (q : Place Bytes). q .tpe) d in
     rw (i, j) refl
 
-second-argument : (p : ℕ) (t : Ty Bytes) (k : ℕ) (a : Ty Bytes) → arguments t ≡ 2 → argumentAt 0 p t ≡ some (place k a) → found (argumentAt 1 p t) ≡ At (k + words a)
-unfolding argumentAt
-second-argument p (Primitive x) k a c e = impossible (cc)
-second-argument p (TIdentifier x) k a c e = impossible (cc)
-second-argument p (TypeFromPath q) k a c e = impossible (cc)
-second-argument p (TypeApp b ts) k a c e = second-index (p + 2 + words b) ts k a c e
-second-argument p (Borrowed t) k a c e = impossible (cc)
-second-argument p (BorrowedMut t) k a c e = impossible (cc)
-second-argument p (ImplType t) k a c e = impossible (cc)
-second-argument p (DynType t) k a c e = impossible (cc)
-second-argument p (TupleType us) k a c e = impossible (cc)
-second-argument p (FnType us t) k a c e = impossible (cc)
-second-argument p (IntersectionType l r) k a c e = impossible (cc)
-second-argument p (Array t s) k a c e = impossible (cc)
-second-argument p (TSynonym d b) k a c e = impossible (cc)
-second-argument p (TMetaData d g o) k a c e = impossible (cc)
+second-argument : (p : ℕ) (t : Ty Bytes) (k : ℕ) (a : Ty Bytes) → isOf MapClass t ≡ true → argumentAt 0 p t ≡ some (place k a) → found (argumentAt 1 p t) ≡ At (k + words a)
+unfolding isOf applied onPath arity argumentAt
+second-argument p t k a =
+    applied-cases (λ u. isOf MapClass u ≡ true → argumentAt 0 p u ≡ some (place k a) → found (argumentAt 1 p u) ≡ At (k + words a))
+    (λ q ts c. second-index (p + 2 + words (TypeFromPath q)) ts k a (eqb-true (count ts) 2 (and-right (inClass MapClass q) (eqb (count ts) 2) c)))
+    (λ u n c e. let z = n (λ q ts. inClass MapClass q and eqb (count ts) 2) in impossible (cc)) t
 
 pub when-some : {A : Type 0} (b : Bool) (x : Option A) {q : A} → when b x ≡ some q → (b ≡ true) × (x ≡ some q)
 unfolding when
@@ -228,7 +139,7 @@ pub map-element : (q : Place Bytes) (k : ℕ) (a : Ty Bytes) → first MapClass 
 unfolding first argumentOf
 map-element q k a e =
     let w = when-some (isOf MapClass (q .tpe)) (argumentOf 0 q) e in
-    rw (w .0) (second-argument (q .at) (q .tpe) k a (map-count (q .tpe) (w .0)) (w .1))
+    rw (w .0) (second-argument (q .at) (q .tpe) k a (w .0) (w .1))
 
 -- and where there is none, the type is no map
 pub no-map-element : (q : Place Bytes) → found (first MapClass q) ≡ NoPart → found (element q) ≡ found (first Collection q)

@@ -71,23 +71,6 @@ module _ (b : Bool) (x : Option (Place Bytes)) (g : Ty Bytes → Bool) where
 
 -- ---- boxes of `dyn`
 
-dyn-when : (p : ℕ) (t : Ty Bytes) → when (isDyn t) (dynAt p t) ≡ dynAt p t
-unfolding when isDyn dynAt
-dyn-when p (Primitive x) = refl
-dyn-when p (TIdentifier x) = refl
-dyn-when p (TypeFromPath x) = refl
-dyn-when p (TypeApp b ts) = refl
-dyn-when p (Borrowed t) = refl
-dyn-when p (BorrowedMut t) = refl
-dyn-when p (ImplType t) = refl
-dyn-when p (DynType t) = refl
-dyn-when p (TupleType ts) = refl
-dyn-when p (FnType ts t) = refl
-dyn-when p (IntersectionType l r) = refl
-dyn-when p (Array t s) = refl
-dyn-when p (TSynonym d b) = refl
-dyn-when p (TMetaData d c o) = refl
-
 dyn-found : (p : ℕ) (t : Ty Bytes) → isFound (found (dynAt p t)) ≡ isDyn t
 unfolding isDyn dynAt found
 dyn-found p (Primitive x) = refl
@@ -104,6 +87,14 @@ dyn-found p (IntersectionType l r) = refl
 dyn-found p (Array t s) = refl
 dyn-found p (TSynonym d b) = refl
 dyn-found p (TMetaData d c o) = refl
+
+when-found : (x : Option (Place Bytes)) → when (isFound (found x)) x ≡ x
+unfolding when found
+when-found none = refl
+when-found (some p) = refl
+
+dyn-when : (p : ℕ) (t : Ty Bytes) → when (isDyn t) (dynAt p t) ≡ dynAt p t
+dyn-when p t = ap (λ b. when b (dynAt p t)) (sym (dyn-found p t)) ∙ when-found (dynAt p t)
 
 pub dyn-other : (p : ℕ) (t : Ty Bytes) → (kind t ≡ 18 → ⊥) → dynAt p t ≡ none
 unfolding dynAt

@@ -19,6 +19,7 @@ use Rattle.encoding.proofs.TypeKinds.{primitiveKind, kind, type-kind}
 use Rattle.trees.specs.Places.{Place, place}
 use Rattle.wrappers.specs.Asked.{Judges, ExpandsAt}
 use Rattle.wrappers.proofs.TypesIn.{ref-of, mut-of, array-of, meta-of}
+use Rattle.classes.specs.declared.Class.{Class}
 use Rattle.classes.specs.declared.Class.the-variants.{Counted, Uninit, PtrClass, ArrayClass}
 use Rattle.classes.specs.declared.Found.{Found}
 use Rattle.classes.specs.declared.Found.the-variants.{At, NoPart}
@@ -321,11 +322,11 @@ module _ (ws pairs : List ℕ) (text : Bytes) (place : ℕ) where
   name-step (TSynonym d b) n e h = stepped d (TSynonym d b) _ (display-below ws pairs text place e) refl
   name-step (TMetaData d c o) n e h = stepped d (TMetaData d c o) n (meta-below ws pairs text place e) refl
 
-  pub going-name : (at own : ℕ) (s : Going endsAt (typeAt ws pairs text) at place) → own ≡ nameStep (getD ws place 0) → (own ≡ 0 → ⊥) → Going endsAt (typeAt ws pairs text) at (place + own)
-  going-name at own s d h =
-      let k : own ≡ nameStep (kind (s .inner)) = d ∙ ap nameStep (sym (type-kind ws pairs text place (s .left))) in
-      let p = name-step (s .inner) (s .stop) (s .left) (λ z. h (k ∙ z)) in
-      going-to ws pairs text endsAt at place s (place + own) (p .stop) (p .inner) (ap (λ q. typeAt ws pairs text (place + q)) k ∙ p .reads) (p .same)
+pub going-name : {ws pairs : List ℕ} {text : Bytes} {at place own : ℕ} (s : Going endsAt ws pairs text at place) → own ≡ nameStep (getD ws place 0) → (own ≡ 0 → ⊥) → Going endsAt ws pairs text at (place + own)
+going-name {ws} {pairs} {text} {at} {place} {own} s d h =
+    let k : own ≡ nameStep (kind (s .inner)) = d ∙ ap nameStep (sym (type-kind ws pairs text place (s .left))) in
+    let p = name-step ws pairs text place (s .inner) (s .stop) (s .left) (λ z. h (k ∙ z)) in
+    going-to s (place + own) (p .stop) (p .inner) (ap (λ q. typeAt ws pairs text (place + q)) k ∙ p .reads) (p .same)
 
 -- ---- `NeedsAsRefForBorrow`
 
@@ -372,6 +373,14 @@ module _ (ws pairs : List ℕ) (text : Bytes) (at : ℕ) where
   -- an answer about what `Expand` gives
   pub judge-expanded : (g h : Ty Bytes → Bool) (r : ℕ) {b : Bool} → ((t : Ty Bytes) → g (Expand t) ≡ h t) → ExpandsAt again at r → Judges g (again r) b → Judges h (again at) b
   judge-expanded g h r k x j = record { says = λ t n e. j .says (Expand t) n (x .expands t n e) ∙ k t }
+
+  -- whether what `Expand` gives is of one of two classes, by the first, or by the second if it is not of the first
+  module _ (one other : Class) (h : Ty Bytes → Bool) (k : (t : Ty Bytes) → (isOf one (Expand t) or isOf other (Expand t)) ≡ h t) (r : ℕ) (x : ExpandsAt again at r) {b : Bool} (j : Judges (isOf one) (again r) b) where
+    pub judge-class : b ≡ true → Judges h (again at) true
+    judge-class e = judge-expanded _ h r k x (judge-one (isOf one) (isOf other) j e)
+
+    pub judge-other-class : {c : Bool} → b ≡ false → Judges (isOf other) (again r) c → Judges h (again at) c
+    judge-other-class e l = judge-expanded _ h r k x (judge-other (isOf one) (isOf other) j e l)
 
   pub judge-needs-ref : {b : Bool} → getD ws at 0 ≡ 15 → Judges boxOrRc (again (at + 1)) b → Judges NeedsAsRefForBorrow (again at) b
   unfolding NeedsAsRefForBorrow
@@ -447,43 +456,40 @@ rcAt p t = IsRcOrBorrowedRc t
 abbrev pub canAt : ℕ → Ty Bytes → Bool
 canAt p t = CanReadWithoutClone t
 
-module _ (ws pairs : List ℕ) (text : Bytes) (at place : ℕ) where
-  abbrev read : ℕ → Reading (Ty Bytes)
-  read = typeAt ws pairs text
-
+module _ {ws pairs : List ℕ} {text : Bytes} {at place : ℕ} where
   -- a test of the kind, by the word
-  not-kind : {k : ℕ} {t : Ty Bytes} {n : ℕ} → read place ≡ got t n → (getD ws place 0 ≡ k → ⊥) → kind t ≡ k → ⊥
-  not-kind e h i = h (sym (type-kind ws pairs text place e) ∙ i)
+  not-kind : {A : Type 0} {f : ℕ → Ty Bytes → A} {k : ℕ} (s : Going f ws pairs text at place) → (getD ws place 0 ≡ k → ⊥) → kind (s .inner) ≡ k → ⊥
+  not-kind s h i = h (sym (type-kind ws pairs text place (s .left)) ∙ i)
 
-  pub removed-arrived : Going removedTo read at place → (getD ws place 0 ≡ 23 → ⊥) → (getD ws place 0 ≡ 24 → ⊥) → Judges (removedTo at) (read at) place
+  pub removed-arrived : Going removedTo ws pairs text at place → (getD ws place 0 ≡ 23 → ⊥) → (getD ws place 0 ≡ 24 → ⊥) → Judges (removedTo at) (typeAt ws pairs text at) place
   removed-arrived s h k =
-      arrived ws pairs text removedTo at place s (removed-here place (s .inner) (not-kind (s .left) h) (not-kind (s .left) k))
+      arrived s (removed-here place (s .inner) (not-kind s h) (not-kind s k))
 
-  pub rc-arrived : {r : Bool} → Going rcAt read at place → (getD ws place 0 ≡ 15 → ⊥) → (getD ws place 0 ≡ 23 → ⊥) → Judges (isOf Counted) (read place) r → Judges IsRcOrBorrowedRc (read at) r
+  pub rc-arrived : {r : Bool} → Going rcAt ws pairs text at place → (getD ws place 0 ≡ 15 → ⊥) → (getD ws place 0 ≡ 23 → ⊥) → Judges (isOf Counted) (typeAt ws pairs text place) r → Judges IsRcOrBorrowedRc (typeAt ws pairs text at) r
   rc-arrived s h k j =
-      arrived-by ws pairs text rcAt at place s (isOf Counted) j (rc-here (s .inner) (not-kind (s .left) h) (not-kind (s .left) k))
+      arrived-by s (isOf Counted) j (rc-here (s .inner) (not-kind s h) (not-kind s k))
 
-  pub can-number-arrived : Going canAt read at place → getD ws place 0 < 12 → Judges CanReadWithoutClone (read at) true
+  pub can-number-arrived : Going canAt ws pairs text at place → getD ws place 0 < 12 → Judges CanReadWithoutClone (typeAt ws pairs text at) true
   can-number-arrived s h =
       let k = type-kind ws pairs text place (s .left) in
-      arrived ws pairs text canAt at place s (can-plain (s .inner) (omega (arith, k, h)))
+      arrived s (can-plain (s .inner) (omega (arith, k, h)))
 
-  pub can-copy-arrived : Going canAt read at place → getD ws place 0 ≡ 24 → getD ws (place + 1) 0 % 2 ≡ 1 → Judges CanReadWithoutClone (read at) true
+  pub can-copy-arrived : Going canAt ws pairs text at place → getD ws place 0 ≡ 24 → getD ws (place + 1) 0 % 2 ≡ 1 → Judges CanReadWithoutClone (typeAt ws pairs text at) true
   can-copy-arrived s h k =
       let m = meta-of ws pairs text place (s .left) h .1 in
-      arrived ws pairs text canAt at place s (can-copy (m .value) _ (leb 2 (getD ws (place + 1) 0)) (eq-eqb (getD ws (place + 1) 0 % 2) 1 k) ∙ ap CanReadWithoutClone (sym (m .made)))
+      arrived s (can-copy (m .value) _ (leb 2 (getD ws (place + 1) 0)) (eq-eqb (getD ws (place + 1) 0 % 2) 1 k) ∙ ap CanReadWithoutClone (sym (m .made)))
 
-  pub can-going : Going canAt read at place → getD ws place 0 ≡ 24 → (getD ws (place + 1) 0 % 2 ≡ 1 → ⊥) → Going canAt read at (place + 2)
+  pub can-going : Going canAt ws pairs text at place → getD ws place 0 ≡ 24 → (getD ws (place + 1) 0 % 2 ≡ 1 → ⊥) → Going canAt ws pairs text at (place + 2)
   can-going s h k =
-      going-meta ws pairs text canAt at place s h λ d.
+      going-meta s h λ d.
       can-display d (eqb (getD ws (place + 1) 0 % 2) 1) (leb 2 (getD ws (place + 1) 0)) (ne-eqb (getD ws (place + 1) 0 % 2) 1 k)
 
-  pub can-arrived : {r : Bool} → Going canAt read at place → 12 ≤ getD ws place 0 → (getD ws place 0 ≡ 23 → ⊥) → (getD ws place 0 ≡ 24 → ⊥) → Judges (isOf PtrClass) (read place) r → Judges CanReadWithoutClone (read at) r
+  pub can-arrived : {r : Bool} → Going canAt ws pairs text at place → 12 ≤ getD ws place 0 → (getD ws place 0 ≡ 23 → ⊥) → (getD ws place 0 ≡ 24 → ⊥) → Judges (isOf PtrClass) (typeAt ws pairs text place) r → Judges CanReadWithoutClone (typeAt ws pairs text at) r
   can-arrived s g h k j =
       let w = type-kind ws pairs text place (s .left) in
-      arrived-by ws pairs text canAt at place s (isOf PtrClass) j (can-here (s .inner) (omega (arith, w, g)) (not-kind (s .left) h) (not-kind (s .left) k))
+      arrived-by s (isOf PtrClass) j (can-here (s .inner) (omega (arith, w, g)) (not-kind s h) (not-kind s k))
 
-  pub name-arrived : {r : Bool} {own : ℕ} → Going endsAt read at place → (getD ws place 0 ≡ 21 → ⊥) → own ≡ nameStep (getD ws place 0) → own ≡ 0 → r ≡ nameKind (getD ws place 0) → Judges EndsWithNameThatCanAcceptGenerics (read at) r
+  pub name-arrived : {r : Bool} {own : ℕ} → Going endsAt ws pairs text at place → (getD ws place 0 ≡ 21 → ⊥) → own ≡ nameStep (getD ws place 0) → own ≡ 0 → r ≡ nameKind (getD ws place 0) → Judges EndsWithNameThatCanAcceptGenerics (typeAt ws pairs text at) r
   name-arrived s h d k e =
       let w = type-kind ws pairs text place (s .left) in
-      arrived ws pairs text endsAt at place s (e ∙ ap nameKind (sym w) ∙ name-here (s .inner) (not-kind (s .left) h) (ap nameStep w ∙ sym d ∙ k))
+      arrived s (e ∙ ap nameKind (sym w) ∙ name-here (s .inner) (not-kind s h) (ap nameStep w ∙ sym d ∙ k))

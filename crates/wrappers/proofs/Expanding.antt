@@ -1,19 +1,21 @@
 -- Following wrappers: behind one, what `Expand` gives is the same, and so is where it ends.
-use Prim.Native.Nat.{ℕ, _+_}
+use Prim.Native.Nat.{ℕ, _+_, _<_}
 use mathlib.Core.Path.{_≡_, refl, ap, sym, _∙_}
 use mathlib.Core.Bool.{Bool}
 use mathlib.Core.List.{List}
 use native.Mathlib.Omega.{arith}
-use lib.ListN.{getD, length-append}
+use lib.ListN.{length, getD, length-append}
 use Rattle.rast.specs.Bytes.{Bytes}
 use Rattle.rast.specs.Tree.{Ty, Primitive, TIdentifier, TypeFromPath, TypeApp, Borrowed, BorrowedMut, ImplType, DynType, TupleType, FnType, IntersectionType, Array, TSynonym, TMetaData}
 use Rattle.rast.specs.DeclarationToString.{Expand}
 use Rattle.encoding.specs.Reading.{Reading, got}
+use Rattle.encoding.specs.Tested.{Good}
 use Rattle.encoding.specs.Types.{typeAt}
 use Rattle.encoding.proofs.TypeKinds.{kind, type-kind}
 use Rattle.trees.specs.Encode.{tokens, words}
 use Rattle.trees.proofs.Renaming.{type-words}
 use Rattle.writing.specs.Written.{Readable}
+use Rattle.writing.proofs.Accepted.{type-here}
 use Rattle.wrappers.specs.Asked.{ExpandsAt}
 use Rattle.wrappers.proofs.Going.{Going}
 
@@ -60,9 +62,9 @@ expand-bare (TMetaData d c o) h k = absurd (k refl)
 
 -- ---- where it stands
 
-module _ (ws pairs : List ℕ) (text : Bytes) (at : ℕ) where
-  pub expand-arrived : (place : ℕ) → Going expandTo (typeAt ws pairs text) at place → (getD ws place 0 ≡ 23 → ⊥) → (getD ws place 0 ≡ 24 → ⊥) → ExpandsAt (typeAt ws pairs text) at place
-  expand-arrived place s h k = record {
+module _ {ws pairs : List ℕ} {text : Bytes} {at : ℕ} where
+  pub expand-arrived : {place : ℕ} → Going expandTo ws pairs text at place → (getD ws place 0 ≡ 23 → ⊥) → (getD ws place 0 ≡ 24 → ⊥) → ExpandsAt (typeAt ws pairs text) at place
+  expand-arrived {place} s h k = record {
     expands = λ t n e.
         let d = type-kind ws pairs text place (s .left) in
         let b : Expand (s .inner) ≡ s .inner = expand-bare (s .inner) (λ i. h (sym d ∙ i)) (λ i. k (sym d ∙ i)) in
@@ -72,6 +74,13 @@ module _ (ws pairs : List ℕ) (text : Bytes) (at : ℕ) where
         s .left ∙ ap (λ u. got u (s .stop)) (sym b) ∙ ap (got (Expand (s .inner))) o ∙ s .same ∙ ap (expandTo at) i ∙ ap (got (Expand t)) (sym w);
   }
 
+module _ (ws pairs : List ℕ) (text : Bytes) (at : ℕ) where
   -- what `Expand` gives was read where it stands
   pub expands-readable : (r : ℕ) → ExpandsAt (typeAt ws pairs text) at r → Readable (typeAt ws pairs text at) → Readable (typeAt ws pairs text r)
   expands-readable r x d = record { value = Expand (d .value); end = d .end; reads = x .expands (d .value) (d .end) (d .reads) }
+
+  pub expands-ready : (r : ℕ) → ExpandsAt (typeAt ws pairs text) at r → Good pairs text × Readable (typeAt ws pairs text at) → Good pairs text × Readable (typeAt ws pairs text r)
+  expands-ready r x d = (d .0, expands-readable r x (d .1))
+
+  pub expands-here : (r : ℕ) → ExpandsAt (typeAt ws pairs text) at r → Readable (typeAt ws pairs text at) → r < length ws
+  expands-here r x d = type-here ws pairs text r (expands-readable r x d .reads)

@@ -9,9 +9,10 @@ use Rattle.rast.specs.Tree.{Ty, TypeApp, Borrowed, BorrowedMut, ImplType, DynTy
 use Rattle.encoding.specs.declared.Head.the-variants.{Meta}
 use Rattle.encoding.specs.Tables.{nameBytes}
 use Rattle.encoding.specs.Heads.{headAfter}
-use Rattle.encoding.specs.Reading.{got}
+use Rattle.encoding.specs.Reading.{Reading, got}
 use Rattle.encoding.specs.Types.{sizeOf, readTypes, readNode, typeAt}
 use Rattle.encoding.proofs.Types.{Made, Made₂, made-got, made₂-got}
+use Rattle.writing.specs.Written.{Readable}
 use Rattle.writing.proofs.Accepted.{ref-head, mut-head, impl-head, dyn-head, both-head, synonym-head, apply-head, array-head, by-below}
 
 module _ (ws pairs : List ℕ) (text : Bytes) (at : ℕ) {t : Ty Bytes} {n : ℕ} (e : typeAt ws pairs text at ≡ got t n) where
@@ -64,3 +65,14 @@ module _ (ws pairs : List ℕ) (text : Bytes) (at : ℕ) {t : Ty Bytes} {n : ℕ
   apply-of h =
       let k = apply-head ws pairs text at e h in
       (k .0, made₂-got (typeAt ws pairs text (at + 2)) (readTypes (typeAt ws pairs text) (getD ws (at + 1) 0)) TypeApp (k .1))
+
+made-readable : {x : Reading (Ty Bytes)} {c : Ty Bytes → Ty Bytes} {t : Ty Bytes} {n : ℕ} → Made x c t n → Readable x
+made-readable {n = n} m = record { value = m .value; end = n; reads = m .reads }
+
+-- what is borrowed, and an array's element, was read
+module _ (ws pairs : List ℕ) (text : Bytes) (at : ℕ) (r : Readable (typeAt ws pairs text at)) where
+  pub ref-readable : getD ws at 0 ≡ 15 → Readable (typeAt ws pairs text (at + 1))
+  ref-readable h = made-readable (ref-of ws pairs text at (r .reads) h)
+
+  pub element-readable : getD ws at 0 ≡ 22 → Readable (typeAt ws pairs text (at + 2))
+  element-readable h = made-readable (array-of ws pairs text at (r .reads) h .1)

@@ -1,10 +1,10 @@
 use Rattle.encoding.specs.Tables.{fixedNames}
 use Rattle.rast.specs.Bytes.{ascii}
-use Rattle.classes.specs.Classes.{inClass}
+use Rattle.classes.specs.Classes.{inClass, pathLength}
 use Rattle.classes.specs.Paths.{BoxPath, MaybeUninitPath}
-use Rattle.classes.proofs.Paths.{in-array, in-collection, in-map, in-object, in-placebo, in-pointer}
+use Rattle.classes.proofs.Paths.{class-member}
 use Rattle.classes.proofs.is_in_class.Statement.{statement}
-use mathlib.Core.Path.{refl}
+use mathlib.Core.Path.{refl, ap, _∙_}
 use native.Mathlib.Omega.{arith}
 use borrow.Author.Needs.{needs}
 use Rattle.classes.proofs.is_in_class.Tie as tie
@@ -91,22 +91,28 @@ unfolding inClass MaybeUninitPath fixedNames
 returns-3 c = rw (c .before .before .before .enum-told3 .given .1) (c .is-in-std2 .ensures)
 
 returns-4 : tie.Need-returns-4
-returns-4 c = in-placebo _ (c .is-runtime-class .ensures) (c .before .enum-told4 .given .1)
+unfolding pathLength
+returns-4 c = c .is-runtime-class .ensures ∙ class-member _ (ap pathLength (c .before .enum-told4 .given .1)) _
 
 returns-5 : tie.Need-returns-5
-returns-5 c = in-object _ (c .is-runtime-class2 .ensures) (c .before .enum-told5 .given .1)
+unfolding pathLength
+returns-5 c = c .is-runtime-class2 .ensures ∙ class-member _ (ap pathLength (c .before .enum-told5 .given .1)) _
 
 returns-6 : tie.Need-returns-6
-returns-6 c = in-pointer _ (c .is-runtime-class3 .ensures) (c .before .enum-told6 .given .1)
+unfolding pathLength
+returns-6 c = c .is-runtime-class3 .ensures ∙ class-member _ (ap pathLength (c .before .enum-told6 .given .1)) _
 
 returns-7 : tie.Need-returns-7
-returns-7 c = in-array _ (c .is-runtime-class4 .ensures) (c .before .enum-told7 .given .1)
+unfolding pathLength
+returns-7 c = c .is-runtime-class4 .ensures ∙ class-member _ (ap pathLength (c .before .enum-told7 .given .1)) _
 
 returns-8 : tie.Need-returns-8
-returns-8 c = in-collection _ (c .is-runtime-class5 .ensures) (c .before .enum-told8 .given .1)
+unfolding pathLength
+returns-8 c = c .is-runtime-class5 .ensures ∙ class-member _ (ap pathLength (c .before .enum-told8 .given .1)) _
 
 returns-9 : tie.Need-returns-9
-returns-9 c = in-map _ (c .is-runtime-class6 .ensures) (c .before .enum-told9 .given .1)
+unfolding pathLength
+returns-9 c = c .is-runtime-class6 .ensures ∙ class-member _ (ap pathLength (c .before .enum-told9 .given .1)) _
 
 pub is-in-class-spec : {M : Type 1} → statement M
 is-in-class-spec =

@@ -1,4 +1,4 @@
-use Rattle.shapes.proofs.Answers.{accepted, accepted-readable, not-accepted}
+use Rattle.shapes.proofs.Answers.{accepted, ready}
 use Rattle.shapes.specs.Parts.{ExpandAt}
 use Rattle.parts.proofs.Spans.{expanded-end, expanded-given, part-forward, part-refused}
 use Rattle.parts.proofs.expand_at.Statement.{statement}
@@ -14,7 +14,7 @@ enum-told c = search needs
 expand-requires : tie.Need-expand-requires
 expand-requires c κs =
     let a = c .before .before .before .before .before .before .args in
-    accepted-readable (a .words .now) (a .pairs .now) (a .text .now) (accepted (a .words .now) (a .pairs .now) (a .text .now) (c .before .before .accept .ensures) (c .enum-told .given .1))
+    ready (a .words .now) (a .pairs .now) (a .text .now) (c .before .before .accept .ensures) (c .enum-told .given .1) .1
 
 sub-t9 : tie.Need-sub-t9
 sub-t9 c =
@@ -32,7 +32,7 @@ returns c =
 returns-2 : tie.Need-returns-2
 returns-2 c =
     let a = c .before .before .before .before .before .before .before .args in
-    part-refused (a .words .now) (a .pairs .now) (a .text .now) ExpandAt (not-accepted (a .words .now) (a .pairs .now) (a .text .now) (c .before .before .before .accept .ensures) (c .before .r .given .1))
+    part-refused (a .words .now) (a .pairs .now) (a .text .now) ExpandAt (c .before .before .before .accept .ensures) (c .before .r .given .1)
 
 pub expand-at-spec : {M : Type 1} → statement M
 expand-at-spec =

@@ -1,5 +1,5 @@
 use Rattle.parts.specs.Asked.{partFor}
-use Rattle.shapes.proofs.Answers.{accepted, accepted-readable, not-accepted}
+use Rattle.shapes.proofs.Answers.{accepted, ready}
 use Rattle.parts.proofs.Spans.{part-given, part-refused}
 use Rattle.parts.proofs.part_in.Statement.{statement}
 use borrow.Author.Needs.{needs}
@@ -14,8 +14,7 @@ enum-told c = search needs
 part-at-requires : tie.Need-part-at-requires
 part-at-requires c κs =
     let a = c .before .before .before .before .before .before .args in
-    let k = accepted (a .words .now) (a .pairs .now) (a .text .now) (c .before .before .accept .ensures) (c .enum-told .given .1) in
-    (k .good, accepted-readable (a .words .now) (a .pairs .now) (a .text .now) k)
+    ready (a .words .now) (a .pairs .now) (a .text .now) (c .before .before .accept .ensures) (c .enum-told .given .1)
 
 enum-known-r : tie.Need-enum-known-r
 enum-known-r c = search needs
@@ -28,7 +27,7 @@ returns c =
 returns-2 : tie.Need-returns-2
 returns-2 c =
     let a = c .before .before .before .before .before .before .before .args in
-    part-refused (a .words .now) (a .pairs .now) (a .text .now) (partFor (a .wanted)) (not-accepted (a .words .now) (a .pairs .now) (a .text .now) (c .before .before .before .accept .ensures) (c .before .r .given .1))
+    part-refused (a .words .now) (a .pairs .now) (a .text .now) (partFor (a .wanted)) (c .before .before .before .accept .ensures) (c .before .r .given .1)
 
 pub part-in-spec : {M : Type 1} → statement M
 part-in-spec =

@@ -1,8 +1,7 @@
 use Rattle.classes.specs.declared.Class.the-variants.{Boxed}
-use Rattle.classes.proofs.Finding.{first-keeps, found-readable}
+use Rattle.classes.proofs.Finding.{first-keeps, found-here}
 use Rattle.shapes.proofs.Parts.{box-dyn-finds, box-dyn-none, box-dyn-other}
 use Rattle.shapes.proofs.box_dyn_part.Statement.{statement}
-use Rattle.writing.proofs.Accepted.{type-here}
 use borrow.Author.Needs.{needs}
 use Rattle.shapes.proofs.box_dyn_part.Tie as tie
 
@@ -23,21 +22,17 @@ returns c =
 mul-if1 : tie.Need-mul-if1
 mul-if1 c =
     let a = c .before .before .before .before .before .before .before .args in
-    let r = found-readable (a .words .now) (a .pairs .now) (a .text .now) (a .at) (first-keeps (a .words .now) (a .pairs .now) (a .text .now) Boxed) (c .before .before .before .before .before .before .before .pre .1) (c .before .before .before .first-argument .ensures) (c .before .place .given .1) in
-    let h = type-here (a .words .now) (a .pairs .now) (a .text .now) _ (r .reads) in
-    search needs
+    let h = found-here (a .words .now) (a .pairs .now) (a .text .now) (a .at) (first-keeps (a .words .now) (a .pairs .now) (a .text .now) Boxed) (c .before .before .before .before .before .before .before .pre .1) (c .before .before .before .first-argument .ensures) (c .before .place .given .1) in search needs
 
 shared-slice-read-if1 : tie.Need-shared-slice-read-if1
 shared-slice-read-if1 c =
     let a = c .before .before .before .before .before .before .before .before .args in
-    type-here (a .words .now) (a .pairs .now) (a .text .now) _ (found-readable (a .words .now) (a .pairs .now) (a .text .now) (a .at) (first-keeps (a .words .now) (a .pairs .now) (a .text .now) Boxed) (c .before .before .before .before .before .before .before .before .pre .1) (c .before .before .before .before .first-argument .ensures) (c .before .before .place .given .1) .reads)
+    found-here (a .words .now) (a .pairs .now) (a .text .now) (a .at) (first-keeps (a .words .now) (a .pairs .now) (a .text .now) Boxed) (c .before .before .before .before .before .before .before .before .pre .1) (c .before .before .before .before .first-argument .ensures) (c .before .before .place .given .1)
 
 add-t12 : tie.Need-add-t12
 add-t12 c =
     let a = c .before .before .before .before .before .before .before .before .before .args in
-    let r = found-readable (a .words .now) (a .pairs .now) (a .text .now) (a .at) (first-keeps (a .words .now) (a .pairs .now) (a .text .now) Boxed) (c .before .before .before .before .before .before .before .before .before .pre .1) (c .before .before .before .before .before .first-argument .ensures) (c .before .before .before .place .given .1) in
-    let h = type-here (a .words .now) (a .pairs .now) (a .text .now) _ (r .reads) in
-    search needs
+    let h = found-here (a .words .now) (a .pairs .now) (a .text .now) (a .at) (first-keeps (a .words .now) (a .pairs .now) (a .text .now) Boxed) (c .before .before .before .before .before .before .before .before .before .pre .1) (c .before .before .before .before .before .first-argument .ensures) (c .before .before .before .place .given .1) in search needs
 
 returns-2 : tie.Need-returns-2
 returns-2 c =

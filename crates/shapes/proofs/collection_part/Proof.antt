@@ -1,6 +1,6 @@
 use Rattle.classes.specs.declared.Class.the-variants.{MapClass}
 use Rattle.classes.proofs.Finding.{first-keeps, found-readable}
-use Rattle.wrappers.proofs.Expanding.{expands-readable}
+use Rattle.wrappers.proofs.Expanding.{expands-readable, expands-ready}
 use Rattle.shapes.proofs.Parts.{map-finds, set-finds}
 use Rattle.shapes.proofs.collection_part.Statement.{statement}
 use borrow.Author.Needs.{needs}
@@ -12,7 +12,7 @@ expand-requires c κs = search needs
 first-argument-requires : tie.Need-first-argument-requires
 first-argument-requires c κs =
     let a = c .before .before .before .before .args in
-    (c .before .before .before .before .pre .0, expands-readable (a .words .now) (a .pairs .now) (a .text .now) (a .at) _ (c .expand .ensures) (c .before .before .before .before .pre .1))
+    expands-ready (a .words .now) (a .pairs .now) (a .text .now) (a .at) _ (c .expand .ensures) (c .before .before .before .before .pre)
 
 enum-known-key : tie.Need-enum-known-key
 enum-known-key c = search needs
@@ -23,7 +23,7 @@ enum-told c = search needs
 first-argument-requires-2 : tie.Need-first-argument-requires-2
 first-argument-requires-2 c κs =
     let a = c .before .before .before .before .before .before .before .args in
-    (c .before .before .before .before .before .before .before .pre .0, expands-readable (a .words .now) (a .pairs .now) (a .text .now) (a .at) _ (c .before .before .before .expand .ensures) (c .before .before .before .before .before .before .before .pre .1))
+    expands-ready (a .words .now) (a .pairs .now) (a .text .now) (a .at) _ (c .before .before .before .expand .ensures) (c .before .before .before .before .before .before .before .pre)
 
 returns : tie.Need-returns
 returns c =

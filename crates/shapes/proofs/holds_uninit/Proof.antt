@@ -1,6 +1,6 @@
 use Rattle.classes.specs.declared.Class.the-variants.{ArrayClass}
-use Rattle.wrappers.proofs.TypesIn.{array-of}
-use Rattle.classes.proofs.Finding.{first-keeps, found-readable}
+use Rattle.wrappers.proofs.TypesIn.{array-of, element-readable}
+use Rattle.classes.proofs.Finding.{first-keeps, found-ready}
 use Rattle.shapes.proofs.Judging.{judge-multi, judge-no-array, judge-sized, judge-unsized}
 use Rattle.shapes.proofs.holds_uninit.Statement.{statement}
 use Rattle.writing.proofs.Accepted.{type-here}
@@ -40,8 +40,7 @@ add-is-of c =
 is-of-requires : tie.Need-is-of-requires
 is-of-requires c κs =
     let a = c .before .before .before .before .before .before .before .args in
-    let m = array-of (a .words .now) (a .pairs .now) (a .text .now) (a .at) (c .before .before .before .before .before .before .before .pre .1 .reads) (c .before .before .if1 .taken) .1 in
-    (c .before .before .before .before .before .before .before .pre .0, record { value = m .value; end = c .before .before .before .before .before .before .before .pre .1 .end; reads = m .reads })
+    (c .before .before .before .before .before .before .before .pre .0, element-readable (a .words .now) (a .pairs .now) (a .text .now) (a .at) (c .before .before .before .before .before .before .before .pre .1) (c .before .before .if1 .taken))
 
 returns : tie.Need-returns
 returns c =
@@ -70,7 +69,7 @@ returns-3 c =
 is-of-requires-2 : tie.Need-is-of-requires-2
 is-of-requires-2 c κs =
     let a = c .before .before .before .before .before .before .before .before .before .args in
-    (c .before .before .before .before .before .before .before .before .before .pre .0, found-readable (a .words .now) (a .pairs .now) (a .text .now) (a .at) (first-keeps (a .words .now) (a .pairs .now) (a .text .now) ArrayClass) (c .before .before .before .before .before .before .before .before .before .pre .1) (c .before .before .before .first-argument .ensures) (c .before .place .given .1))
+    found-ready (a .words .now) (a .pairs .now) (a .text .now) (a .at) (first-keeps (a .words .now) (a .pairs .now) (a .text .now) ArrayClass) (c .before .before .before .before .before .before .before .before .before .pre) (c .before .before .before .first-argument .ensures) (c .before .place .given .1)
 
 returns-4 : tie.Need-returns-4
 returns-4 c =

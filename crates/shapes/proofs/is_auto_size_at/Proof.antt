@@ -1,7 +1,6 @@
-use Rattle.wrappers.proofs.Expanding.{expands-readable}
+use Rattle.wrappers.proofs.Expanding.{expands-here}
 use Rattle.shapes.proofs.Judging.{judge-auto}
 use Rattle.shapes.proofs.is_auto_size_at.Statement.{statement}
-use Rattle.writing.proofs.Accepted.{type-here}
 use borrow.Author.Needs.{needs}
 use Rattle.shapes.proofs.is_auto_size_at.Tie as tie
 
@@ -11,12 +10,12 @@ expand-requires c κs = search needs
 mul-result : tie.Need-mul-result
 mul-result c =
     let a = c .before .before .before .before .args in
-    let h = type-here (a .words .now) (a .pairs .now) (a .text .now) _ (expands-readable (a .words .now) (a .pairs .now) (a .text .now) (a .at) _ (c .expand .ensures) (c .before .before .before .before .pre) .reads) in search needs
+    let h = expands-here (a .words .now) (a .pairs .now) (a .text .now) (a .at) _ (c .expand .ensures) (c .before .before .before .before .pre) in search needs
 
 shared-slice-read-result : tie.Need-shared-slice-read-result
 shared-slice-read-result c =
     let a = c .before .before .before .before .before .args in
-    type-here (a .words .now) (a .pairs .now) (a .text .now) _ (expands-readable (a .words .now) (a .pairs .now) (a .text .now) (a .at) _ (c .before .expand .ensures) (c .before .before .before .before .before .pre) .reads)
+    expands-here (a .words .now) (a .pairs .now) (a .text .now) (a .at) _ (c .before .expand .ensures) (c .before .before .before .before .before .pre)
 
 returns : tie.Need-returns
 returns c =

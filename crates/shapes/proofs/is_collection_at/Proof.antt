@@ -1,10 +1,8 @@
-use Rattle.rast.specs.Bytes.{_or_}
-use Rattle.wrappers.proofs.Expanding.{expands-readable}
+use Rattle.wrappers.proofs.Expanding.{expands-ready}
 use Rattle.classes.specs.declared.Class.the-variants.{Collection, MapClass}
-use Rattle.classes.specs.Classes.{isOf}
 use Rattle.shapes.specs.Shapes.{IsBuiltinCollection}
 use Rattle.shapes.proofs.Collections.{collection-is}
-use Rattle.shapes.proofs.Judging.{judge-expanded, judge-one, judge-other}
+use Rattle.shapes.proofs.Judging.{judge-class, judge-other-class}
 use Rattle.shapes.proofs.is_collection_at.Statement.{statement}
 use borrow.Author.Needs.{needs}
 use Rattle.shapes.proofs.is_collection_at.Tie as tie
@@ -15,22 +13,22 @@ expand-requires c κs = search needs
 is-of-requires : tie.Need-is-of-requires
 is-of-requires c κs =
     let a = c .before .before .before .before .args in
-    (c .before .before .before .before .pre .0, expands-readable (a .words .now) (a .pairs .now) (a .text .now) (a .at) _ (c .expand .ensures) (c .before .before .before .before .pre .1))
+    expands-ready (a .words .now) (a .pairs .now) (a .text .now) (a .at) _ (c .expand .ensures) (c .before .before .before .before .pre)
 
 returns : tie.Need-returns
 returns c =
     let a = c .before .before .before .before .before .before .args in
-    judge-expanded (a .words .now) (a .pairs .now) (a .text .now) (a .at) (λ t. isOf Collection t or isOf MapClass t) IsBuiltinCollection _ collection-is (c .before .before .expand .ensures) (judge-one (isOf Collection) (isOf MapClass) (c .before .is-of .ensures) (c .if1 .taken))
+    judge-class (a .words .now) (a .pairs .now) (a .text .now) (a .at) Collection MapClass IsBuiltinCollection collection-is _ (c .before .before .expand .ensures) (c .before .is-of .ensures) (c .if1 .taken)
 
 is-of-requires-2 : tie.Need-is-of-requires-2
 is-of-requires-2 c κs =
     let a = c .before .before .before .before .before .before .args in
-    (c .before .before .before .before .before .before .pre .0, expands-readable (a .words .now) (a .pairs .now) (a .text .now) (a .at) _ (c .before .before .expand .ensures) (c .before .before .before .before .before .before .pre .1))
+    expands-ready (a .words .now) (a .pairs .now) (a .text .now) (a .at) _ (c .before .before .expand .ensures) (c .before .before .before .before .before .before .pre)
 
 returns-2 : tie.Need-returns-2
 returns-2 c =
     let a = c .before .before .before .before .before .before .before .args in
-    judge-expanded (a .words .now) (a .pairs .now) (a .text .now) (a .at) (λ t. isOf Collection t or isOf MapClass t) IsBuiltinCollection _ collection-is (c .before .before .before .expand .ensures) (judge-other (isOf Collection) (isOf MapClass) (c .before .before .is-of .ensures) (c .before .if1 .left) (c .is-of2 .ensures))
+    judge-other-class (a .words .now) (a .pairs .now) (a .text .now) (a .at) Collection MapClass IsBuiltinCollection collection-is _ (c .before .before .before .expand .ensures) (c .before .before .is-of .ensures) (c .before .if1 .left) (c .is-of2 .ensures)
 
 pub is-collection-at-spec : {M : Type 1} → statement M
 is-collection-at-spec =

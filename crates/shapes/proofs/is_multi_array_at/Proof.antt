@@ -1,5 +1,5 @@
 use mathlib.Core.Path.{sym}
-use Rattle.wrappers.proofs.Expanding.{expands-readable}
+use Rattle.wrappers.proofs.Expanding.{expands-ready}
 use Rattle.classes.specs.declared.Class.the-variants.{ArrayClass}
 use Rattle.classes.specs.Classes.{isOf}
 use Rattle.shapes.specs.Shapes.{IsMultiArray}
@@ -15,7 +15,7 @@ expand-requires c κs = search needs
 is-of-requires : tie.Need-is-of-requires
 is-of-requires c κs =
     let a = c .before .before .before .before .args in
-    (c .before .before .before .before .pre .0, expands-readable (a .words .now) (a .pairs .now) (a .text .now) (a .at) _ (c .expand .ensures) (c .before .before .before .before .pre .1))
+    expands-ready (a .words .now) (a .pairs .now) (a .text .now) (a .at) _ (c .expand .ensures) (c .before .before .before .before .pre)
 
 returns : tie.Need-returns
 returns c =

@@ -1,5 +1,5 @@
-use Rattle.classes.proofs.Finding.{found-readable}
-use Rattle.wrappers.proofs.Expanding.{expands-readable}
+use Rattle.classes.proofs.Finding.{found-readable, found-ready}
+use Rattle.wrappers.proofs.Expanding.{expands-ready}
 use Rattle.shapes.proofs.Judging.{judge-no-pointer, judge-pointed}
 use Rattle.shapes.proofs.Parts.{pointer-keeps}
 use Rattle.shapes.proofs.is_uninit_array_at.Statement.{statement}
@@ -28,7 +28,7 @@ expand-requires c κs =
 holds-uninit-requires : tie.Need-holds-uninit-requires
 holds-uninit-requires c κs =
     let a = c .before .before .before .before .before .before .before .before .args in
-    (c .before .before .before .before .before .before .before .before .pre .0, expands-readable (a .words .now) (a .pairs .now) (a .text .now) _ _ (c .expand .ensures) (found-readable (a .words .now) (a .pairs .now) (a .text .now) (a .at) (pointer-keeps (a .words .now) (a .pairs .now) (a .text .now)) (c .before .before .before .before .before .before .before .before .pre .1) (c .before .before .before .before .object-or-pointer-part .ensures) (c .before .before .place .given .1)))
+    expands-ready (a .words .now) (a .pairs .now) (a .text .now) _ _ (c .expand .ensures) (found-ready (a .words .now) (a .pairs .now) (a .text .now) (a .at) (pointer-keeps (a .words .now) (a .pairs .now) (a .text .now)) (c .before .before .before .before .before .before .before .before .pre) (c .before .before .before .before .object-or-pointer-part .ensures) (c .before .before .place .given .1))
 
 returns-2 : tie.Need-returns-2
 returns-2 c =

@@ -1,4 +1,4 @@
-use Rattle.wrappers.proofs.Expanding.{expands-readable}
+use Rattle.wrappers.proofs.Expanding.{expands-ready}
 use Rattle.shapes.proofs.Parts.{multi-array-finds}
 use Rattle.shapes.proofs.multi_array_part.Statement.{statement}
 use borrow.Author.Needs.{needs}
@@ -10,7 +10,7 @@ expand-requires c κs = search needs
 first-argument-requires : tie.Need-first-argument-requires
 first-argument-requires c κs =
     let a = c .before .before .before .before .args in
-    (c .before .before .before .before .pre .0, expands-readable (a .words .now) (a .pairs .now) (a .text .now) (a .at) _ (c .expand .ensures) (c .before .before .before .before .pre .1))
+    expands-ready (a .words .now) (a .pairs .now) (a .text .now) (a .at) _ (c .expand .ensures) (c .before .before .before .before .pre)
 
 returns : tie.Need-returns
 returns c =

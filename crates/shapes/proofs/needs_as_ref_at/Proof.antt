@@ -1,4 +1,4 @@
-use Rattle.wrappers.proofs.TypesIn.{ref-of}
+use Rattle.wrappers.proofs.TypesIn.{ref-readable}
 use Rattle.shapes.proofs.Judging.{judge-needs, judge-needs-ref}
 use Rattle.shapes.proofs.needs_as_ref_at.Statement.{statement}
 use Rattle.writing.proofs.Accepted.{type-here}
@@ -23,8 +23,7 @@ add-is-box-or-rc c =
 is-box-or-rc-requires : tie.Need-is-box-or-rc-requires
 is-box-or-rc-requires c κs =
     let a = c .before .before .before .before .before .args in
-    let m = ref-of (a .words .now) (a .pairs .now) (a .text .now) (a .at) (c .before .before .before .before .before .pre .1 .reads) (c .if1 .taken) in
-    (c .before .before .before .before .before .pre .0, record { value = m .value; end = c .before .before .before .before .before .pre .1 .end; reads = m .reads })
+    (c .before .before .before .before .before .pre .0, ref-readable (a .words .now) (a .pairs .now) (a .text .now) (a .at) (c .before .before .before .before .before .pre .1) (c .if1 .taken))
 
 returns : tie.Need-returns
 returns c =

@@ -1,4 +1,4 @@
-use Rattle.wrappers.proofs.Expanding.{expands-readable}
+use Rattle.wrappers.proofs.Expanding.{expands-ready}
 use Rattle.shapes.proofs.Parts.{object-finds, pointer-finds}
 use Rattle.shapes.proofs.object_or_pointer_part.Statement.{statement}
 use borrow.Author.Needs.{needs}
@@ -10,7 +10,7 @@ expand-requires c κs = search needs
 first-argument-requires : tie.Need-first-argument-requires
 first-argument-requires c κs =
     let a = c .before .before .before .before .args in
-    (c .before .before .before .before .pre .0, expands-readable (a .words .now) (a .pairs .now) (a .text .now) (a .at) _ (c .expand .ensures) (c .before .before .before .before .pre .1))
+    expands-ready (a .words .now) (a .pairs .now) (a .text .now) (a .at) _ (c .expand .ensures) (c .before .before .before .before .pre)
 
 enum-known-part : tie.Need-enum-known-part
 enum-known-part c = search needs
@@ -21,7 +21,7 @@ enum-told c = search needs
 first-argument-requires-2 : tie.Need-first-argument-requires-2
 first-argument-requires-2 c κs =
     let a = c .before .before .before .before .before .before .before .args in
-    (c .before .before .before .before .before .before .before .pre .0, expands-readable (a .words .now) (a .pairs .now) (a .text .now) (a .at) _ (c .before .before .before .expand .ensures) (c .before .before .before .before .before .before .before .pre .1))
+    expands-ready (a .words .now) (a .pairs .now) (a .text .now) (a .at) _ (c .before .before .before .expand .ensures) (c .before .before .before .before .before .before .before .pre)
 
 returns : tie.Need-returns
 returns c =

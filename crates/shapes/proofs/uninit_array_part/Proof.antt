@@ -1,4 +1,4 @@
-use Rattle.classes.proofs.Finding.{found-readable}
+use Rattle.classes.proofs.Finding.{found-ready}
 use Rattle.shapes.proofs.Parts.{extract-finds, extract-none, pointer-keeps}
 use Rattle.shapes.proofs.uninit_array_part.Statement.{statement}
 use borrow.Author.Needs.{needs}
@@ -21,7 +21,7 @@ returns c =
 uninit-part-requires : tie.Need-uninit-part-requires
 uninit-part-requires c κs =
     let a = c .before .before .before .before .before .before .before .args in
-    (c .before .before .before .before .before .before .before .pre .0, found-readable (a .words .now) (a .pairs .now) (a .text .now) (a .at) (pointer-keeps (a .words .now) (a .pairs .now) (a .text .now)) (c .before .before .before .before .before .before .before .pre .1) (c .before .before .before .object-or-pointer-part .ensures) (c .before .place .given .1))
+    found-ready (a .words .now) (a .pairs .now) (a .text .now) (a .at) (pointer-keeps (a .words .now) (a .pairs .now) (a .text .now)) (c .before .before .before .before .before .before .before .pre) (c .before .before .before .object-or-pointer-part .ensures) (c .before .place .given .1)
 
 returns-2 : tie.Need-returns-2
 returns-2 c =

@@ -1,5 +1,5 @@
-use Rattle.wrappers.proofs.TypesIn.{array-of}
-use Rattle.classes.proofs.Finding.{found-readable}
+use Rattle.wrappers.proofs.TypesIn.{array-of, element-readable}
+use Rattle.classes.proofs.Finding.{found-ready}
 use Rattle.shapes.proofs.Parts.{element-finds, element-inside, element-none, multi-array-keeps}
 use Rattle.shapes.proofs.uninit_part.Statement.{statement}
 use Rattle.writing.proofs.Accepted.{type-here}
@@ -24,8 +24,7 @@ add-first-argument c =
 first-argument-requires : tie.Need-first-argument-requires
 first-argument-requires c κs =
     let a = c .before .before .before .before .before .args in
-    let m = array-of (a .words .now) (a .pairs .now) (a .text .now) (a .at) (c .before .before .before .before .before .pre .1 .reads) (c .if1 .taken) .1 in
-    (c .before .before .before .before .before .pre .0, record { value = m .value; end = c .before .before .before .before .before .pre .1 .end; reads = m .reads })
+    (c .before .before .before .before .before .pre .0, element-readable (a .words .now) (a .pairs .now) (a .text .now) (a .at) (c .before .before .before .before .before .pre .1) (c .if1 .taken))
 
 returns : tie.Need-returns
 returns c =
@@ -49,7 +48,7 @@ returns-2 c =
 first-argument-requires-2 : tie.Need-first-argument-requires-2
 first-argument-requires-2 c κs =
     let a = c .before .before .before .before .before .before .before .before .before .args in
-    (c .before .before .before .before .before .before .before .before .before .pre .0, found-readable (a .words .now) (a .pairs .now) (a .text .now) (a .at) (multi-array-keeps (a .words .now) (a .pairs .now) (a .text .now)) (c .before .before .before .before .before .before .before .before .before .pre .1) (c .before .before .before .multi-array-part .ensures) (c .before .place .given .1))
+    found-ready (a .words .now) (a .pairs .now) (a .text .now) (a .at) (multi-array-keeps (a .words .now) (a .pairs .now) (a .text .now)) (c .before .before .before .before .before .before .before .before .before .pre) (c .before .before .before .multi-array-part .ensures) (c .before .place .given .1)
 
 returns-3 : tie.Need-returns-3
 returns-3 c =
