@@ -254,7 +254,7 @@ fn write_borrow(
     if w < 12 {
         return Spot {
             next: at + 1,
-            pos: leaves::put_primitive(w, out, pos),
+            pos: leaves::put_plain(w, out, pos),
         };
     }
     if w == 12 {
@@ -287,7 +287,7 @@ pub fn write_field_type(
     if w < 12 {
         return Spot {
             next: at + 1,
-            pos: leaves::put_primitive(w, out, pos),
+            pos: leaves::put_plain(w, out, pos),
         };
     }
     if w == 12 {

@@ -1,2 +1,3 @@
--- Laws of a path's text.
+-- Laws of plain types and of a path's text.
 pub mod Paths
+pub mod Plain
