@@ -12,7 +12,7 @@ use Rattle.rast.specs.Bytes.{Bytes, ascii, same, _and_}
 use Rattle.rast.proofs.BytesLaws.{and-false}
 use Rattle.encoding.specs.Tables.{fixedNames, nameBytes, nameCount}
 use Rattle.encoding.specs.Tested.{Good}
-use Rattle.encoding.proofs.Tables.{impossible, everyBelow, every-at, pair-inside, name-fixed, name-pair}
+use Rattle.encoding.proofs.Tables.{impossible, everyBelow, every-at, pair-inside, name-fixed, name-length, name-pair, length-pair}
 
 -- the part from s to s + n
 pub part-to : (l : Bytes) (s n : ℕ) → take (s + n - s) (drop s l) ≡ take n (drop s l)
@@ -28,8 +28,14 @@ module _ (pairs text : List ℕ) (x : ℕ) (h : 16 ≤ x) {s n : ℕ} (e : s ≡
   pub pair-there : Good pairs text → x < nameCount pairs → (s ≤ s + n) × (s + n ≤ length text)
   pair-there g k = (omega arith, omega (arith, start, d, pair-inside pairs text x g h k))
 
+  pub pair-taken : take n (drop s text) ≡ nameBytes pairs text x
+  pair-taken = rw (start, d) (sym (name-pair pairs text x h))
+
   pub pair-part : take (s + n - s) (drop s text) ≡ nameBytes pairs text x
-  pair-part = part-to text s n ∙ rw (start, d) (sym (name-pair pairs text x h))
+  pair-part = part-to text s n ∙ pair-taken
+
+  pub pair-size : Good pairs text → x < nameCount pairs → length (nameBytes pairs text x) ≡ n
+  pair-size g k = name-length pairs text x g k ∙ length-pair pairs x h ∙ sym d
 
 -- ---- equal bytes
 

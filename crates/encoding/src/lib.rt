@@ -214,10 +214,8 @@ pub fn put_pair(pairs: &[u32], text: &[u8], name: u32, out: &mut [u8], pos: usiz
         × (pos + length (nameBytes (now pairs) (now text) name) ≤ length (now out)) ⌝ }
     ensures { λ r. ⌜ Wrote (now (out .entry)) pos (nameBytes (now (pairs .entry)) (now (text .entry)) name) (now (out .exit)) r ⌝ }
 {
-    let i = (name - 16) as usize;
-    let start = pairs[2 * i] as usize;
-    let count = pairs[2 * i + 1] as usize;
-    output::put_part(text, start, count, out, pos)
+    let start = pair_word(pairs, name, 0);
+    output::put_part(text, start, pair_word(pairs, name, 1), out, pos)
 }
 
 // The bytes of a name.

@@ -12,6 +12,7 @@ use Rattle.rast.specs.Bytes.{Bytes, _and_, _or_}
 use Rattle.rast.specs.Tree.{Path, Global, PMemberSelect, Ty, Tys, Primitive, TIdentifier, TypeFromPath, TypeApp, Borrowed, BorrowedMut, ImplType, DynType, TupleType, FnType, IntersectionType, Array, TSynonym, TMetaData, nil, cons, count}
 use Rattle.rast.specs.DeclarationToString.{Expand}
 use Rattle.rast.proofs.BytesLaws.{and-right}
+use Rattle.rast.proofs.SourceEquations.{expand-by}
 use Rattle.encoding.specs.Reading.{got}
 use Rattle.encoding.specs.Scans.{mapReading}
 use Rattle.encoding.specs.Tables.{nameBytes}
@@ -84,21 +85,8 @@ pieces-below t q (unchanged e) = unchanged e
 
 -- what stands behind wrappers is no deeper
 expand-deep : (t : Ty ℕ) → depth (Expand t) ≤ depth t
-unfolding Expand depth
-expand-deep (Primitive x) = omega arith
-expand-deep (TIdentifier x) = omega arith
-expand-deep (TypeFromPath p) = omega arith
-expand-deep (TypeApp b ts) = omega arith
-expand-deep (Borrowed t) = omega arith
-expand-deep (BorrowedMut t) = omega arith
-expand-deep (ImplType t) = omega arith
-expand-deep (DynType t) = omega arith
-expand-deep (TupleType ts) = omega arith
-expand-deep (FnType ts t) = omega arith
-expand-deep (IntersectionType l r) = omega arith
-expand-deep (Array t s) = omega arith
-expand-deep (TSynonym d b) = let h = expand-deep b in omega (arith, h)
-expand-deep (TMetaData d c o) = let h = expand-deep d in omega (arith, h)
+unfolding depth
+expand-deep = expand-by (λ t u. depth u ≤ depth t) (λ t h. omega arith) (λ d b u h. omega (arith, h)) (λ d u c o h. omega (arith, h))
 
 -- so its argument is less deep
 argument-deep : (t : Ty ℕ) (p : Path ℕ) (a : Ty ℕ) → 0 < depth a → Expand t ≡ TypeApp (TypeFromPath p) (cons a nil) → 1 + depth a ≤ depth t
