@@ -185,6 +185,7 @@ pub const END: usize = 2;
 
 const LINK: usize = 3;
 
+// A parameter is known to fit its type, an element of a lent array is not.
 fn wide(value: u16) -> usize
     ensures { λ r. ⌜ r ≡ value ⌝ }
 {
