@@ -5,11 +5,13 @@ use mathlib.Core.List.{List, _++_}
 use native.Mathlib.Omega.{arith}
 use lib.ListN.{length, length-append}
 use Rattle.rast.specs.Bytes.{Bytes}
+use Rattle.rast.specs.Tree.{Ty}
+use Rattle.rast.specs.ToString.{Type·ToString}
 use Rattle.output.specs.Wrote.{Wrote}
 use Rattle.output.proofs.Laws.{wrote-as, room-after}
 use Rattle.encoding.specs.Reading.{Reading, got}
 use Rattle.writing.specs.declared.Spot.{Spot}
-use Rattle.writing.specs.Written.{Room, Written}
+use Rattle.writing.specs.Written.{Room, Written, Front}
 
 -- the room for a text, said in another way
 pub room-as : {A : Type 0} {o : List ℕ} {p : ℕ} {text : A → Bytes} {x : Reading A} (r : Room o p text x) (b : Bytes) → text (r .value) ≡ b → p + length b ≤ length o
@@ -54,3 +56,18 @@ written-at {text = text} {a = a} w e =
 pub done : {A : Type 0} {o o′ : List ℕ} {p : ℕ} {text : A → Bytes} {x : Reading A} {s : Spot} {b : Bytes} (r : Room o p text x)
     → s .next ≡ r .end → text (r .value) ≡ b → Wrote o p b o′ (s .pos) → Written o p text x o′ s
 done r e d w = record { value = r .value; reads = r .reads ∙ ap (got (r .value)) (sym e); wrote = wrote-as (sym d) w }
+
+-- all but the type that ends it, from its pieces
+pub front-done : {again : ℕ → Reading (Ty Bytes)} {from : ℕ} {o o′ : List ℕ} {p : ℕ} {x : Reading (Ty Bytes)} {s : Spot} {last : Ty Bytes} {b : Bytes} (r : Room o p Type·ToString x)
+    → again (s .next) ≡ got last (r .end) → from ≤ s .next → Type·ToString (r .value) ≡ b ++ Type·ToString last → Wrote o p b o′ (s .pos) → Front again from o p x o′ s
+front-done {last = last} {b = b} r e a d w = record {
+  value = r .value;
+  last = last;
+  end = r .end;
+  front = b;
+  reads = r .reads;
+  rest = e;
+  ahead = a;
+  wrote = w;
+  splits = d;
+}

@@ -19,7 +19,7 @@ use Rattle.encoding.proofs.Types.{Made, Made₂, made-got, made₂-got, type-li
 use Rattle.writing.specs.declared.Spot.{Spot}
 use Rattle.leaves.specs.Texts.{endText}
 use Rattle.writing.specs.Written.{Readable, EndsAt, Room, Written, Front, nodeAt}
-use Rattle.writing.proofs.Laws.{room-first, room-next, written-at, done}
+use Rattle.writing.proofs.Laws.{room-first, room-next, written-at, done, front-done}
 use Rattle.writing.proofs.Accepted.{type-here}
 use Rattle.writing.proofs.Skipping.{types-fit, first-of}
 
@@ -177,17 +177,9 @@ module _ {ws pairs : List ℕ} {text : Bytes} {o : List ℕ} {p : ℕ} where
 
       pub inputs-none : n ≡ 0 → {o₂ : List ℕ} {p₂ : ℕ} → Wrote o₁ p₁ (ascii ") -> ") o₂ p₂
           → Front (typeAt ws pairs text) at o p (nodeAt ws pairs text (Function n) at) o₂ (record { next = at; pos = p₂ })
-      inputs-none z w = record {
-        value = r .there .value;
-        last = inputs-parts .right;
-        end = r .there .end;
-        front = ascii "::std::ops::Fn(" ++ ascii ") -> ";
-        reads = r .there .reads;
-        rest = ap (typeAt ws pairs text) (arguments-none (typeAt ws pairs text) n at z (inputs-parts .reads) .2) ∙ inputs-parts .reads₂;
-        ahead = omega arith;
-        wrote = wrote-then fn w;
-        splits = inputs-none-text z ∙ sym (append-assoc (ascii "::std::ops::Fn(") (ascii ") -> ") (Type·ToString (inputs-parts .right)));
-      }
+      inputs-none z w =
+          front-done (r .there) (ap (typeAt ws pairs text) (arguments-none (typeAt ws pairs text) n at z (inputs-parts .reads) .2) ∙ inputs-parts .reads₂) (omega arith)
+          (inputs-none-text z ∙ sym (append-assoc (ascii "::std::ops::Fn(") (ascii ") -> ") (Type·ToString (inputs-parts .right)))) (wrote-then fn w)
 
       pub inputs-list : Room o₁ p₁ commaText (readTypes (typeAt ws pairs text) n at)
       inputs-list = room-next (Type·ToString (r .there .value)) (ascii ") -> " ++ Type·ToString (inputs-parts .right)) (r .there .room) fn (inputs-parts .reads) inputs-text
@@ -206,17 +198,7 @@ module _ {ws pairs : List ℕ} {text : Bytes} {o : List ℕ} {p : ℕ} where
         inputs-done w =
             let b = written-at list (inputs-parts .reads) in
             let l = types-fit ws pairs text n at inputs-within (record { types = inputs-parts .left; reads = inputs-parts .reads }) in
-            record {
-              value = r .there .value;
-              last = inputs-parts .right;
-              end = r .there .end;
-              front = ascii "::std::ops::Fn(" ++ commaText (inputs-parts .left) ++ ascii ") -> ";
-              reads = r .there .reads;
-              rest = ap (typeAt ws pairs text) (b .next) ∙ inputs-parts .reads₂;
-              ahead = omega (arith, b .next, l .0);
-              wrote = wrote-then inputs-written w;
-              splits = inputs-text ∙ simp append-assoc;
-            }
+            front-done (r .there) (ap (typeAt ws pairs text) (b .next) ∙ inputs-parts .reads₂) (omega (arith, b .next, l .0)) (inputs-text ∙ simp append-assoc) (wrote-then inputs-written w)
 
   -- ---- an intersection, up to its right side
 
@@ -241,17 +223,8 @@ module _ {ws pairs : List ℕ} {text : Bytes} {o : List ℕ} {p : ℕ} where
       left-done w =
           let b = written-at left (left-parts .reads) in
           let l = type-lies ws pairs text at (omega (arith, type-here ws pairs text at (left-parts .reads))) (left-parts .reads) in
-          record {
-            value = r .there .value;
-            last = left-parts .right;
-            end = r .there .end;
-            front = Type·ToString (left-parts .left) ++ ascii " + ";
-            reads = r .there .reads;
-            rest = ap (typeAt ws pairs text) (b .next) ∙ left-parts .reads₂;
-            ahead = omega (arith, b .next, l .starts);
-            wrote = wrote-then (b .wrote) w;
-            splits = left-text ∙ sym (append-assoc (Type·ToString (left-parts .left)) (ascii " + ") (Type·ToString (left-parts .right)));
-          }
+          front-done (r .there) (ap (typeAt ws pairs text) (b .next) ∙ left-parts .reads₂) (omega (arith, b .next, l .starts))
+          (left-text ∙ sym (append-assoc (Type·ToString (left-parts .left)) (ascii " + ") (Type·ToString (left-parts .right)))) (wrote-then (b .wrote) w)
 
   -- ---- an array
 
