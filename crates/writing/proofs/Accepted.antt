@@ -18,7 +18,7 @@ use Rattle.encoding.specs.Types.{primitives, pathOf, readNode, readType, typeAt
 use Rattle.encoding.proofs.Tables.{impossible}
 use Rattle.encoding.proofs.Heads.{head-at, head-plain, head-other, past-six}
 use Rattle.encoding.proofs.Inside.{word-there, below-there, head-lies, path-lies, path-end}
-use Rattle.encoding.proofs.Types.{bind-got, node-of}
+use Rattle.encoding.proofs.Types.{bind-got, node-of, type-lies}
 use Rattle.writing.specs.Written.{nodeAt}
 
 got-same : {A : Type 0} {a b : A} {m n : ℕ} → got a m ≡ got b n → (a ≡ b) × (m ≡ n)
@@ -48,6 +48,9 @@ module _ (ws pairs : List ℕ) (text : Bytes) (at : ℕ) {t : Ty Bytes} {n : ℕ
 
   pub type-here : at < length ws
   type-here = headed .here
+
+  pub type-ahead : at < n
+  type-ahead = type-lies ws pairs text at (omega (arith, type-here)) e .starts
 
   -- a head without own words
   pub by-kind : (h : Head) → headAfter (nameCount pairs) ws (getD ws at 0) (at + 1) ≡ got h (at + 1) → nodeAt ws pairs text h (at + 1) ≡ got t n

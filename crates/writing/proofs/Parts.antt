@@ -15,12 +15,12 @@ use Rattle.encoding.specs.declared.Head.the-variants.{Apply, Tuple, Function, B
 use Rattle.encoding.specs.Tables.{nameBytes}
 use Rattle.encoding.specs.Reading.{Reading, got}
 use Rattle.encoding.specs.Types.{sizeOf, readTypes, readNode, typeAt}
-use Rattle.encoding.proofs.Types.{Made, Made₂, made-got, made₂-got, type-lies}
+use Rattle.encoding.proofs.Types.{Made, Made₂, made-got, made₂-got}
 use Rattle.writing.specs.declared.Spot.{Spot}
 use Rattle.leaves.specs.Texts.{endText}
 use Rattle.writing.specs.Written.{Readable, EndsAt, Room, Written, Front, nodeAt}
 use Rattle.writing.proofs.Laws.{room-first, written-at, done, room-between, wrote-between, close-room, close-done, front-done}
-use Rattle.writing.proofs.Accepted.{type-here}
+use Rattle.writing.proofs.Accepted.{type-here, type-ahead}
 use Rattle.writing.proofs.Skipping.{types-fit, none-of, first-of}
 
 -- the texts of lists
@@ -66,7 +66,7 @@ module _ {ws pairs : List ℕ} {text : Bytes} {o : List ℕ} {p : ℕ} where
           done (r .there) (b .next ∙ e .2) (apply-text ∙ ap (λ (x : Bytes). Type·ToString (apply-parts .left) ++ x) (e .0) ∙ append-nil _) (b .wrote)
 
       pub apply-later : at < s .next
-      apply-later = type-lies ws pairs text at (omega (arith, type-here ws pairs text at (base .reads))) (base .reads) .starts
+      apply-later = type-ahead ws pairs text at (base .reads)
 
       module _ (z : n ≡ 0 → ⊥) where
         apply-whole : Type·ToString (r .there .value) ≡ Type·ToString (apply-parts .left) ++ (ascii "<" ++ (commaText (apply-parts .right) ++ ascii ">"))
@@ -208,8 +208,7 @@ module _ {ws pairs : List ℕ} {text : Bytes} {o : List ℕ} {p : ℕ} where
           → Front (typeAt ws pairs text) at o p (nodeAt ws pairs text Both at) o₂ (record { next = s .next; pos = p₂ })
       left-done w =
           let b = written-at left (left-parts .reads) in
-          let l = type-lies ws pairs text at (omega (arith, type-here ws pairs text at (left-parts .reads))) (left-parts .reads) in
-          front-done (r .there) (ap (typeAt ws pairs text) (b .next) ∙ left-parts .reads₂) (omega (arith, b .next, l .starts))
+          front-done (r .there) (ap (typeAt ws pairs text) (b .next) ∙ left-parts .reads₂) (omega (arith, b .next, type-ahead ws pairs text at (left-parts .reads)))
           (left-text ∙ sym (append-assoc (Type·ToString (left-parts .left)) (ascii " + ") (Type·ToString (left-parts .right)))) (wrote-then (b .wrote) w)
 
   -- ---- an array

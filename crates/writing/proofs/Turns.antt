@@ -12,13 +12,13 @@ use Rattle.output.proofs.Laws.{wrote-nothing, wrote-then, wrote-as, room-after,
 use Rattle.encoding.specs.Reading.{Reading, got}
 use Rattle.encoding.specs.Types.{readTypes, typeAt}
 use Rattle.encoding.proofs.Tables.{impossible}
-use Rattle.encoding.proofs.Types.{Made₂, type-lies}
+use Rattle.encoding.proofs.Types.{Made₂}
 use Rattle.writing.specs.declared.Spot.{Spot}
 use Rattle.writing.specs.declared.Part.{Part}
 use Rattle.writing.specs.declared.Part.the-variants.{Rest, Done}
 use Rattle.writing.specs.Written.{Room, Written, Front, PartWritten, front, whole}
 use Rattle.writing.proofs.Laws.{room-next, written-at}
-use Rattle.writing.proofs.Accepted.{type-here}
+use Rattle.writing.proofs.Accepted.{type-here, type-ahead}
 use Rattle.writing.proofs.Skipping.{none-of, first-of}
 
 -- ---- the answers of one turn
@@ -196,7 +196,6 @@ module _ {ws pairs : List ℕ} {text : Bytes} {n at : ℕ} {o : List ℕ} {p : �
       pub list-again : {o₃ : List ℕ} {p₃ : ℕ} → Wrote o₂ (s .pos) (ascii ", ") o₃ p₃ → ListLeft ws pairs text n at o p o₃ p₃ (left - 1) (s .next)
       list-again c =
           let b = written-at w (item .reads) in
-          let t = type-lies ws pairs text place (omega (arith, item-here)) (item .reads) in
           record {
             all = l .all;
             types = item .right;
@@ -208,5 +207,5 @@ module _ {ws pairs : List ℕ} {text : Bytes} {n at : ℕ} {o : List ℕ} {p : �
             splits = more-text ∙ sym (append-assoc (l .front ++ Type·ToString (item .left)) (ascii ", ") (commaText (item .right)));
             room = l .room;
             some = h;
-            ahead = omega (arith, l .ahead, b .next, t .starts);
+            ahead = omega (arith, l .ahead, b .next, type-ahead ws pairs text place (item .reads));
           }
