@@ -1,11 +1,11 @@
 use native.Mathlib.Omega.{arith}
 use Prim.Native.Nat.{_+_}
-use mathlib.Core.Path.{refl, ap, sym, _∙_}
+use mathlib.Core.Path.{refl, sym, _∙_}
 use Rattle.encoding.specs.declared.Head.the-variants.{ArrayOf}
 use Rattle.encoding.specs.Reading.{readBelow}
-use Rattle.encoding.proofs.Reading.{word-got, word-stop}
+use Rattle.encoding.proofs.Reading.{word-got}
 use Rattle.encoding.proofs.Inside.{below-there}
-use Rattle.measure.specs.Lengths.{worded}
+use Rattle.measure.proofs.Scans.{worded-got, worded-stop}
 use Rattle.soundness.proofs.Scans.{scanned-array, unsound-array, scanned-stop}
 use borrow.Author.Needs.{needs}
 use Rattle.soundness.proofs.own_array.Statement.{statement}
@@ -32,8 +32,8 @@ own-node-requires c κs = search needs
 returns : tie.Need-returns
 returns c =
     let a = c .before .before .before .before .before .before .before .before .before .before .before .args in
-    let e = word-got (readBelow (a .bound + 1) (a .words .now) (a .at)) (c .before .before .before .before .before .before .before .scan-below .ensures) (c .before .before .before .before .before .value .given .1) in
-    (scanned-array (a .words .now) (a .pairs .now) (a .text .now) (a .ask) _ (ap (worded ArrayOf) e) (c .own-node .ensures) (sym (c .before .before .size-fits .ensures .0) ∙ c .before .if1 .taken), c .before .before .size-fits .ensures .1)
+    let e = worded-got ArrayOf (readBelow (a .bound + 1) (a .words .now) (a .at)) (c .before .before .before .before .before .before .before .scan-below .ensures) (c .before .before .before .before .before .value .given .1) in
+    (scanned-array (a .words .now) (a .pairs .now) (a .text .now) (a .ask) _ e (c .own-node .ensures) (sym (c .before .before .size-fits .ensures .0) ∙ c .before .if1 .taken), c .before .before .size-fits .ensures .1)
 
 enum-known-r : tie.Need-enum-known-r
 enum-known-r c = search needs
@@ -41,13 +41,13 @@ enum-known-r c = search needs
 returns-2 : tie.Need-returns-2
 returns-2 c =
     let a = c .before .before .before .before .before .before .before .before .before .before .args in
-    let e = word-got (readBelow (a .bound + 1) (a .words .now) (a .at)) (c .before .before .before .before .before .before .scan-below .ensures) (c .before .before .before .before .value .given .1) in
-    (unsound-array (a .words .now) (a .pairs .now) (a .text .now) (a .ask) _ (ap (worded ArrayOf) e) refl (sym (c .before .size-fits .ensures .0) ∙ c .if1 .left), c .before .size-fits .ensures .1)
+    let e = worded-got ArrayOf (readBelow (a .bound + 1) (a .words .now) (a .at)) (c .before .before .before .before .before .before .scan-below .ensures) (c .before .before .before .before .value .given .1) in
+    (unsound-array (a .words .now) (a .pairs .now) (a .text .now) (a .ask) _ e refl (sym (c .before .size-fits .ensures .0) ∙ c .if1 .left), c .before .size-fits .ensures .1)
 
 returns-3 : tie.Need-returns-3
 returns-3 c =
     let a = c .before .before .before .before .before .before .before .args in
-    (scanned-stop (a .words .now) (a .pairs .now) (a .text .now) (a .ask) (ap (worded ArrayOf) (word-stop (readBelow (a .bound + 1) (a .words .now) (a .at)) (c .before .before .before .scan-below .ensures) (c .before .r .given .1))) refl, c .before .before .before .before .before .before .before .pre .2)
+    (scanned-stop (a .words .now) (a .pairs .now) (a .text .now) (a .ask) (worded-stop ArrayOf (readBelow (a .bound + 1) (a .words .now) (a .at)) (c .before .before .before .scan-below .ensures) (c .before .r .given .1)) refl, c .before .before .before .before .before .before .before .pre .2)
 
 pub own-array-spec : {M : Type 1} → statement M
 own-array-spec =
