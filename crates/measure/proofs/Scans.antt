@@ -14,6 +14,7 @@ use Rattle.encoding.specs.declared.PathAt.{PathAt}
 use Rattle.encoding.specs.Heads.{readPath}
 use Rattle.encoding.specs.HeadWords.{kids}
 use Rattle.encoding.proofs.Reading.{word-got, word-stop}
+use Rattle.encoding.proofs.Inside.{Next, below-there}
 use Rattle.encoding.proofs.Tables.{impossible}
 use Rattle.measure.specs.declared.PathMeasure.{PathMeasure}
 use Rattle.measure.specs.declared.PathMeasure.the-variants.{MeasuredPath, NoPath}
@@ -61,6 +62,10 @@ counted-more {k} {n} (many h l) = let f : 8192 ≤ k + 1 = omega arith in let g 
 pub counted-some : {k n : ℕ} → Counted k n → 0 < n → 0 < k
 counted-some (exact e) h = omega arith
 counted-some (many k l) h = omega arith
+
+-- a word below a bound, from the answer about it
+pub below-got : (b : ℕ) (ws : List ℕ) (at : ℕ) {r : WordScan} {w n : ℕ} → r ≡ wordScan (readBelow b ws at) → r ≡ Word w n → Next b ws at w n
+below-got b ws at e d = below-there b ws at (word-got (readBelow b ws at) e d)
 
 -- a head with one own word, from the answer about the word
 module _ (f : ℕ → Head) (x : Reading ℕ) {r : WordScan} (e : r ≡ wordScan x) where

@@ -1,10 +1,8 @@
 use mathlib.Core.Path.{refl}
 use Rattle.encoding.specs.declared.Head.the-variants.{ArrayOf}
 use Rattle.encoding.specs.Reading.{readBelow}
-use Rattle.encoding.proofs.Reading.{word-got}
 use Rattle.measure.specs.Lengths.{ownLength}
-use Rattle.encoding.proofs.Inside.{below-there}
-use Rattle.measure.proofs.Scans.{worded-got, worded-stop, scanned-node, scanned-stop}
+use Rattle.measure.proofs.Scans.{below-got, worded-got, worded-stop, scanned-node, scanned-stop}
 use Prim.Native.Nat.{_+_}
 use native.Mathlib.Omega.{arith}
 use borrow.Author.Needs.{needs}
@@ -24,8 +22,7 @@ array-length-requires : tie.Need-array-length-requires
 array-length-requires c κs =
     let s = c .before .before .before .before .before .before in
     let a = s .args in
-    let e = word-got (readBelow (a .bound + 1) (a .words .now) (a .at)) (c .before .before .before .scan-below .ensures) (c .before .value .given .1) in
-    omega (arith, s .pre, below-there (a .bound + 1) (a .words .now) (a .at) e .below)
+    omega (arith, s .pre, below-got (a .bound + 1) (a .words .now) (a .at) (c .before .before .before .scan-below .ensures) (c .before .value .given .1) .below)
 
 own-node-requires : tie.Need-own-node-requires
 own-node-requires c κs = search needs

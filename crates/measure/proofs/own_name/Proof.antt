@@ -1,10 +1,8 @@
 use mathlib.Core.Path.{refl}
 use Rattle.encoding.specs.declared.Head.the-variants.{Name}
 use Rattle.encoding.specs.Reading.{readBelow}
-use Rattle.encoding.proofs.Reading.{word-got}
 use Rattle.measure.specs.Lengths.{ownLength}
-use Rattle.encoding.proofs.Inside.{below-there}
-use Rattle.measure.proofs.Scans.{worded-got, worded-stop, scanned-leaf, scanned-stop}
+use Rattle.measure.proofs.Scans.{below-got, worded-got, worded-stop, scanned-leaf, scanned-stop}
 use Rattle.measure.proofs.Lengths.{name-fits}
 use native.Mathlib.Omega.{arith}
 use borrow.Author.Needs.{needs}
@@ -21,8 +19,7 @@ name-length-requires : tie.Need-name-length-requires
 name-length-requires c κs =
     let s = c .before .before .before .before .before .before in
     let a = s .args in
-    let e = word-got (readBelow (a .bound) (a .words .now) (a .at)) (c .before .before .before .scan-below .ensures) (c .before .value .given .1) in
-    omega (arith, s .pre, below-there (a .bound) (a .words .now) (a .at) e .below)
+    omega (arith, s .pre, below-got (a .bound) (a .words .now) (a .at) (c .before .before .before .scan-below .ensures) (c .before .value .given .1) .below)
 
 own-leaf-requires : tie.Need-own-leaf-requires
 own-leaf-requires c κs = search needs

@@ -3,9 +3,7 @@ use Prim.Native.Nat.{_+_}
 use mathlib.Core.Path.{refl, sym, _∙_}
 use Rattle.encoding.specs.declared.Head.the-variants.{ArrayOf}
 use Rattle.encoding.specs.Reading.{readBelow}
-use Rattle.encoding.proofs.Reading.{word-got}
-use Rattle.encoding.proofs.Inside.{below-there}
-use Rattle.measure.proofs.Scans.{worded-got, worded-stop}
+use Rattle.measure.proofs.Scans.{below-got, worded-got, worded-stop}
 use Rattle.soundness.proofs.Scans.{scanned-array, unsound-array, scanned-stop}
 use borrow.Author.Needs.{needs}
 use Rattle.soundness.proofs.own_array.Statement.{statement}
@@ -23,8 +21,7 @@ enum-known-value c = search needs
 size-fits-requires : tie.Need-size-fits-requires
 size-fits-requires c κs =
     let a = c .before .before .before .before .before .before .before .before .args in
-    let e = word-got (readBelow (a .bound + 1) (a .words .now) (a .at)) (c .before .before .before .before .scan-below .ensures) (c .before .before .value .given .1) in
-    (omega (arith, c .before .before .before .before .before .before .before .before .pre .0, below-there (a .bound + 1) (a .words .now) (a .at) e .below), c .before .before .before .before .before .before .before .before .pre .1, c .before .before .before .before .before .before .before .before .pre .2)
+    (omega (arith, c .before .before .before .before .before .before .before .before .pre .0, below-got (a .bound + 1) (a .words .now) (a .at) (c .before .before .before .before .scan-below .ensures) (c .before .before .value .given .1) .below), c .before .before .before .before .before .before .before .before .pre .1, c .before .before .before .before .before .before .before .before .pre .2)
 
 own-node-requires : tie.Need-own-node-requires
 own-node-requires c κs = search needs
