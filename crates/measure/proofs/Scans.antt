@@ -1,21 +1,26 @@
 -- From the reading of a head or a path to the code's answer.
 use Prim.Native.Nat.{ℕ, _+_, _^_, _≤_, _<_}
-use mathlib.Core.Path.{_≡_}
+use mathlib.Core.Path.{_≡_, ap}
 use mathlib.Core.List.{List}
 use native.Mathlib.Omega.{arith}
 use Rattle.encoding.specs.declared.Refusal.{Refusal}
+use Rattle.encoding.specs.declared.WordScan.{WordScan}
+use Rattle.encoding.specs.declared.WordScan.the-variants.{Word, NoWord}
 use Rattle.encoding.specs.declared.Head.{Head}
 use Rattle.encoding.specs.Reading.{Reading, got, stop, readWord, readBelow}
+use Rattle.encoding.specs.Scans.{wordScan}
 use Rattle.encoding.specs.Tested.{nameLength}
 use Rattle.encoding.specs.declared.PathAt.{PathAt}
 use Rattle.encoding.specs.Heads.{readPath}
 use Rattle.encoding.specs.HeadWords.{kids}
+use Rattle.encoding.proofs.Reading.{word-got, word-stop}
+use Rattle.encoding.proofs.Inside.{Next, below-there}
 use Rattle.encoding.proofs.Tables.{impossible}
 use Rattle.measure.specs.declared.PathMeasure.{PathMeasure}
 use Rattle.measure.specs.declared.PathMeasure.the-variants.{MeasuredPath, NoPath}
 use Rattle.measure.specs.declared.OwnScan.{OwnScan}
 use Rattle.measure.specs.declared.OwnScan.the-variants.{Leaf, Node, NoNode}
-use Rattle.measure.specs.Lengths.{pathLength, ownLength, modeOf, namesPath, Counted, exact, many, PathScanned, read, unread, Scanned, leaf, node, none}
+use Rattle.measure.specs.Lengths.{pathLength, ownLength, modeOf, worded, namesPath, Counted, exact, many, PathScanned, read, unread, Scanned, leaf, node, none}
 
 -- a path, behind its root and its count
 pub path-names : (bound : ℕ) (ws : List ℕ) (at : ℕ) {root p n q : ℕ} → readBelow 3 ws at ≡ got root p → readWord ws p ≡ got n q
@@ -57,6 +62,22 @@ counted-more {k} {n} (many h l) = let f : 8192 ≤ k + 1 = omega arith in let g 
 pub counted-some : {k n : ℕ} → Counted k n → 0 < n → 0 < k
 counted-some (exact e) h = omega arith
 counted-some (many k l) h = omega arith
+
+-- a word below a bound, from the answer about it
+pub below-got : (b : ℕ) (ws : List ℕ) (at : ℕ) {r : WordScan} {w n : ℕ} → r ≡ wordScan (readBelow b ws at) → r ≡ Word w n → Next b ws at w n
+below-got b ws at e d = below-there b ws at (word-got (readBelow b ws at) e d)
+
+-- a head with one own word, from the answer about the word
+module _ (f : ℕ → Head) (x : Reading ℕ) {r : WordScan} (e : r ≡ wordScan x) where
+  pub worded-got : {w n : ℕ} → r ≡ Word w n → worded f x ≡ got (f w) n
+  worded-got d = ap (worded f) (word-got x e d)
+
+  pub worded-stop : {k : Refusal} → r ≡ NoWord k → worded f x ≡ stop k
+  worded-stop d = ap (worded f) (word-stop x e d)
+
+  -- and if it is 0
+  pub worded-none : {w n : ℕ} → r ≡ Word w n → w ≡ 0 → worded f x ≡ got (f 0) n
+  worded-none d z = rw z at (worded-got d)
 
 module _ (ws pairs : List ℕ) {x : Reading Head} where
   pub scanned-leaf : (h : Head) {r : OwnScan} {n b : ℕ} → x ≡ got h n → r ≡ Leaf n b

@@ -18,7 +18,7 @@ use Rattle.encoding.specs.Types.{primitives, pathOf, readNode, readType, typeAt
 use Rattle.encoding.proofs.Tables.{impossible}
 use Rattle.encoding.proofs.Heads.{head-at, head-plain, head-other, past-six}
 use Rattle.encoding.proofs.Inside.{word-there, below-there, head-lies, path-lies, path-end}
-use Rattle.encoding.proofs.Types.{bind-got, node-of}
+use Rattle.encoding.proofs.Types.{bind-got, node-of, type-lies}
 use Rattle.writing.specs.Written.{nodeAt}
 
 got-same : {A : Type 0} {a b : A} {m n : ℕ} → got a m ≡ got b n → (a ≡ b) × (m ≡ n)
@@ -49,6 +49,9 @@ module _ (ws pairs : List ℕ) (text : Bytes) (at : ℕ) {t : Ty Bytes} {n : ℕ
   pub type-here : at < length ws
   type-here = headed .here
 
+  pub type-ahead : at < n
+  type-ahead = type-lies ws pairs text at (omega (arith, type-here)) e .starts
+
   -- a head without own words
   pub by-kind : (h : Head) → headAfter (nameCount pairs) ws (getD ws at 0) (at + 1) ≡ got h (at + 1) → nodeAt ws pairs text h (at + 1) ≡ got t n
   by-kind h k =
@@ -57,27 +60,28 @@ module _ (ws pairs : List ℕ) (text : Bytes) (at : ℕ) {t : Ty Bytes} {n : ℕ
       let o : at + 1 ≡ d .own = cc (d .reads) in
       rw (i, o) (d .node)
 
-  -- a head with one own word
+  -- a head with one own word that a reader gives as it stands there
+  by-own : {v q : ℕ} (f : ℕ → Head) (d : Headed) → got (f v) q ≡ got (d .head) (d .own) → v ≡ getD ws (at + 1) 0 → q ≡ at + 1 + 1
+      → nodeAt ws pairs text (f (getD ws (at + 1) 0)) (at + 2) ≡ got t n
+  by-own f d e same next =
+      let i : f (getD ws (at + 1) 0) ≡ d .head = cc in
+      let o : at + 2 ≡ d .own = (let z : at + 2 ≡ at + 1 + 1 = omega arith in cc) in
+      rw (i, o) (d .node)
+
   pub by-word : (f : ℕ → Head) → headAfter (nameCount pairs) ws (getD ws at 0) (at + 1) ≡ (readWord ws (at + 1) >>= λ v q. got (f v) q)
       → (at + 1 < length ws) × (nodeAt ws pairs text (f (getD ws (at + 1) 0)) (at + 2) ≡ got t n)
   by-word f k =
-      let d = headed in
-      let r = bind-got (readWord ws (at + 1)) _ (sym k ∙ d .reads) in
+      let r = bind-got (readWord ws (at + 1)) _ (sym k ∙ headed .reads) in
       let w = word-there ws (at + 1) (r .first) in
-      let i : f (getD ws (at + 1) 0) ≡ d .head = cc (r .rest, w .same) in
-      let o : at + 2 ≡ d .own = (let z : at + 2 ≡ at + 1 + 1 = omega arith in cc (r .rest, w .next)) in
-      (w .here, rw (i, o) (d .node))
+      (w .here, by-own f headed (r .rest) (w .same) (w .next))
 
   -- and one that is below a bound
   pub by-below : (b : ℕ) (f : ℕ → Head) → headAfter (nameCount pairs) ws (getD ws at 0) (at + 1) ≡ (readBelow b ws (at + 1) >>= λ v q. got (f v) q)
       → (at + 1 < length ws) × (getD ws (at + 1) 0 < b) × (nodeAt ws pairs text (f (getD ws (at + 1) 0)) (at + 2) ≡ got t n)
   by-below b f k =
-      let d = headed in
-      let r = bind-got (readBelow b ws (at + 1)) _ (sym k ∙ d .reads) in
+      let r = bind-got (readBelow b ws (at + 1)) _ (sym k ∙ headed .reads) in
       let w = below-there b ws (at + 1) (r .first) in
-      let i : f (getD ws (at + 1) 0) ≡ d .head = cc (r .rest, w .same) in
-      let o : at + 2 ≡ d .own = (let z : at + 2 ≡ at + 1 + 1 = omega arith in cc (r .rest, w .next)) in
-      (w .here, rw (w .same) at (w .below), rw (i, o) (d .node))
+      (w .here, rw (w .same) at (w .below), by-own f headed (r .rest) (w .same) (w .next))
 
   pub plain-type : getD ws at 0 < 12 → (t ≡ Primitive (getD primitives (getD ws at 0) U8)) × (n ≡ at + 1)
   unfolding readNode

@@ -1,15 +1,17 @@
 -- Laws of what is written of an accepted type, part by part.
 use Prim.Native.Nat.{ℕ, _+_, _≤_}
 use mathlib.Core.Path.{_≡_, ap, sym, _∙_, subst}
-use mathlib.Core.List.{List, _++_}
+use mathlib.Core.List.{List, _++_, append-assoc}
 use native.Mathlib.Omega.{arith}
 use lib.ListN.{length, length-append}
 use Rattle.rast.specs.Bytes.{Bytes}
+use Rattle.rast.specs.Tree.{Ty}
+use Rattle.rast.specs.ToString.{Type·ToString}
 use Rattle.output.specs.Wrote.{Wrote}
-use Rattle.output.proofs.Laws.{wrote-as, room-after}
+use Rattle.output.proofs.Laws.{wrote-then, wrote-as, room-after, room-last}
 use Rattle.encoding.specs.Reading.{Reading, got}
 use Rattle.writing.specs.declared.Spot.{Spot}
-use Rattle.writing.specs.Written.{Room, Written}
+use Rattle.writing.specs.Written.{Room, Written, Front}
 
 -- the room for a text, said in another way
 pub room-as : {A : Type 0} {o : List ℕ} {p : ℕ} {text : A → Bytes} {x : Reading A} (r : Room o p text x) (b : Bytes) → text (r .value) ≡ b → p + length b ≤ length o
@@ -54,3 +56,37 @@ written-at {text = text} {a = a} w e =
 pub done : {A : Type 0} {o o′ : List ℕ} {p : ℕ} {text : A → Bytes} {x : Reading A} {s : Spot} {b : Bytes} (r : Room o p text x)
     → s .next ≡ r .end → text (r .value) ≡ b → Wrote o p b o′ (s .pos) → Written o p text x o′ s
 done r e d w = record { value = r .value; reads = r .reads ∙ ap (got (r .value)) (sym e); wrote = wrote-as (sym d) w }
+
+-- a part between `opening`, which is written, and `closing`
+module _ {A B : Type 0} {o : List ℕ} {p : ℕ} {whole : A → Bytes} {y : Reading A} (r : Room o p whole y) {text : B → Bytes} {x : Reading B} {b : B} {m : ℕ} (reads : x ≡ got b m)
+    (opening closing : Bytes) (splits : whole (r .value) ≡ opening ++ (text b ++ closing)) {o₁ : List ℕ} {p₁ : ℕ} (w : Wrote o p opening o₁ p₁) where
+  pub room-between : Room o₁ p₁ text x
+  room-between = room-next (whole (r .value)) closing (r .room) w reads splits
+
+  module _ {o₂ : List ℕ} {s : Spot} (part : Written o₁ p₁ text x o₂ s) where
+    pub wrote-between : Wrote o p (opening ++ text b) o₂ (s .pos)
+    wrote-between = wrote-then w (written-at part reads .wrote)
+
+    splits-last : whole (r .value) ≡ opening ++ text b ++ closing
+    splits-last = splits ∙ sym (append-assoc opening (text b) closing)
+
+    pub close-room : s .pos + length closing ≤ length o₂
+    close-room = room-last closing (r .room) wrote-between splits-last
+
+    pub close-done : m ≡ r .end → {o₃ : List ℕ} {p₃ : ℕ} → Wrote o₂ (s .pos) closing o₃ p₃ → Written o p whole y o₃ (record { next = s .next; pos = p₃ })
+    close-done e v = done r (written-at part reads .next ∙ e) splits-last (wrote-then wrote-between v)
+
+-- all but the type that ends it, from its pieces
+pub front-done : {again : ℕ → Reading (Ty Bytes)} {from : ℕ} {o o′ : List ℕ} {p : ℕ} {x : Reading (Ty Bytes)} {s : Spot} {last : Ty Bytes} {b : Bytes} (r : Room o p Type·ToString x)
+    → again (s .next) ≡ got last (r .end) → from ≤ s .next → Type·ToString (r .value) ≡ b ++ Type·ToString last → Wrote o p b o′ (s .pos) → Front again from o p x o′ s
+front-done {last = last} {b = b} r e a d w = record {
+  value = r .value;
+  last = last;
+  end = r .end;
+  front = b;
+  reads = r .reads;
+  rest = e;
+  ahead = a;
+  wrote = w;
+  splits = d;
+}

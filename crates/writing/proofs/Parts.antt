@@ -6,30 +6,27 @@ use native.Mathlib.Omega.{arith}
 use native.Mathlib.Decide.{ℕ-discrete}
 use lib.ListN.{length}
 use Rattle.rast.specs.Bytes.{Bytes, ascii}
-use Rattle.rast.specs.Tree.{Ty, Tys, TypeApp, TupleType, FnType, IntersectionType, Array, TSynonym, nil, cons}
+use Rattle.rast.specs.Tree.{Ty, Tys, TypeApp, TupleType, FnType, IntersectionType, Array, TSynonym, cons}
 use Rattle.rast.specs.ToString.{Type·ToString, argumentsText, commaText, afterText}
 use Rattle.output.specs.Wrote.{Wrote}
-use Rattle.output.proofs.Laws.{wrote-nothing, wrote-then, room-after, room-last}
+use Rattle.output.proofs.Laws.{wrote-nothing, wrote-then, room-after}
 use Rattle.encoding.specs.declared.Head.{Head}
 use Rattle.encoding.specs.declared.Head.the-variants.{Apply, Tuple, Function, Both, ArrayOf, Synonym}
 use Rattle.encoding.specs.Tables.{nameBytes}
 use Rattle.encoding.specs.Reading.{Reading, got}
 use Rattle.encoding.specs.Types.{sizeOf, readTypes, readNode, typeAt}
-use Rattle.encoding.proofs.Types.{Made, Made₂, made-got, made₂-got, type-lies}
+use Rattle.encoding.proofs.Types.{Made, Made₂, made-got, made₂-got}
 use Rattle.writing.specs.declared.Spot.{Spot}
 use Rattle.leaves.specs.Texts.{endText}
 use Rattle.writing.specs.Written.{Readable, EndsAt, Room, Written, Front, nodeAt}
-use Rattle.writing.proofs.Laws.{room-first, room-next, written-at, done}
-use Rattle.writing.proofs.Accepted.{type-here}
-use Rattle.writing.proofs.Skipping.{types-fit, first-of}
+use Rattle.writing.proofs.Laws.{room-first, written-at, done, room-between, wrote-between, close-room, close-done, front-done}
+use Rattle.writing.proofs.Accepted.{type-here, type-ahead}
+use Rattle.writing.proofs.Skipping.{types-fit, none-of, first-of}
 
 -- the texts of lists
 arguments-none : (f : ℕ → Reading (Ty Bytes)) (n m : ℕ) {ts : Tys Bytes} {e : ℕ} → n ≡ 0 → readTypes f n m ≡ got ts e → (argumentsText ts ≡ []) × (commaText ts ≡ []) × (m ≡ e)
-unfolding readTypes argumentsText commaText ascii
-arguments-none f n m {ts} {e} z r =
-    let r′ = rw z at r in
-    let t : nil ≡ ts = cc in
-    (ap argumentsText (sym t), ap commaText (sym t), cc)
+unfolding argumentsText commaText ascii
+arguments-none f n m z r = let t = none-of f n m z r in (ap argumentsText (t .0), ap commaText (t .0), t .1)
 
 some-arguments : (t : Ty Bytes) (ts : Tys Bytes) → argumentsText (cons t ts) ≡ ascii "<" ++ (commaText (cons t ts) ++ ascii ">")
 unfolding argumentsText commaText
@@ -69,7 +66,7 @@ module _ {ws pairs : List ℕ} {text : Bytes} {o : List ℕ} {p : ℕ} where
           done (r .there) (b .next ∙ e .2) (apply-text ∙ ap (λ (x : Bytes). Type·ToString (apply-parts .left) ++ x) (e .0) ∙ append-nil _) (b .wrote)
 
       pub apply-later : at < s .next
-      apply-later = type-lies ws pairs text at (omega (arith, type-here ws pairs text at (base .reads))) (base .reads) .starts
+      apply-later = type-ahead ws pairs text at (base .reads)
 
       module _ (z : n ≡ 0 → ⊥) where
         apply-whole : Type·ToString (r .there .value) ≡ Type·ToString (apply-parts .left) ++ (ascii "<" ++ (commaText (apply-parts .right) ++ ascii ">"))
@@ -85,24 +82,19 @@ module _ {ws pairs : List ℕ} {text : Bytes} {o : List ℕ} {p : ℕ} where
           apply-list-reads : readTypes (typeAt ws pairs text) n (s .next) ≡ got (apply-parts .right) (r .there .end)
           apply-list-reads = ap (readTypes (typeAt ws pairs text) n) (written-at base (apply-parts .reads) .next) ∙ apply-parts .reads₂
 
+          apply-splits : Type·ToString (r .there .value) ≡ Type·ToString (apply-parts .left) ++ ascii "<" ++ (commaText (apply-parts .right) ++ ascii ">")
+          apply-splits = apply-whole ∙ sym (append-assoc (Type·ToString (apply-parts .left)) (ascii "<") (commaText (apply-parts .right) ++ ascii ">"))
+
           pub apply-list : Room o₂ p₂ commaText (readTypes (typeAt ws pairs text) n (s .next))
-          apply-list =
-              room-next (Type·ToString (r .there .value)) (ascii ">") (r .there .room) apply-front apply-list-reads
-              (apply-whole ∙ sym (append-assoc (Type·ToString (apply-parts .left)) (ascii "<") (commaText (apply-parts .right) ++ ascii ">")))
+          apply-list = room-between (r .there) apply-list-reads (Type·ToString (apply-parts .left) ++ ascii "<") (ascii ">") apply-splits apply-front
 
           module _ {o₃ : List ℕ} {s₃ : Spot} (list : Written o₂ p₂ commaText (readTypes (typeAt ws pairs text) n (s .next)) o₃ s₃) where
-            apply-written : Wrote o p (Type·ToString (apply-parts .left) ++ ascii "<" ++ commaText (apply-parts .right)) o₃ (s₃ .pos)
-            apply-written = wrote-then apply-front (written-at list apply-list-reads .wrote)
-
-            apply-all : Type·ToString (r .there .value) ≡ Type·ToString (apply-parts .left) ++ ascii "<" ++ commaText (apply-parts .right) ++ ascii ">"
-            apply-all = apply-whole ∙ simp append-assoc
-
             pub apply-close : s₃ .pos + length (ascii ">") ≤ length o₃
-            apply-close = room-last (ascii ">") (r .there .room) apply-written apply-all
+            apply-close = close-room (r .there) apply-list-reads (Type·ToString (apply-parts .left) ++ ascii "<") (ascii ">") apply-splits apply-front list
 
             pub apply-done : {o₄ : List ℕ} {p₄ : ℕ} → Wrote o₃ (s₃ .pos) (ascii ">") o₄ p₄
                 → Written o p Type·ToString (nodeAt ws pairs text (Apply n) at) o₄ (record { next = s₃ .next; pos = p₄ })
-            apply-done close = done (r .there) (written-at list apply-list-reads .next) apply-all (wrote-then apply-written close)
+            apply-done w = close-done (r .there) apply-list-reads (Type·ToString (apply-parts .left) ++ ascii "<") (ascii ">") apply-splits apply-front list refl w
 
   -- ---- a tuple
 
@@ -131,21 +123,15 @@ module _ {ws pairs : List ℕ} {text : Bytes} {o : List ℕ} {p : ℕ} where
 
     module _ {o₁ : List ℕ} {p₁ : ℕ} (paren : Wrote o p (ascii "(") o₁ p₁) where
       pub tuple-list : Room o₁ p₁ commaText (readTypes (typeAt ws pairs text) n at)
-      tuple-list = room-next (Type·ToString (r .there .value)) (ascii ")") (r .there .room) paren (tuple-parts .reads) tuple-text
+      tuple-list = room-between (r .there) (tuple-parts .reads) (ascii "(") (ascii ")") tuple-text paren
 
       module _ {o₂ : List ℕ} {s : Spot} (list : Written o₁ p₁ commaText (readTypes (typeAt ws pairs text) n at) o₂ s) where
-        tuple-written : Wrote o p (ascii "(" ++ commaText (tuple-parts .value)) o₂ (s .pos)
-        tuple-written = wrote-then paren (written-at list (tuple-parts .reads) .wrote)
-
-        tuple-all : Type·ToString (r .there .value) ≡ ascii "(" ++ commaText (tuple-parts .value) ++ ascii ")"
-        tuple-all = tuple-text ∙ sym (append-assoc (ascii "(") (commaText (tuple-parts .value)) (ascii ")"))
-
         pub tuple-close : s .pos + length (ascii ")") ≤ length o₂
-        tuple-close = room-last (ascii ")") (r .there .room) tuple-written tuple-all
+        tuple-close = close-room (r .there) (tuple-parts .reads) (ascii "(") (ascii ")") tuple-text paren list
 
         pub tuple-done : {o₃ : List ℕ} {p₃ : ℕ} → Wrote o₂ (s .pos) (ascii ")") o₃ p₃
             → Written o p Type·ToString (nodeAt ws pairs text (Tuple n) at) o₃ (record { next = s .next; pos = p₃ })
-        tuple-done w = done (r .there) (written-at list (tuple-parts .reads) .next) tuple-all (wrote-then tuple-written w)
+        tuple-done w = close-done (r .there) (tuple-parts .reads) (ascii "(") (ascii ")") tuple-text paren list refl w
 
   -- ---- a function type, up to its return type
 
@@ -177,24 +163,16 @@ module _ {ws pairs : List ℕ} {text : Bytes} {o : List ℕ} {p : ℕ} where
 
       pub inputs-none : n ≡ 0 → {o₂ : List ℕ} {p₂ : ℕ} → Wrote o₁ p₁ (ascii ") -> ") o₂ p₂
           → Front (typeAt ws pairs text) at o p (nodeAt ws pairs text (Function n) at) o₂ (record { next = at; pos = p₂ })
-      inputs-none z w = record {
-        value = r .there .value;
-        last = inputs-parts .right;
-        end = r .there .end;
-        front = ascii "::std::ops::Fn(" ++ ascii ") -> ";
-        reads = r .there .reads;
-        rest = ap (typeAt ws pairs text) (arguments-none (typeAt ws pairs text) n at z (inputs-parts .reads) .2) ∙ inputs-parts .reads₂;
-        ahead = omega arith;
-        wrote = wrote-then fn w;
-        splits = inputs-none-text z ∙ sym (append-assoc (ascii "::std::ops::Fn(") (ascii ") -> ") (Type·ToString (inputs-parts .right)));
-      }
+      inputs-none z w =
+          front-done (r .there) (ap (typeAt ws pairs text) (arguments-none (typeAt ws pairs text) n at z (inputs-parts .reads) .2) ∙ inputs-parts .reads₂) (omega arith)
+          (inputs-none-text z ∙ sym (append-assoc (ascii "::std::ops::Fn(") (ascii ") -> ") (Type·ToString (inputs-parts .right)))) (wrote-then fn w)
 
       pub inputs-list : Room o₁ p₁ commaText (readTypes (typeAt ws pairs text) n at)
-      inputs-list = room-next (Type·ToString (r .there .value)) (ascii ") -> " ++ Type·ToString (inputs-parts .right)) (r .there .room) fn (inputs-parts .reads) inputs-text
+      inputs-list = room-between (r .there) (inputs-parts .reads) (ascii "::std::ops::Fn(") (ascii ") -> " ++ Type·ToString (inputs-parts .right)) inputs-text fn
 
       module _ {o₂ : List ℕ} {s : Spot} (list : Written o₁ p₁ commaText (readTypes (typeAt ws pairs text) n at) o₂ s) where
         inputs-written : Wrote o p (ascii "::std::ops::Fn(" ++ commaText (inputs-parts .left)) o₂ (s .pos)
-        inputs-written = wrote-then fn (written-at list (inputs-parts .reads) .wrote)
+        inputs-written = wrote-between (r .there) (inputs-parts .reads) (ascii "::std::ops::Fn(") (ascii ") -> " ++ Type·ToString (inputs-parts .right)) inputs-text fn list
 
         pub inputs-arrow : s .pos + length (ascii ") -> ") ≤ length o₂
         inputs-arrow =
@@ -206,17 +184,7 @@ module _ {ws pairs : List ℕ} {text : Bytes} {o : List ℕ} {p : ℕ} where
         inputs-done w =
             let b = written-at list (inputs-parts .reads) in
             let l = types-fit ws pairs text n at inputs-within (record { types = inputs-parts .left; reads = inputs-parts .reads }) in
-            record {
-              value = r .there .value;
-              last = inputs-parts .right;
-              end = r .there .end;
-              front = ascii "::std::ops::Fn(" ++ commaText (inputs-parts .left) ++ ascii ") -> ";
-              reads = r .there .reads;
-              rest = ap (typeAt ws pairs text) (b .next) ∙ inputs-parts .reads₂;
-              ahead = omega (arith, b .next, l .0);
-              wrote = wrote-then inputs-written w;
-              splits = inputs-text ∙ simp append-assoc;
-            }
+            front-done (r .there) (ap (typeAt ws pairs text) (b .next) ∙ inputs-parts .reads₂) (omega (arith, b .next, l .0)) (inputs-text ∙ simp append-assoc) (wrote-then inputs-written w)
 
   -- ---- an intersection, up to its right side
 
@@ -240,18 +208,8 @@ module _ {ws pairs : List ℕ} {text : Bytes} {o : List ℕ} {p : ℕ} where
           → Front (typeAt ws pairs text) at o p (nodeAt ws pairs text Both at) o₂ (record { next = s .next; pos = p₂ })
       left-done w =
           let b = written-at left (left-parts .reads) in
-          let l = type-lies ws pairs text at (omega (arith, type-here ws pairs text at (left-parts .reads))) (left-parts .reads) in
-          record {
-            value = r .there .value;
-            last = left-parts .right;
-            end = r .there .end;
-            front = Type·ToString (left-parts .left) ++ ascii " + ";
-            reads = r .there .reads;
-            rest = ap (typeAt ws pairs text) (b .next) ∙ left-parts .reads₂;
-            ahead = omega (arith, b .next, l .starts);
-            wrote = wrote-then (b .wrote) w;
-            splits = left-text ∙ sym (append-assoc (Type·ToString (left-parts .left)) (ascii " + ") (Type·ToString (left-parts .right)));
-          }
+          front-done (r .there) (ap (typeAt ws pairs text) (b .next) ∙ left-parts .reads₂) (omega (arith, b .next, type-ahead ws pairs text at (left-parts .reads)))
+          (left-text ∙ sym (append-assoc (Type·ToString (left-parts .left)) (ascii " + ") (Type·ToString (left-parts .right)))) (wrote-then (b .wrote) w)
 
   -- ---- an array
 
@@ -269,21 +227,15 @@ module _ {ws pairs : List ℕ} {text : Bytes} {o : List ℕ} {p : ℕ} where
 
     module _ {o₁ : List ℕ} {p₁ : ℕ} (bracket : Wrote o p (ascii "[") o₁ p₁) where
       pub array-element : Room o₁ p₁ Type·ToString (typeAt ws pairs text at)
-      array-element = room-next (Type·ToString (r .there .value)) (endText (sizeOf (nameBytes pairs text) size)) (r .there .room) bracket (array-parts .reads) array-text
+      array-element = room-between (r .there) (array-parts .reads) (ascii "[") (endText (sizeOf (nameBytes pairs text) size)) array-text bracket
 
       module _ {o₂ : List ℕ} {s : Spot} (element : Written o₁ p₁ Type·ToString (typeAt ws pairs text at) o₂ s) where
-        array-written : Wrote o p (ascii "[" ++ Type·ToString (array-parts .value)) o₂ (s .pos)
-        array-written = wrote-then bracket (written-at element (array-parts .reads) .wrote)
-
-        array-all : Type·ToString (r .there .value) ≡ ascii "[" ++ Type·ToString (array-parts .value) ++ endText (sizeOf (nameBytes pairs text) size)
-        array-all = array-text ∙ sym (append-assoc (ascii "[") (Type·ToString (array-parts .value)) (endText (sizeOf (nameBytes pairs text) size)))
-
         pub array-end : s .pos + length (endText (sizeOf (nameBytes pairs text) size)) ≤ length o₂
-        array-end = room-last (endText (sizeOf (nameBytes pairs text) size)) (r .there .room) array-written array-all
+        array-end = close-room (r .there) (array-parts .reads) (ascii "[") (endText (sizeOf (nameBytes pairs text) size)) array-text bracket element
 
         pub array-done : {o₃ : List ℕ} {p₃ : ℕ} → Wrote o₂ (s .pos) (endText (sizeOf (nameBytes pairs text) size)) o₃ p₃
             → Written o p Type·ToString (nodeAt ws pairs text (ArrayOf size) at) o₃ (record { next = s .next; pos = p₃ })
-        array-done w = done (r .there) (written-at element (array-parts .reads) .next) array-all (wrote-then array-written w)
+        array-done w = close-done (r .there) (array-parts .reads) (ascii "[") (endText (sizeOf (nameBytes pairs text) size)) array-text bracket element refl w
 
   -- ---- a synonym
 

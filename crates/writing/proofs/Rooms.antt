@@ -1,5 +1,5 @@
 -- An accepted type for which there is room, by the words that stand there.
-use Prim.Native.Nat.{ℕ, _+_, _≤_, _<_, _%_}
+use Prim.Native.Nat.{ℕ, _+_, _-_, _*_, _≤_, _<_, _%_}
 use mathlib.Core.Path.{_≡_, refl, ap, sym, _∙_}
 use mathlib.Core.List.{List, [], _++_}
 use native.Mathlib.Omega.{arith}
@@ -13,13 +13,14 @@ use Rattle.output.proofs.Laws.{wrote-nothing, room-after}
 use Rattle.encoding.specs.declared.Head.{Head}
 use Rattle.encoding.specs.declared.Head.the-variants.{Apply, Tuple, Function, Both, ArrayOf, Synonym}
 use Rattle.encoding.specs.Tables.{nameBytes, nameCount}
+use Rattle.encoding.specs.Tested.{Good}
 use Rattle.encoding.specs.Reading.{got, _>>=_}
 use Rattle.encoding.specs.Types.{primitives, pathOf, readNode, typeAt}
 use Rattle.encoding.proofs.Types.{made-got}
 use Rattle.writing.specs.declared.Spot.{Spot}
 use Rattle.writing.specs.declared.Part.the-variants.{Rest, Done}
 use Rattle.writing.specs.Written.{Room, Written, Front, PartWritten, front, whole, nodeAt}
-use Rattle.writing.proofs.Laws.{room-as, written-as, written-same}
+use Rattle.writing.proofs.Laws.{room-as, written-as, written-same, front-done}
 use Rattle.writing.proofs.Accepted.{NameThere, PathThere, type-here, plain-type, name-type, path-type, ref-head, mut-head, impl-head, dyn-head, both-head, synonym-head, apply-head, tuple-head, function-head, array-head, meta-head}
 
 -- the kinds that are told apart before the last
@@ -77,21 +78,26 @@ module _ {ws pairs : List ℕ} {text : Bytes} {at : ℕ} {o : List ℕ} {p : ℕ
       let m = made-got (typeAt ws pairs text q) c e in
       record { inside = i; ahead = a; last = m .value; rest = m .reads; splits = ap Type·ToString (m .made) ∙ prints (m .value) }
 
+  -- of a kind without own words
+  next-prefix : (before : Bytes) (c : Ty Bytes → Ty Bytes) → ((t : Ty Bytes) → Type·ToString (c t) ≡ before ++ Type·ToString t)
+      → (typeAt ws pairs text (at + 1) >>= λ t m. got (c t) m) ≡ got (r .there .value) (r .there .end) → Prefix before (at + 1)
+  next-prefix before c prints e = prefix before c prints e (omega arith) (omega (arith, room-here))
+
   pub ref-prefix : getD ws at 0 ≡ 15 → Prefix (ascii "&") (at + 1)
   unfolding readNode Type·ToString
-  ref-prefix k = prefix (ascii "&") Borrowed (λ t. refl) (ref-head ws pairs text at (r .there .reads) k) (omega arith) (omega (arith, room-here))
+  ref-prefix k = next-prefix (ascii "&") Borrowed (λ t. refl) (ref-head ws pairs text at (r .there .reads) k)
 
   pub mut-prefix : getD ws at 0 ≡ 16 → Prefix (ascii "&mut ") (at + 1)
   unfolding readNode Type·ToString
-  mut-prefix k = prefix (ascii "&mut ") BorrowedMut (λ t. refl) (mut-head ws pairs text at (r .there .reads) k) (omega arith) (omega (arith, room-here))
+  mut-prefix k = next-prefix (ascii "&mut ") BorrowedMut (λ t. refl) (mut-head ws pairs text at (r .there .reads) k)
 
   pub impl-prefix : getD ws at 0 ≡ 17 → Prefix (ascii "impl ") (at + 1)
   unfolding readNode Type·ToString
-  impl-prefix k = prefix (ascii "impl ") ImplType (λ t. refl) (impl-head ws pairs text at (r .there .reads) k) (omega arith) (omega (arith, room-here))
+  impl-prefix k = next-prefix (ascii "impl ") ImplType (λ t. refl) (impl-head ws pairs text at (r .there .reads) k)
 
   pub dyn-prefix : getD ws at 0 ≡ 18 → Prefix (ascii "dyn ") (at + 1)
   unfolding readNode Type·ToString
-  dyn-prefix k = prefix (ascii "dyn ") DynType (λ t. refl) (dyn-head ws pairs text at (r .there .reads) k) (omega arith) (omega (arith, room-here))
+  dyn-prefix k = next-prefix (ascii "dyn ") DynType (λ t. refl) (dyn-head ws pairs text at (r .there .reads) k)
 
   pub meta-prefix : 14 ≤ getD ws at 0 → Others (getD ws at 0) → Prefix [] (at + 2)
   unfolding readNode Type·ToString
@@ -113,23 +119,23 @@ module _ {ws pairs : List ℕ} {text : Bytes} {at : ℕ} {o : List ℕ} {p : ℕ
   no-word : (h : Head) → nodeAt ws pairs text h (at + 1) ≡ got (r .there .value) (r .there .end) → Node h (at + 1)
   no-word h e = record { inside = omega (arith, room-here); ahead = omega arith; reads = e }
 
-  one-word : (f : ℕ → Head) → at + 1 < length ws → nodeAt ws pairs text (f (getD ws (at + 1) 0)) (at + 2) ≡ got (r .there .value) (r .there .end) → WordNode f
-  one-word f i e = record { inside = omega (arith, i); ahead = omega arith; reads = e }
+  one-word : (f : ℕ → Head) → (at + 1 < length ws) × (nodeAt ws pairs text (f (getD ws (at + 1) 0)) (at + 2) ≡ got (r .there .value) (r .there .end)) → WordNode f
+  one-word f h = record { inside = omega (arith, h .0); ahead = omega arith; reads = h .1 }
 
   pub apply-node : getD ws at 0 ≡ 14 → WordNode Apply
-  apply-node k = let h = apply-head ws pairs text at (r .there .reads) k in one-word Apply (h .0) (h .1)
+  apply-node k = one-word Apply (apply-head ws pairs text at (r .there .reads) k)
 
   pub tuple-node : getD ws at 0 ≡ 19 → WordNode Tuple
-  tuple-node k = let h = tuple-head ws pairs text at (r .there .reads) k in one-word Tuple (h .0) (h .1)
+  tuple-node k = one-word Tuple (tuple-head ws pairs text at (r .there .reads) k)
 
   pub function-node : getD ws at 0 ≡ 20 → WordNode Function
-  function-node k = let h = function-head ws pairs text at (r .there .reads) k in one-word Function (h .0) (h .1)
+  function-node k = one-word Function (function-head ws pairs text at (r .there .reads) k)
 
   pub both-node : getD ws at 0 ≡ 21 → Node Both (at + 1)
   both-node k = no-word Both (both-head ws pairs text at (r .there .reads) k)
 
   pub array-node : getD ws at 0 ≡ 22 → WordNode ArrayOf
-  array-node k = let h = array-head ws pairs text at (r .there .reads) k in one-word ArrayOf (h .0) (h .2)
+  array-node k = let h = array-head ws pairs text at (r .there .reads) k in one-word ArrayOf (h .0, h .2)
 
   pub array-size : getD ws at 0 ≡ 22 → getD ws (at + 1) 0 < nameCount pairs + 1
   array-size k = array-head ws pairs text at (r .there .reads) k .1
@@ -151,21 +157,20 @@ module _ {ws pairs : List ℕ} {text : Bytes} {at : ℕ} {o : List ℕ} {p : ℕ
 
     pub prefix-done : {o′ : List ℕ} {p′ : ℕ} → Wrote o p before o′ p′
         → PartWritten (typeAt ws pairs text) (at + 1) o p (typeAt ws pairs text at) o′ (Rest (record { next = q; pos = p′ }))
-    prefix-done w = front (record {
-      value = r .there .value;
-      last = f .last;
-      end = r .there .end;
-      front = before;
-      reads = r .there .reads;
-      rest = f .rest;
-      ahead = f .ahead;
-      wrote = w;
-      splits = f .splits;
-    })
+    prefix-done w = front (front-done (r .there) (f .rest) (f .ahead) (f .splits) w)
 
   module _ {h : Head} {q : ℕ} (d : Node r h q) where
     pub node-room : Room o p Type·ToString (nodeAt ws pairs text h q)
     node-room = record { value = r .there .value; end = r .there .end; reads = d .reads; room = r .there .room }
+
+    -- the cycle's measure, from the type to its node
+    pub node-falls : {t : ℕ} → 5 * (length ws - at) + 0 ≡ t → 5 * (length ws - q) + 4 < t
+    node-falls e = omega (arith, d .inside, d .ahead)
+
+    -- what the writer of the node asks, where the type's was asked
+    pub node-asked : {t : ℕ} → (5 * (length ws - at) + 0 ≡ t) × (Good pairs text × Room o p Type·ToString (typeAt ws pairs text at))
+        → (5 * (length ws - q) + 4 < t) × (Good pairs text × Room o p Type·ToString (nodeAt ws pairs text h q))
+    node-asked a = (node-falls (a .0), (a .1 .0, node-room))
 
     -- what is written of the head is written of the type
     module _ {o′ : List ℕ} {s : Spot} where
@@ -184,3 +189,12 @@ module _ {ws pairs : List ℕ} {text : Bytes} {at : ℕ} {o : List ℕ} {p : ℕ
         wrote = f .wrote;
         splits = f .splits;
       })
+
+-- what the writers of a name and of a plain type ask
+module _ {ws pairs : List ℕ} {text : Bytes} {at : ℕ} {o : List ℕ} {p : ℕ} (r : TypeRoom ws pairs text at o p) where
+  pub name-asked : getD ws at 0 ≡ 12 → Good pairs text
+      → (getD ws (at + 1) 0 < nameCount pairs) × Good pairs text × (p + length (nameBytes pairs text (getD ws (at + 1) 0)) ≤ length o)
+  name-asked k g = (name-there r k .below, g, leaf-room (name-leaf r k))
+
+  pub plain-asked : getD ws at 0 < 12 → (getD ws at 0 < 12) × (p + length (Primitive·ToString (getD primitives (getD ws at 0) U8)) ≤ length o)
+  plain-asked k = (k, leaf-room (plain-leaf r k))

@@ -77,6 +77,11 @@ types-fit ws pairs text (suc k) p h r =
     let s = types-fit ws pairs text k (m .middle) (l .ends) (record { types = m .right; reads = m .reads₂ }) in
     (omega (arith, l .starts), s .1)
 
+-- no types
+pub none-of : (f : ℕ → Reading (Ty Bytes)) (k place : ℕ) {ts : Tys Bytes} {e : ℕ} → k ≡ 0 → readTypes f k place ≡ got ts e → (ts ≡ nil) × (place ≡ e)
+unfolding readTypes
+none-of f k place z r = let r′ = rw z at r in (cc, cc)
+
 -- the first of some types, and those behind it
 pub first-of : (ws pairs : List ℕ) (text : Bytes) (k place : ℕ) {ts : Tys Bytes} {e : ℕ} → 0 < k → readTypes (typeAt ws pairs text) k place ≡ got ts e
     → Made₂ (typeAt ws pairs text place) (readTypes (typeAt ws pairs text) (k - 1)) cons ts e

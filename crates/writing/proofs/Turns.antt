@@ -12,14 +12,14 @@ use Rattle.output.proofs.Laws.{wrote-nothing, wrote-then, wrote-as, room-after,
 use Rattle.encoding.specs.Reading.{Reading, got}
 use Rattle.encoding.specs.Types.{readTypes, typeAt}
 use Rattle.encoding.proofs.Tables.{impossible}
-use Rattle.encoding.proofs.Types.{Made₂, type-lies}
+use Rattle.encoding.proofs.Types.{Made₂}
 use Rattle.writing.specs.declared.Spot.{Spot}
 use Rattle.writing.specs.declared.Part.{Part}
 use Rattle.writing.specs.declared.Part.the-variants.{Rest, Done}
 use Rattle.writing.specs.Written.{Room, Written, Front, PartWritten, front, whole}
 use Rattle.writing.proofs.Laws.{room-next, written-at}
-use Rattle.writing.proofs.Accepted.{type-here}
-use Rattle.writing.proofs.Skipping.{first-of}
+use Rattle.writing.proofs.Accepted.{type-here, type-ahead}
+use Rattle.writing.proofs.Skipping.{none-of, first-of}
 
 -- ---- the answers of one turn
 
@@ -134,10 +134,6 @@ unfolding commaText
 comma-more t u us = refl
 
 module _ (ws pairs : List ℕ) (text : Bytes) where
-  none-left : (k m : ℕ) {ts : Tys Bytes} {e : ℕ} → k ≡ 0 → readTypes (typeAt ws pairs text) k m ≡ got ts e → (ts ≡ nil) × (m ≡ e)
-  unfolding readTypes
-  none-left k m z r = let r′ = rw z at r in (cc, cc)
-
   some-left : (k m : ℕ) {ts : Tys Bytes} {e : ℕ} → 0 < k → readTypes (typeAt ws pairs text) k m ≡ got ts e → (u : Ty Bytes) × ((us : Tys Bytes) × (ts ≡ cons u us))
   some-left k m h r = let f = first-of ws pairs text k m h r in (f .left, (f .right, f .made))
 
@@ -178,7 +174,7 @@ module _ {ws pairs : List ℕ} {text : Bytes} {n at : ℕ} {o : List ℕ} {p : �
 
     pub list-done : left - 1 ≡ 0 → Written o p commaText (readTypes (typeAt ws pairs text) n at) o₂ s
     list-done z =
-        let none = none-left ws pairs text (left - 1) (item .middle) z (item .reads₂) in
+        let none = none-of (typeAt ws pairs text) (left - 1) (item .middle) z (item .reads₂) in
         let text-all : commaText (l .all) ≡ l .front ++ Type·ToString (item .left) = l .splits ∙ ap (λ (x : Bytes). l .front ++ x) (ap commaText (item .made ∙ ap (cons (item .left)) (none .0)) ∙ comma-one (item .left)) in
         record {
           value = l .all;
@@ -200,7 +196,6 @@ module _ {ws pairs : List ℕ} {text : Bytes} {n at : ℕ} {o : List ℕ} {p : �
       pub list-again : {o₃ : List ℕ} {p₃ : ℕ} → Wrote o₂ (s .pos) (ascii ", ") o₃ p₃ → ListLeft ws pairs text n at o p o₃ p₃ (left - 1) (s .next)
       list-again c =
           let b = written-at w (item .reads) in
-          let t = type-lies ws pairs text place (omega (arith, item-here)) (item .reads) in
           record {
             all = l .all;
             types = item .right;
@@ -212,5 +207,5 @@ module _ {ws pairs : List ℕ} {text : Bytes} {n at : ℕ} {o : List ℕ} {p : �
             splits = more-text ∙ sym (append-assoc (l .front ++ Type·ToString (item .left)) (ascii ", ") (commaText (item .right)));
             room = l .room;
             some = h;
-            ahead = omega (arith, l .ahead, b .next, t .starts);
+            ahead = omega (arith, l .ahead, b .next, type-ahead ws pairs text place (item .reads));
           }

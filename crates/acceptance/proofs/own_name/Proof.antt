@@ -1,8 +1,7 @@
-use mathlib.Core.Path.{refl, ap}
+use mathlib.Core.Path.{refl}
 use Rattle.encoding.specs.declared.Head.the-variants.{Name}
 use Rattle.encoding.specs.Reading.{readBelow}
-use Rattle.encoding.proofs.Reading.{word-got, word-stop}
-use Rattle.measure.specs.Lengths.{worded}
+use Rattle.measure.proofs.Scans.{worded-got, worded-stop}
 use Rattle.acceptance.specs.Walks.{leaf, none}
 use borrow.Author.Needs.{needs}
 use Rattle.acceptance.proofs.own_name.Statement.{statement}
@@ -20,12 +19,12 @@ enum-known-r c = search needs
 returns : tie.Need-returns
 returns c =
     let a = c .before .before .before .before .before .args in
-    leaf (ap (worded Name) (word-got (readBelow (a .bound) (a .words .now) (a .at)) (c .before .before .before .scan-below .ensures) (c .before .next .given .1))) refl
+    leaf (worded-got Name (readBelow (a .bound) (a .words .now) (a .at)) (c .before .before .before .scan-below .ensures) (c .before .next .given .1)) refl
 
 returns-2 : tie.Need-returns-2
 returns-2 c =
     let a = c .before .before .before .before .before .args in
-    none (ap (worded Name) (word-stop (readBelow (a .bound) (a .words .now) (a .at)) (c .before .before .before .scan-below .ensures) (c .before .r .given .1)))
+    none (worded-stop Name (readBelow (a .bound) (a .words .now) (a .at)) (c .before .before .before .scan-below .ensures) (c .before .r .given .1))
 
 pub own-name-spec : {M : Type 1} → statement M
 own-name-spec =

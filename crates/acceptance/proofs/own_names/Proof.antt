@@ -3,8 +3,8 @@ use mathlib.Core.Path.{refl}
 use Rattle.encoding.specs.declared.Head.the-variants.{FromPath}
 use Rattle.encoding.specs.Reading.{readBelow}
 use Rattle.encoding.proofs.Reading.{word-got, word-stop}
-use Rattle.encoding.proofs.Inside.{below-there}
 use Rattle.measure.proofs.PathNames.{NamesTo, names-on, path-halt, path-all}
+use Rattle.measure.proofs.Scans.{below-got}
 use Rattle.acceptance.proofs.Scans.{scanned-leaf, scanned-stop}
 use native.Mathlib.Omega.{arith}
 use borrow.Author.Needs.{needs}
@@ -36,8 +36,7 @@ loop-less : tie.Need-loop-less Inv-loop μ-loop
 loop-less c =
     let a = c .before .before .before .before .before .before .before .before .args in
     let l = c .before .before .before .before .before .loop in
-    let e = word-got (readBelow (a .bound) (a .words .now) (l .i)) (c .before .before .before .scan-below .ensures) (c .before .next .given .1) in
-    omega (arith, below-there (a .bound) (a .words .now) (l .i) e .next)
+    omega (arith, below-got (a .bound) (a .words .now) (l .i) (c .before .before .before .scan-below .ensures) (c .before .next .given .1) .next)
 
 loop-again : tie.Need-loop-again Inv-loop μ-loop
 loop-again c =

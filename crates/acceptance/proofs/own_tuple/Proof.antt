@@ -1,9 +1,6 @@
-use mathlib.Core.Path.{ap}
 use Rattle.encoding.specs.declared.Head.the-variants.{Tuple}
 use Rattle.encoding.specs.Reading.{readWord}
-use Rattle.encoding.proofs.Reading.{word-got, word-stop}
-use Rattle.measure.specs.Lengths.{worded}
-use Rattle.measure.proofs.Scans.{counted-some}
+use Rattle.measure.proofs.Scans.{worded-got, worded-stop, counted-some}
 use Rattle.acceptance.specs.Walks.{leaf, node, none}
 use native.Mathlib.Omega.{arith}
 use borrow.Author.Needs.{needs}
@@ -19,8 +16,8 @@ enum-known-value c = search needs
 returns : tie.Need-returns
 returns c =
     let a = c .before .before .before .before .before .before .args in
-    let e = word-got (readWord (a .words .now) (a .at)) (c .before .before .before .before .scan-word .ensures) (c .before .before .value .given .1) in
-    leaf {h = Tuple _} (ap (worded Tuple) e) (c .if1 .taken)
+    let e = worded-got Tuple (readWord (a .words .now) (a .at)) (c .before .before .before .before .scan-word .ensures) (c .before .before .value .given .1) in
+    leaf {h = Tuple _} e (c .if1 .taken)
 
 cut-requires : tie.Need-cut-requires
 cut-requires c κs = search needs
@@ -31,15 +28,15 @@ enum-known-r c = search needs
 returns-2 : tie.Need-returns-2
 returns-2 c =
     let a = c .before .before .before .before .before .before .before .args in
-    let e = word-got (readWord (a .words .now) (a .at)) (c .before .before .before .before .before .scan-word .ensures) (c .before .before .before .value .given .1) in
+    let e = worded-got Tuple (readWord (a .words .now) (a .at)) (c .before .before .before .before .before .scan-word .ensures) (c .before .before .before .value .given .1) in
     let k = c .cut .ensures in
     let z = c .before .if1 .left in
-    node {h = Tuple _} (ap (worded Tuple) e) (k .0) (counted-some (k .0) (omega arith)) (omega (arith, k .1))
+    node {h = Tuple _} e (k .0) (counted-some (k .0) (omega arith)) (omega (arith, k .1))
 
 returns-3 : tie.Need-returns-3
 returns-3 c =
     let a = c .before .before .before .before .before .args in
-    none (ap (worded Tuple) (word-stop (readWord (a .words .now) (a .at)) (c .before .before .before .scan-word .ensures) (c .before .r .given .1)))
+    none (worded-stop Tuple (readWord (a .words .now) (a .at)) (c .before .before .before .scan-word .ensures) (c .before .r .given .1))
 
 pub own-tuple-spec : {M : Type 1} → statement M
 own-tuple-spec =

@@ -8,7 +8,7 @@ use Rattle.encoding.proofs.Inside.{below-there}
 use Rattle.measure.specs.Lengths.{namesLength, pathLength}
 use Rattle.measure.proofs.Lengths.{name-fits, names-more, names-none}
 use Rattle.measure.proofs.PathNames.{NamesTo, names-on, path-halt, path-all}
-use Rattle.measure.proofs.Scans.{path-read, path-unread}
+use Rattle.measure.proofs.Scans.{below-got, path-read, path-unread}
 use native.Mathlib.Omega.{arith}
 use borrow.Author.Needs.{needs}
 use Rattle.measure.proofs.measure_names.Statement.{statement}
@@ -49,8 +49,7 @@ name-length-requires c κs =
     let s = c .before .before .before .before .before .before .before .before .before .before in
     let a = s .args in
     let l = c .before .before .before .before .before .loop in
-    let e = word-got (readBelow (a .bound) (a .words .now) (l .i)) (c .before .before .before .scan-below .ensures) (c .before .value .given .1) in
-    omega (arith, s .pre .0, below-there (a .bound) (a .words .now) (l .i) e .below)
+    omega (arith, s .pre .0, below-got (a .bound) (a .words .now) (l .i) (c .before .before .before .scan-below .ensures) (c .before .value .given .1) .below)
 
 add-bytes : tie.Need-add-bytes Inv-loop μ-loop
 add-bytes c =
@@ -69,8 +68,7 @@ loop-less : tie.Need-loop-less Inv-loop μ-loop
 loop-less c =
     let a = c .before .before .before .before .before .before .before .before .before .before .before .args in
     let l = c .before .before .before .before .before .before .loop in
-    let e = word-got (readBelow (a .bound) (a .words .now) (l .i)) (c .before .before .before .before .scan-below .ensures) (c .before .before .value .given .1) in
-    omega (arith, below-there (a .bound) (a .words .now) (l .i) e .next)
+    omega (arith, below-got (a .bound) (a .words .now) (l .i) (c .before .before .before .before .scan-below .ensures) (c .before .before .value .given .1) .next)
 
 loop-again : tie.Need-loop-again Inv-loop μ-loop
 loop-again c =

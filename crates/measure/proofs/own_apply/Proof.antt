@@ -1,9 +1,8 @@
-use mathlib.Core.Path.{refl, ap}
+use mathlib.Core.Path.{refl}
 use Rattle.encoding.specs.declared.Head.the-variants.{Apply}
 use Rattle.encoding.specs.Reading.{readWord}
-use Rattle.encoding.proofs.Reading.{word-got, word-stop}
-use Rattle.measure.specs.Lengths.{worded, ownLength}
-use Rattle.measure.proofs.Scans.{counted-more, scanned-counted, scanned-stop}
+use Rattle.measure.specs.Lengths.{ownLength}
+use Rattle.measure.proofs.Scans.{worded-got, worded-stop, counted-more, scanned-counted, scanned-stop}
 use native.Mathlib.Omega.{arith}
 use borrow.Author.Needs.{needs}
 use Rattle.measure.proofs.own_apply.Statement.{statement}
@@ -37,14 +36,14 @@ returns : tie.Need-returns
 unfolding ownLength
 returns c =
     let a = c .before .before .before .before .before .before .before .before .args in
-    let e = word-got (readWord (a .words .now) (a .at)) (c .before .before .before .before .before .scan-word .ensures) (c .before .before .before .value .given .1) in
+    let e = worded-got Apply (readWord (a .words .now) (a .at)) (c .before .before .before .before .before .scan-word .ensures) (c .before .before .before .value .given .1) in
     let k = c .before .cut .ensures in
-    scanned-counted (a .words .now) (a .pairs .now) (Apply _) (ap (worded Apply) e) (c .own-node .ensures) (counted-more (k .0)) refl refl (omega arith) (omega (arith, k .1)) (omega arith)
+    scanned-counted (a .words .now) (a .pairs .now) (Apply _) e (c .own-node .ensures) (counted-more (k .0)) refl refl (omega arith) (omega (arith, k .1)) (omega arith)
 
 returns-2 : tie.Need-returns-2
 returns-2 c =
     let a = c .before .before .before .before .before .before .args in
-    scanned-stop (a .words .now) (a .pairs .now) (ap (worded Apply) (word-stop (readWord (a .words .now) (a .at)) (c .before .before .before .scan-word .ensures) (c .before .r .given .1))) refl
+    scanned-stop (a .words .now) (a .pairs .now) (worded-stop Apply (readWord (a .words .now) (a .at)) (c .before .before .before .scan-word .ensures) (c .before .r .given .1)) refl
 
 pub own-apply-spec : {M : Type 1} → statement M
 own-apply-spec =

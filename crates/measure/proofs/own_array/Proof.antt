@@ -1,10 +1,8 @@
-use mathlib.Core.Path.{refl, ap}
+use mathlib.Core.Path.{refl}
 use Rattle.encoding.specs.declared.Head.the-variants.{ArrayOf}
 use Rattle.encoding.specs.Reading.{readBelow}
-use Rattle.encoding.proofs.Reading.{word-got, word-stop}
-use Rattle.measure.specs.Lengths.{worded, ownLength}
-use Rattle.encoding.proofs.Inside.{below-there}
-use Rattle.measure.proofs.Scans.{scanned-node, scanned-stop}
+use Rattle.measure.specs.Lengths.{ownLength}
+use Rattle.measure.proofs.Scans.{below-got, worded-got, worded-stop, scanned-node, scanned-stop}
 use Prim.Native.Nat.{_+_}
 use native.Mathlib.Omega.{arith}
 use borrow.Author.Needs.{needs}
@@ -24,8 +22,7 @@ array-length-requires : tie.Need-array-length-requires
 array-length-requires c κs =
     let s = c .before .before .before .before .before .before in
     let a = s .args in
-    let e = word-got (readBelow (a .bound + 1) (a .words .now) (a .at)) (c .before .before .before .scan-below .ensures) (c .before .value .given .1) in
-    omega (arith, s .pre, below-there (a .bound + 1) (a .words .now) (a .at) e .below)
+    omega (arith, s .pre, below-got (a .bound + 1) (a .words .now) (a .at) (c .before .before .before .scan-below .ensures) (c .before .value .given .1) .below)
 
 own-node-requires : tie.Need-own-node-requires
 own-node-requires c κs = search needs
@@ -37,13 +34,13 @@ returns : tie.Need-returns
 unfolding ownLength
 returns c =
     let a = c .before .before .before .before .before .before .before .before .args in
-    let e = word-got (readBelow (a .bound + 1) (a .words .now) (a .at)) (c .before .before .before .before .before .scan-below .ensures) (c .before .before .before .value .given .1) in
-    scanned-node (a .words .now) (a .pairs .now) (ArrayOf _) (ap (worded ArrayOf) e) (c .own-node .ensures) refl (c .before .array-length .ensures .0) refl (omega arith) (omega arith) (c .before .array-length .ensures .1)
+    let e = worded-got ArrayOf (readBelow (a .bound + 1) (a .words .now) (a .at)) (c .before .before .before .before .before .scan-below .ensures) (c .before .before .before .value .given .1) in
+    scanned-node (a .words .now) (a .pairs .now) (ArrayOf _) e (c .own-node .ensures) refl (c .before .array-length .ensures .0) refl (omega arith) (omega arith) (c .before .array-length .ensures .1)
 
 returns-2 : tie.Need-returns-2
 returns-2 c =
     let a = c .before .before .before .before .before .before .args in
-    scanned-stop (a .words .now) (a .pairs .now) (ap (worded ArrayOf) (word-stop (readBelow (a .bound + 1) (a .words .now) (a .at)) (c .before .before .before .scan-below .ensures) (c .before .r .given .1))) refl
+    scanned-stop (a .words .now) (a .pairs .now) (worded-stop ArrayOf (readBelow (a .bound + 1) (a .words .now) (a .at)) (c .before .before .before .scan-below .ensures) (c .before .r .given .1)) refl
 
 pub own-array-spec : {M : Type 1} → statement M
 own-array-spec =

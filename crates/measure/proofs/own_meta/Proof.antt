@@ -1,9 +1,8 @@
-use mathlib.Core.Path.{refl, ap}
+use mathlib.Core.Path.{refl}
 use Rattle.encoding.specs.declared.Head.the-variants.{Meta}
 use Rattle.encoding.specs.Reading.{readBelow}
-use Rattle.encoding.proofs.Reading.{word-got, word-stop}
-use Rattle.measure.specs.Lengths.{worded, ownLength}
-use Rattle.measure.proofs.Scans.{scanned-node, scanned-stop}
+use Rattle.measure.specs.Lengths.{ownLength}
+use Rattle.measure.proofs.Scans.{worded-got, worded-stop, scanned-node, scanned-stop}
 use native.Mathlib.Omega.{arith}
 use borrow.Author.Needs.{needs}
 use Rattle.measure.proofs.own_meta.Statement.{statement}
@@ -25,13 +24,13 @@ returns : tie.Need-returns
 unfolding ownLength
 returns c =
     let a = c .before .before .before .before .before .before .before .args in
-    let e = word-got (readBelow 4 (a .words .now) (a .at)) (c .before .before .before .before .scan-below .ensures) (c .before .before .next .given .1) in
-    scanned-node (a .words .now) (a .pairs .now) (Meta _) (ap (worded Meta) e) (c .own-node .ensures) refl (refl) refl (omega arith) (omega arith) (omega arith)
+    let e = worded-got Meta (readBelow 4 (a .words .now) (a .at)) (c .before .before .before .before .scan-below .ensures) (c .before .before .next .given .1) in
+    scanned-node (a .words .now) (a .pairs .now) (Meta _) e (c .own-node .ensures) refl (refl) refl (omega arith) (omega arith) (omega arith)
 
 returns-2 : tie.Need-returns-2
 returns-2 c =
     let a = c .before .before .before .before .before .before .args in
-    scanned-stop (a .words .now) (a .pairs .now) (ap (worded Meta) (word-stop (readBelow 4 (a .words .now) (a .at)) (c .before .before .before .scan-below .ensures) (c .before .r .given .1))) refl
+    scanned-stop (a .words .now) (a .pairs .now) (worded-stop Meta (readBelow 4 (a .words .now) (a .at)) (c .before .before .before .scan-below .ensures) (c .before .r .given .1)) refl
 
 pub own-meta-spec : {M : Type 1} → statement M
 own-meta-spec =

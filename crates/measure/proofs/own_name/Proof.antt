@@ -1,10 +1,8 @@
-use mathlib.Core.Path.{refl, ap}
+use mathlib.Core.Path.{refl}
 use Rattle.encoding.specs.declared.Head.the-variants.{Name}
 use Rattle.encoding.specs.Reading.{readBelow}
-use Rattle.encoding.proofs.Reading.{word-got, word-stop}
-use Rattle.measure.specs.Lengths.{worded, ownLength}
-use Rattle.encoding.proofs.Inside.{below-there}
-use Rattle.measure.proofs.Scans.{scanned-leaf, scanned-stop}
+use Rattle.measure.specs.Lengths.{ownLength}
+use Rattle.measure.proofs.Scans.{below-got, worded-got, worded-stop, scanned-leaf, scanned-stop}
 use Rattle.measure.proofs.Lengths.{name-fits}
 use native.Mathlib.Omega.{arith}
 use borrow.Author.Needs.{needs}
@@ -21,8 +19,7 @@ name-length-requires : tie.Need-name-length-requires
 name-length-requires c κs =
     let s = c .before .before .before .before .before .before in
     let a = s .args in
-    let e = word-got (readBelow (a .bound) (a .words .now) (a .at)) (c .before .before .before .scan-below .ensures) (c .before .value .given .1) in
-    omega (arith, s .pre, below-there (a .bound) (a .words .now) (a .at) e .below)
+    omega (arith, s .pre, below-got (a .bound) (a .words .now) (a .at) (c .before .before .before .scan-below .ensures) (c .before .value .given .1) .below)
 
 own-leaf-requires : tie.Need-own-leaf-requires
 own-leaf-requires c κs = search needs
@@ -34,13 +31,13 @@ returns : tie.Need-returns
 unfolding ownLength
 returns c =
     let a = c .before .before .before .before .before .before .before .before .args in
-    let e = word-got (readBelow (a .bound) (a .words .now) (a .at)) (c .before .before .before .before .before .scan-below .ensures) (c .before .before .before .value .given .1) in
-    scanned-leaf (a .words .now) (a .pairs .now) (Name _) (ap (worded Name) e) (c .own-leaf .ensures) refl (c .before .name-length .ensures) (omega (arith, name-fits (a .pairs .now) (λ i. omega (arith, c .before .before .before .before .before .before .shared-slice-known2 .given i)) _ _ (c .before .name-length .ensures)))
+    let e = worded-got Name (readBelow (a .bound) (a .words .now) (a .at)) (c .before .before .before .before .before .scan-below .ensures) (c .before .before .before .value .given .1) in
+    scanned-leaf (a .words .now) (a .pairs .now) (Name _) e (c .own-leaf .ensures) refl (c .before .name-length .ensures) (omega (arith, name-fits (a .pairs .now) (λ i. omega (arith, c .before .before .before .before .before .before .shared-slice-known2 .given i)) _ _ (c .before .name-length .ensures)))
 
 returns-2 : tie.Need-returns-2
 returns-2 c =
     let a = c .before .before .before .before .before .before .args in
-    scanned-stop (a .words .now) (a .pairs .now) (ap (worded Name) (word-stop (readBelow (a .bound) (a .words .now) (a .at)) (c .before .before .before .scan-below .ensures) (c .before .r .given .1))) refl
+    scanned-stop (a .words .now) (a .pairs .now) (worded-stop Name (readBelow (a .bound) (a .words .now) (a .at)) (c .before .before .before .scan-below .ensures) (c .before .r .given .1)) refl
 
 pub own-name-spec : {M : Type 1} → statement M
 own-name-spec =

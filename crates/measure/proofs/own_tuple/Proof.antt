@@ -1,9 +1,8 @@
-use mathlib.Core.Path.{refl, ap}
+use mathlib.Core.Path.{refl}
 use Rattle.encoding.specs.declared.Head.the-variants.{Tuple}
 use Rattle.encoding.specs.Reading.{readWord}
-use Rattle.encoding.proofs.Reading.{word-got, word-stop}
-use Rattle.measure.specs.Lengths.{worded, ownLength}
-use Rattle.measure.proofs.Scans.{counted-some, scanned-leaf, scanned-counted, scanned-stop}
+use Rattle.measure.specs.Lengths.{ownLength}
+use Rattle.measure.proofs.Scans.{worded-got, worded-stop, counted-some, scanned-leaf, scanned-counted, scanned-stop}
 use native.Mathlib.Omega.{arith}
 use borrow.Author.Needs.{needs}
 use Rattle.measure.proofs.own_tuple.Statement.{statement}
@@ -22,9 +21,9 @@ returns : tie.Need-returns
 unfolding ownLength
 returns c =
     let a = c .before .before .before .before .before .before .before .before .args in
-    let e = word-got (readWord (a .words .now) (a .at)) (c .before .before .before .before .before .scan-word .ensures) (c .before .before .before .value .given .1) in
+    let e = worded-got Tuple (readWord (a .words .now) (a .at)) (c .before .before .before .before .before .scan-word .ensures) (c .before .before .before .value .given .1) in
     let z = c .before .if1 .taken in
-    scanned-leaf (a .words .now) (a .pairs .now) (Tuple _) (ap (worded Tuple) e) (c .own-leaf .ensures) z (omega arith) (omega arith)
+    scanned-leaf (a .words .now) (a .pairs .now) (Tuple _) e (c .own-leaf .ensures) z (omega arith) (omega arith)
 
 cut-requires : tie.Need-cut-requires
 cut-requires c κs = search needs
@@ -45,15 +44,15 @@ returns-2 : tie.Need-returns-2
 unfolding ownLength
 returns-2 c =
     let a = c .before .before .before .before .before .before .before .before .before .args in
-    let e = word-got (readWord (a .words .now) (a .at)) (c .before .before .before .before .before .before .scan-word .ensures) (c .before .before .before .before .value .given .1) in
+    let e = worded-got Tuple (readWord (a .words .now) (a .at)) (c .before .before .before .before .before .before .scan-word .ensures) (c .before .before .before .before .value .given .1) in
     let z = c .before .before .if1 .left in
     let k = c .before .cut .ensures in
-    scanned-counted (a .words .now) (a .pairs .now) (Tuple _) (ap (worded Tuple) e) (c .own-node .ensures) (k .0) (omega arith) refl (counted-some (k .0) (omega arith)) (omega (arith, k .1)) (omega arith)
+    scanned-counted (a .words .now) (a .pairs .now) (Tuple _) e (c .own-node .ensures) (k .0) (omega arith) refl (counted-some (k .0) (omega arith)) (omega (arith, k .1)) (omega arith)
 
 returns-3 : tie.Need-returns-3
 returns-3 c =
     let a = c .before .before .before .before .before .before .args in
-    scanned-stop (a .words .now) (a .pairs .now) (ap (worded Tuple) (word-stop (readWord (a .words .now) (a .at)) (c .before .before .before .scan-word .ensures) (c .before .r .given .1))) refl
+    scanned-stop (a .words .now) (a .pairs .now) (worded-stop Tuple (readWord (a .words .now) (a .at)) (c .before .before .before .scan-word .ensures) (c .before .r .given .1)) refl
 
 pub own-tuple-spec : {M : Type 1} → statement M
 own-tuple-spec =

@@ -1,12 +1,10 @@
 use native.Mathlib.Omega.{arith}
-use mathlib.Core.Path.{refl, ap, _∙_}
+use mathlib.Core.Path.{refl}
 use Rattle.encoding.specs.declared.Head.the-variants.{Apply}
-use Rattle.encoding.specs.Reading.{got, readWord}
-use Rattle.encoding.proofs.Reading.{word-got, word-stop}
-use Rattle.measure.specs.Lengths.{worded}
+use Rattle.encoding.specs.Reading.{readWord}
 use Rattle.soundness.specs.Judging.{wordsSound}
 use borrow.Author.Tests.{lt-ltb}
-use Rattle.measure.proofs.Scans.{counted-more}
+use Rattle.measure.proofs.Scans.{worded-got, worded-none, worded-stop, counted-more}
 use Rattle.soundness.proofs.Scans.{counted-level, scanned-bare, scanned-node, scanned-stop}
 use borrow.Author.Needs.{needs}
 use Rattle.soundness.proofs.own_apply.Statement.{statement}
@@ -24,8 +22,8 @@ own-bare-requires c κs = search needs
 returns : tie.Need-returns
 returns c =
     let a = c .before .before .before .before .before .before .before .before .before .args in
-    let e = word-got (readWord (a .words .now) (a .at)) (c .before .before .before .before .before .scan-word .ensures) (c .before .before .before .value .given .1) in
-    scanned-bare (a .words .now) (a .pairs .now) (a .text .now) (a .ask) (ap (worded Apply) (e ∙ ap (λ w. got w (c .before .before .before .value .given .0 .1 .0)) (c .before .if1 .taken))) (c .own-bare .ensures)
+    let e = worded-none Apply (readWord (a .words .now) (a .at)) (c .before .before .before .before .before .scan-word .ensures) (c .before .before .before .value .given .1) (c .before .if1 .taken) in
+    scanned-bare (a .words .now) (a .pairs .now) (a .text .now) (a .ask) e (c .own-bare .ensures)
 
 cut-requires : tie.Need-cut-requires
 cut-requires c κs = search needs
@@ -46,14 +44,14 @@ returns-2 : tie.Need-returns-2
 unfolding wordsSound
 returns-2 c =
     let a = c .before .before .before .before .before .before .before .before .before .before .args in
-    let e = word-got (readWord (a .words .now) (a .at)) (c .before .before .before .before .before .before .scan-word .ensures) (c .before .before .before .before .value .given .1) in
+    let e = worded-got Apply (readWord (a .words .now) (a .at)) (c .before .before .before .before .before .before .scan-word .ensures) (c .before .before .before .before .value .given .1) in
     let k = c .before .cut .ensures in
-    scanned-node (a .words .now) (a .pairs .now) (a .text .now) (a .ask) (Apply _) (ap (worded Apply) e) (c .own-node .ensures) refl (lt-ltb 0 (c .before .before .before .before .value .given .0 .0) (omega (arith, c .before .before .if1 .left))) refl (omega arith) (counted-level (c .before .cut .result) 1 (omega arith) (counted-more (k .0))) (omega (arith, k .1))
+    scanned-node (a .words .now) (a .pairs .now) (a .text .now) (a .ask) (Apply _) e (c .own-node .ensures) refl (lt-ltb 0 (c .before .before .before .before .value .given .0 .0) (omega (arith, c .before .before .if1 .left))) refl (omega arith) (counted-level (c .before .cut .result) 1 (omega arith) (counted-more (k .0))) (omega (arith, k .1))
 
 returns-3 : tie.Need-returns-3
 returns-3 c =
     let a = c .before .before .before .before .before .before .before .args in
-    scanned-stop (a .words .now) (a .pairs .now) (a .text .now) (a .ask) (ap (worded Apply) (word-stop (readWord (a .words .now) (a .at)) (c .before .before .before .scan-word .ensures) (c .before .r .given .1))) refl
+    scanned-stop (a .words .now) (a .pairs .now) (a .text .now) (a .ask) (worded-stop Apply (readWord (a .words .now) (a .at)) (c .before .before .before .scan-word .ensures) (c .before .r .given .1)) refl
 
 pub own-apply-spec : {M : Type 1} → statement M
 own-apply-spec =

@@ -1,12 +1,11 @@
 use native.Mathlib.Omega.{arith}
-use mathlib.Core.Path.{refl, ap, _∙_}
+use mathlib.Core.Path.{refl}
 use Rattle.encoding.specs.declared.Head.the-variants.{Function}
-use Rattle.encoding.specs.Reading.{got, readWord}
-use Rattle.encoding.proofs.Reading.{word-got, word-stop}
-use Rattle.measure.specs.Lengths.{worded, exact}
+use Rattle.encoding.specs.Reading.{readWord}
+use Rattle.measure.specs.Lengths.{exact}
 use Rattle.soundness.specs.Judging.{wordsSound}
 use borrow.Author.Tests.{ne-eqb}
-use Rattle.measure.proofs.Scans.{counted-more}
+use Rattle.measure.proofs.Scans.{worded-got, worded-none, worded-stop, counted-more}
 use Rattle.soundness.proofs.Scans.{counted-level, scanned-node, scanned-stop}
 use borrow.Author.Needs.{needs}
 use Rattle.soundness.proofs.own_function.Statement.{statement}
@@ -25,8 +24,8 @@ returns : tie.Need-returns
 unfolding wordsSound
 returns c =
     let a = c .before .before .before .before .before .before .before .before .before .args in
-    let e = word-got (readWord (a .words .now) (a .at)) (c .before .before .before .before .before .scan-word .ensures) (c .before .before .before .value .given .1) in
-    scanned-node (a .words .now) (a .pairs .now) (a .text .now) (a .ask) (Function 0) {l = 3} (ap (worded Function) (e ∙ ap (λ w. got w (c .before .before .before .value .given .0 .1 .0)) (c .before .if1 .taken))) (c .own-node .ensures) refl refl refl refl (exact refl) (omega arith)
+    let e = worded-none Function (readWord (a .words .now) (a .at)) (c .before .before .before .before .before .scan-word .ensures) (c .before .before .before .value .given .1) (c .before .if1 .taken) in
+    scanned-node (a .words .now) (a .pairs .now) (a .text .now) (a .ask) (Function 0) {l = 3} e (c .own-node .ensures) refl refl refl refl (exact refl) (omega arith)
 
 cut-requires : tie.Need-cut-requires
 cut-requires c κs = search needs
@@ -47,14 +46,14 @@ returns-2 : tie.Need-returns-2
 unfolding wordsSound
 returns-2 c =
     let a = c .before .before .before .before .before .before .before .before .before .before .args in
-    let e = word-got (readWord (a .words .now) (a .at)) (c .before .before .before .before .before .before .scan-word .ensures) (c .before .before .before .before .value .given .1) in
+    let e = worded-got Function (readWord (a .words .now) (a .at)) (c .before .before .before .before .before .before .scan-word .ensures) (c .before .before .before .before .value .given .1) in
     let k = c .before .cut .ensures in
-    scanned-node (a .words .now) (a .pairs .now) (a .text .now) (a .ask) (Function _) (ap (worded Function) e) (c .own-node2 .ensures) refl refl (rw (ne-eqb _ 0 (c .before .before .if1 .left))) (omega arith) (counted-level (c .before .cut .result) 3 (omega arith) (counted-more (k .0))) (omega (arith, k .1))
+    scanned-node (a .words .now) (a .pairs .now) (a .text .now) (a .ask) (Function _) e (c .own-node2 .ensures) refl refl (rw (ne-eqb _ 0 (c .before .before .if1 .left))) (omega arith) (counted-level (c .before .cut .result) 3 (omega arith) (counted-more (k .0))) (omega (arith, k .1))
 
 returns-3 : tie.Need-returns-3
 returns-3 c =
     let a = c .before .before .before .before .before .before .before .args in
-    scanned-stop (a .words .now) (a .pairs .now) (a .text .now) (a .ask) (ap (worded Function) (word-stop (readWord (a .words .now) (a .at)) (c .before .before .before .scan-word .ensures) (c .before .r .given .1))) refl
+    scanned-stop (a .words .now) (a .pairs .now) (a .text .now) (a .ask) (worded-stop Function (readWord (a .words .now) (a .at)) (c .before .before .before .scan-word .ensures) (c .before .r .given .1)) refl
 
 pub own-function-spec : {M : Type 1} → statement M
 own-function-spec =

@@ -1,9 +1,9 @@
 use native.Mathlib.Omega.{arith}
-use mathlib.Core.Path.{refl, ap}
+use mathlib.Core.Path.{refl}
 use Rattle.encoding.specs.declared.Head.the-variants.{Meta}
 use Rattle.encoding.specs.Reading.{readBelow}
-use Rattle.encoding.proofs.Reading.{word-got, word-stop}
-use Rattle.measure.specs.Lengths.{worded, exact}
+use Rattle.measure.specs.Lengths.{exact}
+use Rattle.measure.proofs.Scans.{worded-got, worded-stop}
 use Rattle.soundness.specs.Judging.{wordsSound}
 use Rattle.soundness.proofs.Scans.{scanned-wrapper, scanned-stop}
 use borrow.Author.Needs.{needs}
@@ -23,13 +23,13 @@ returns : tie.Need-returns
 unfolding wordsSound
 returns c =
     let a = c .before .before .before .before .before .before .before .args in
-    let e = word-got (readBelow 4 (a .words .now) (a .at)) (c .before .before .before .scan-below .ensures) (c .before .next .given .1) in
-    scanned-wrapper (a .words .now) (a .pairs .now) (a .text .now) (a .ask) (Meta _) (ap (worded Meta) e) refl refl refl refl refl (exact refl) refl (omega arith)
+    let e = worded-got Meta (readBelow 4 (a .words .now) (a .at)) (c .before .before .before .scan-below .ensures) (c .before .next .given .1) in
+    scanned-wrapper (a .words .now) (a .pairs .now) (a .text .now) (a .ask) (Meta _) e refl refl refl refl refl (exact refl) refl (omega arith)
 
 returns-2 : tie.Need-returns-2
 returns-2 c =
     let a = c .before .before .before .before .before .before .before .args in
-    scanned-stop (a .words .now) (a .pairs .now) (a .text .now) (a .ask) (ap (worded Meta) (word-stop (readBelow 4 (a .words .now) (a .at)) (c .before .before .before .scan-below .ensures) (c .before .r .given .1))) refl
+    scanned-stop (a .words .now) (a .pairs .now) (a .text .now) (a .ask) (worded-stop Meta (readBelow 4 (a .words .now) (a .at)) (c .before .before .before .scan-below .ensures) (c .before .r .given .1)) refl
 
 pub own-meta-spec : {M : Type 1} → statement M
 own-meta-spec =

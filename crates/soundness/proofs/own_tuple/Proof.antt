@@ -1,11 +1,9 @@
 use native.Mathlib.Omega.{arith}
-use mathlib.Core.Path.{refl, ap, _∙_}
+use mathlib.Core.Path.{refl}
 use Rattle.encoding.specs.declared.Head.the-variants.{Tuple}
-use Rattle.encoding.specs.Reading.{got, readWord}
-use Rattle.encoding.proofs.Reading.{word-got, word-stop}
-use Rattle.measure.specs.Lengths.{worded}
+use Rattle.encoding.specs.Reading.{readWord}
 use Rattle.soundness.specs.Judging.{wordsSound}
-use Rattle.measure.proofs.Scans.{counted-some}
+use Rattle.measure.proofs.Scans.{worded-got, worded-none, worded-stop, counted-some}
 use Rattle.soundness.proofs.Scans.{counted-behind, scanned-plain, scanned-node, scanned-stop}
 use borrow.Author.Needs.{needs}
 use Rattle.soundness.proofs.own_tuple.Statement.{statement}
@@ -24,8 +22,8 @@ returns : tie.Need-returns
 unfolding wordsSound
 returns c =
     let a = c .before .before .before .before .before .before .before .before .before .args in
-    let e = word-got (readWord (a .words .now) (a .at)) (c .before .before .before .before .before .scan-word .ensures) (c .before .before .before .value .given .1) in
-    scanned-plain (a .words .now) (a .pairs .now) (a .text .now) (a .ask) (Tuple 0) (ap (worded Tuple) (e ∙ ap (λ w. got w (c .before .before .before .value .given .0 .1 .0)) (c .before .if1 .taken))) (c .own-leaf .ensures) refl refl refl
+    let e = worded-none Tuple (readWord (a .words .now) (a .at)) (c .before .before .before .before .before .scan-word .ensures) (c .before .before .before .value .given .1) (c .before .if1 .taken) in
+    scanned-plain (a .words .now) (a .pairs .now) (a .text .now) (a .ask) (Tuple 0) e (c .own-leaf .ensures) refl refl refl
 
 cut-requires : tie.Need-cut-requires
 cut-requires c κs = search needs
@@ -46,15 +44,15 @@ returns-2 : tie.Need-returns-2
 unfolding wordsSound
 returns-2 c =
     let a = c .before .before .before .before .before .before .before .before .before .before .args in
-    let e = word-got (readWord (a .words .now) (a .at)) (c .before .before .before .before .before .before .scan-word .ensures) (c .before .before .before .before .value .given .1) in
+    let e = worded-got Tuple (readWord (a .words .now) (a .at)) (c .before .before .before .before .before .before .scan-word .ensures) (c .before .before .before .before .value .given .1) in
     let k = c .before .cut .ensures in
     let some = counted-some (k .0) (omega (arith, c .before .before .if1 .left)) in
-    scanned-node (a .words .now) (a .pairs .now) (a .text .now) (a .ask) (Tuple _) (ap (worded Tuple) e) (c .own-node .ensures) refl refl refl (omega (arith, some)) (counted-behind (c .before .cut .result) some (k .0)) (omega (arith, k .1))
+    scanned-node (a .words .now) (a .pairs .now) (a .text .now) (a .ask) (Tuple _) e (c .own-node .ensures) refl refl refl (omega (arith, some)) (counted-behind (c .before .cut .result) some (k .0)) (omega (arith, k .1))
 
 returns-3 : tie.Need-returns-3
 returns-3 c =
     let a = c .before .before .before .before .before .before .before .args in
-    scanned-stop (a .words .now) (a .pairs .now) (a .text .now) (a .ask) (ap (worded Tuple) (word-stop (readWord (a .words .now) (a .at)) (c .before .before .before .scan-word .ensures) (c .before .r .given .1))) refl
+    scanned-stop (a .words .now) (a .pairs .now) (a .text .now) (a .ask) (worded-stop Tuple (readWord (a .words .now) (a .at)) (c .before .before .before .scan-word .ensures) (c .before .r .given .1)) refl
 
 pub own-tuple-spec : {M : Type 1} → statement M
 own-tuple-spec =

@@ -5,6 +5,7 @@ use Rattle.encoding.specs.Reading.{readBelow}
 use Rattle.encoding.specs.Tables.{nameBytes, nameCount}
 use Rattle.encoding.proofs.Reading.{word-got, word-stop}
 use Rattle.encoding.proofs.Inside.{below-there}
+use Rattle.measure.proofs.Scans.{below-got}
 use Rattle.soundness.specs.Judging.{Onward}
 use Rattle.soundness.proofs.Names.{judged-nothing}
 use Rattle.soundness.proofs.Paths.{onward-here, onward-more, path-leaf, path-stop}
@@ -41,8 +42,7 @@ enum-known-next c = search needs
 loop-less : tie.Need-loop-less Inv-loop μ-loop
 loop-less c =
     let a = c .before .before .before .before .before .before .before .before .before .before .before .before .args in
-    let e = word-got (readBelow _ (a .words .now) (c .before .before .before .before .before .loop .i)) (c .before .before .before .scan-below .ensures) (c .before .next .given .1) in
-    omega (arith, below-there _ (a .words .now) (c .before .before .before .before .before .loop .i) e .next)
+    omega (arith, below-got _ (a .words .now) (c .before .before .before .before .before .loop .i) (c .before .before .before .scan-below .ensures) (c .before .next .given .1) .next)
 
 loop-again : tie.Need-loop-again Inv-loop μ-loop
 loop-again c =

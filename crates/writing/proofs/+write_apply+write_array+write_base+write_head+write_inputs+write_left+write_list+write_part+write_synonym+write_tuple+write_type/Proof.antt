@@ -1,11 +1,12 @@
 use Prim.Native.Nat.{ℕ, _+_, _-_, _*_, _<_}
+use mathlib.Core.List.{[]}
 use lib.ListN.{length}
 use Rattle.rast.specs.Bytes.{ascii}
 use Rattle.output.proofs.Laws.{wrote-nothing, wrote-then, wrote-kept}
 use Rattle.encoding.specs.declared.Head.the-variants.{Apply, Tuple, Function, Both, ArrayOf, Synonym}
 use Rattle.writing.specs.Written.{whole}
 use Rattle.writing.proofs.Parts.{NodeRoom, apply-base, apply-none, apply-later, apply-open, apply-list, apply-close, apply-done, tuple-empty, tuple-none, tuple-open, tuple-list, tuple-close, tuple-done, inputs-open, inputs-none-arrow, inputs-none, inputs-list, inputs-arrow, inputs-done, left-type, left-plus, left-done, array-open, array-element, array-end, array-done, synonym-display, synonym-base, synonym-done}
-use Rattle.writing.proofs.Rooms.{TypeRoom, WordNode, room-here, plain-leaf, name-there, name-leaf, ref-prefix, mut-prefix, impl-prefix, dyn-prefix, meta-prefix, apply-node, tuple-node, function-node, both-node, array-node, array-size, synonym-node, leaf-room, leaf-done, prefix-room, prefix-done, node-room, node-whole, node-front}
+use Rattle.writing.proofs.Rooms.{TypeRoom, Prefix, Node, WordNode, room-here, plain-leaf, name-there, name-leaf, ref-prefix, mut-prefix, impl-prefix, dyn-prefix, meta-prefix, apply-node, tuple-node, function-node, both-node, array-node, array-size, synonym-node, leaf-done, prefix-room, prefix-done, node-room, node-falls, node-asked, node-whole, node-front, name-asked, plain-asked}
 use Rattle.writing.proofs.Turns.{ListLeft, Turning, part-rest, part-done, turn-start, turn-next, turn-here, turn-again, turn-last, list-start, item-room, item-here, list-done, comma-room, list-again}
 use borrow.Author.Needs.{needs}
 use native.Mathlib.Omega.{arith}
@@ -322,50 +323,59 @@ write-head-shared-slice-read-write-apply : (t : ℕ) → write-head-lts.Need-sha
 write-head-shared-slice-read-write-apply t c = omega (arith, write-head-apply t (c .before) .inside)
 
 write-head-write-apply-requires : (t : ℕ) → write-head-lts.Need-write-apply-requires (write-head-calls t) (write-head-at t) write-head.Post
-write-head-write-apply-requires t c κs =
-    let s = c .before .before .before .before .before .before .before .before .before in
-    let d = write-head-apply t (c .before .before) in
-    (omega (arith, s .pre .0, d .inside), (s .pre .1 .0, node-room d))
+write-head-write-apply-requires t c κs = node-asked (write-head-apply t (c .before .before)) (c .before .before .before .before .before .before .before .before .before .pre)
+
+write-head-ref : (t : ℕ) (c : write-head-lts.At-match-keys2 (write-head-calls t) (write-head-at t) write-head.Post) → Prefix (write-head-room t (c .before .before .before .before .before .before .before)) (ascii "&") (c .before .before .before .before .before .before .before .args .at + 1)
+write-head-ref t c = ref-prefix (write-head-room t (c .before .before .before .before .before .before .before)) (c .match .keys2)
 
 write-head-add-t28 : (t : ℕ) → write-head-lts.Need-add-t28 (write-head-calls t) (write-head-at t) write-head.Post
-write-head-add-t28 t c = omega (arith, room-here (write-head-room t (c .before .before .before .before .before .before .before)))
+write-head-add-t28 t c = omega (arith, write-head-ref t c .inside)
 
 write-head-slice-aggregate-put : (t : ℕ) → write-head-lts.Need-slice-aggregate-put (write-head-calls t) (write-head-at t) write-head.Post
 write-head-slice-aggregate-put t c = search needs
 
 write-head-put-requires : (t : ℕ) → write-head-lts.Need-put-requires (write-head-calls t) (write-head-at t) write-head.Post
 unfolding ascii
-write-head-put-requires t c κs = prefix-room (ref-prefix (write-head-room t (c .before .before .before .before .before .before .before .before .before)) (c .before .before .match .keys2))
+write-head-put-requires t c κs = prefix-room (write-head-ref t (c .before .before))
+
+write-head-mut : (t : ℕ) (c : write-head-lts.At-match-keys3 (write-head-calls t) (write-head-at t) write-head.Post) → Prefix (write-head-room t (c .before .before .before .before .before .before .before)) (ascii "&mut ") (c .before .before .before .before .before .before .before .args .at + 1)
+write-head-mut t c = mut-prefix (write-head-room t (c .before .before .before .before .before .before .before)) (c .match .keys3)
 
 write-head-add-t35 : (t : ℕ) → write-head-lts.Need-add-t35 (write-head-calls t) (write-head-at t) write-head.Post
-write-head-add-t35 t c = omega (arith, room-here (write-head-room t (c .before .before .before .before .before .before .before)))
+write-head-add-t35 t c = omega (arith, write-head-mut t c .inside)
 
 write-head-slice-aggregate-put-2 : (t : ℕ) → write-head-lts.Need-slice-aggregate-put-2 (write-head-calls t) (write-head-at t) write-head.Post
 write-head-slice-aggregate-put-2 t c = search needs
 
 write-head-put-requires-2 : (t : ℕ) → write-head-lts.Need-put-requires-2 (write-head-calls t) (write-head-at t) write-head.Post
 unfolding ascii
-write-head-put-requires-2 t c κs = prefix-room (mut-prefix (write-head-room t (c .before .before .before .before .before .before .before .before .before)) (c .before .before .match .keys3))
+write-head-put-requires-2 t c κs = prefix-room (write-head-mut t (c .before .before))
+
+write-head-impl : (t : ℕ) (c : write-head-lts.At-match-keys4 (write-head-calls t) (write-head-at t) write-head.Post) → Prefix (write-head-room t (c .before .before .before .before .before .before .before)) (ascii "impl ") (c .before .before .before .before .before .before .before .args .at + 1)
+write-head-impl t c = impl-prefix (write-head-room t (c .before .before .before .before .before .before .before)) (c .match .keys4)
 
 write-head-add-t42 : (t : ℕ) → write-head-lts.Need-add-t42 (write-head-calls t) (write-head-at t) write-head.Post
-write-head-add-t42 t c = omega (arith, room-here (write-head-room t (c .before .before .before .before .before .before .before)))
+write-head-add-t42 t c = omega (arith, write-head-impl t c .inside)
 
 write-head-slice-aggregate-put-3 : (t : ℕ) → write-head-lts.Need-slice-aggregate-put-3 (write-head-calls t) (write-head-at t) write-head.Post
 write-head-slice-aggregate-put-3 t c = search needs
 
 write-head-put-requires-3 : (t : ℕ) → write-head-lts.Need-put-requires-3 (write-head-calls t) (write-head-at t) write-head.Post
 unfolding ascii
-write-head-put-requires-3 t c κs = prefix-room (impl-prefix (write-head-room t (c .before .before .before .before .before .before .before .before .before)) (c .before .before .match .keys4))
+write-head-put-requires-3 t c κs = prefix-room (write-head-impl t (c .before .before))
+
+write-head-dyn : (t : ℕ) (c : write-head-lts.At-match-keys5 (write-head-calls t) (write-head-at t) write-head.Post) → Prefix (write-head-room t (c .before .before .before .before .before .before .before)) (ascii "dyn ") (c .before .before .before .before .before .before .before .args .at + 1)
+write-head-dyn t c = dyn-prefix (write-head-room t (c .before .before .before .before .before .before .before)) (c .match .keys5)
 
 write-head-add-t49 : (t : ℕ) → write-head-lts.Need-add-t49 (write-head-calls t) (write-head-at t) write-head.Post
-write-head-add-t49 t c = omega (arith, room-here (write-head-room t (c .before .before .before .before .before .before .before)))
+write-head-add-t49 t c = omega (arith, write-head-dyn t c .inside)
 
 write-head-slice-aggregate-put-4 : (t : ℕ) → write-head-lts.Need-slice-aggregate-put-4 (write-head-calls t) (write-head-at t) write-head.Post
 write-head-slice-aggregate-put-4 t c = search needs
 
 write-head-put-requires-4 : (t : ℕ) → write-head-lts.Need-put-requires-4 (write-head-calls t) (write-head-at t) write-head.Post
 unfolding ascii
-write-head-put-requires-4 t c κs = prefix-room (dyn-prefix (write-head-room t (c .before .before .before .before .before .before .before .before .before)) (c .before .before .match .keys5))
+write-head-put-requires-4 t c κs = prefix-room (write-head-dyn t (c .before .before))
 
 write-head-tuple : (t : ℕ) (c : write-head-lts.At-match-keys6 (write-head-calls t) (write-head-at t) write-head.Post) → WordNode (write-head-room t (c .before .before .before .before .before .before .before)) Tuple
 write-head-tuple t c = tuple-node (write-head-room t (c .before .before .before .before .before .before .before)) (c .match .keys6)
@@ -383,10 +393,7 @@ write-head-shared-slice-read-write-tuple : (t : ℕ) → write-head-lts.Need-sha
 write-head-shared-slice-read-write-tuple t c = omega (arith, write-head-tuple t (c .before) .inside)
 
 write-head-write-tuple-requires : (t : ℕ) → write-head-lts.Need-write-tuple-requires (write-head-calls t) (write-head-at t) write-head.Post
-write-head-write-tuple-requires t c κs =
-    let s = c .before .before .before .before .before .before .before .before .before in
-    let d = write-head-tuple t (c .before .before) in
-    (omega (arith, s .pre .0, d .inside), (s .pre .1 .0, node-room d))
+write-head-write-tuple-requires t c κs = node-asked (write-head-tuple t (c .before .before)) (c .before .before .before .before .before .before .before .before .before .pre)
 
 write-head-function : (t : ℕ) (c : write-head-lts.At-match-keys7 (write-head-calls t) (write-head-at t) write-head.Post) → WordNode (write-head-room t (c .before .before .before .before .before .before .before)) Function
 write-head-function t c = function-node (write-head-room t (c .before .before .before .before .before .before .before)) (c .match .keys7)
@@ -404,19 +411,16 @@ write-head-shared-slice-read-write-inputs : (t : ℕ) → write-head-lts.Need-sh
 write-head-shared-slice-read-write-inputs t c = omega (arith, write-head-function t (c .before) .inside)
 
 write-head-write-inputs-requires : (t : ℕ) → write-head-lts.Need-write-inputs-requires (write-head-calls t) (write-head-at t) write-head.Post
-write-head-write-inputs-requires t c κs =
-    let s = c .before .before .before .before .before .before .before .before .before in
-    let d = write-head-function t (c .before .before) in
-    (omega (arith, s .pre .0, d .inside), (s .pre .1 .0, node-room d))
+write-head-write-inputs-requires t c κs = node-asked (write-head-function t (c .before .before)) (c .before .before .before .before .before .before .before .before .before .pre)
+
+write-head-both : (t : ℕ) (c : write-head-lts.At-match-keys8 (write-head-calls t) (write-head-at t) write-head.Post) → Node (write-head-room t (c .before .before .before .before .before .before .before)) Both (c .before .before .before .before .before .before .before .args .at + 1)
+write-head-both t c = both-node (write-head-room t (c .before .before .before .before .before .before .before)) (c .match .keys8)
 
 write-head-add-write-left : (t : ℕ) → write-head-lts.Need-add-write-left (write-head-calls t) (write-head-at t) write-head.Post
-write-head-add-write-left t c = omega (arith, room-here (write-head-room t (c .before .before .before .before .before .before .before)))
+write-head-add-write-left t c = omega (arith, write-head-both t c .inside)
 
 write-head-write-left-requires : (t : ℕ) → write-head-lts.Need-write-left-requires (write-head-calls t) (write-head-at t) write-head.Post
-write-head-write-left-requires t c κs =
-    let s = c .before .before .before .before .before .before .before .before in
-    let d = both-node (write-head-room t s) (c .before .match .keys8) in
-    (omega (arith, s .pre .0, d .inside), (s .pre .1 .0, node-room d))
+write-head-write-left-requires t c κs = node-asked (write-head-both t (c .before)) (c .before .before .before .before .before .before .before .before .pre)
 
 write-head-array : (t : ℕ) (c : write-head-lts.At-match-keys9 (write-head-calls t) (write-head-at t) write-head.Post) → WordNode (write-head-room t (c .before .before .before .before .before .before .before)) ArrayOf
 write-head-array t c = array-node (write-head-room t (c .before .before .before .before .before .before .before)) (c .match .keys9)
@@ -437,19 +441,22 @@ write-head-write-array-requires : (t : ℕ) → write-head-lts.Need-write-array-
 write-head-write-array-requires t c κs =
     let s = c .before .before .before .before .before .before .before .before .before in
     let d = write-head-array t (c .before .before) in
-    (omega (arith, s .pre .0, d .inside), (array-size (write-head-room t s) (c .before .before .match .keys9), s .pre .1 .0, node-room d))
+    (node-falls d (s .pre .0), (array-size (write-head-room t s) (c .before .before .match .keys9), s .pre .1 .0, node-room d))
+
+write-head-synonym : (t : ℕ) (c : write-head-lts.At-match-keys10 (write-head-calls t) (write-head-at t) write-head.Post) → Node (write-head-room t (c .before .before .before .before .before .before .before)) Synonym (c .before .before .before .before .before .before .before .args .at + 1)
+write-head-synonym t c = synonym-node (write-head-room t (c .before .before .before .before .before .before .before)) (c .match .keys10)
 
 write-head-add-write-synonym : (t : ℕ) → write-head-lts.Need-add-write-synonym (write-head-calls t) (write-head-at t) write-head.Post
-write-head-add-write-synonym t c = omega (arith, room-here (write-head-room t (c .before .before .before .before .before .before .before)))
+write-head-add-write-synonym t c = omega (arith, write-head-synonym t c .inside)
 
 write-head-write-synonym-requires : (t : ℕ) → write-head-lts.Need-write-synonym-requires (write-head-calls t) (write-head-at t) write-head.Post
-write-head-write-synonym-requires t c κs =
-    let s = c .before .before .before .before .before .before .before .before in
-    let d = synonym-node (write-head-room t s) (c .before .match .keys10) in
-    (omega (arith, s .pre .0, d .inside), (s .pre .1 .0, node-room d))
+write-head-write-synonym-requires t c κs = node-asked (write-head-synonym t (c .before)) (c .before .before .before .before .before .before .before .before .pre)
+
+write-head-meta : (t : ℕ) (c : write-head-lts.At-match-rest (write-head-calls t) (write-head-at t) write-head.Post) → Prefix (write-head-room t (c .before .before .before .before .before .before .before)) [] (c .before .before .before .before .before .before .before .args .at + 2)
+write-head-meta t c = meta-prefix (write-head-room t (c .before .before .before .before .before .before .before)) (c .before .if1 .left) (c .match .rest)
 
 write-head-add-t88 : (t : ℕ) → write-head-lts.Need-add-t88 (write-head-calls t) (write-head-at t) write-head.Post
-write-head-add-t88 t c = omega (arith, meta-prefix (write-head-room t (c .before .before .before .before .before .before .before)) (c .before .if1 .left) (c .match .rest) .inside)
+write-head-add-t88 t c = omega (arith, write-head-meta t c .inside)
 
 write-head-same-length-2 : (t : ℕ) → write-head-lts.Need-same-length-2 (write-head-calls t) (write-head-at t) write-head.Post
 write-head-same-length-2 t c = search needs
@@ -462,28 +469,28 @@ write-head-same-length-3 t c = search needs
 
 write-head-returns-3 : (t : ℕ) → write-head-lts.Need-returns-3 (write-head-calls t) (write-head-at t) write-head.Post
 unfolding ascii
-write-head-returns-3 t c = prefix-done (ref-prefix (write-head-room t (c .before .before .before .before .before .before .before .before .before .before .before .before)) (c .before .before .before .before .before .match .keys2)) (c .before .before .put .ensures)
+write-head-returns-3 t c = prefix-done (write-head-ref t (c .before .before .before .before .before)) (c .before .before .put .ensures)
 
 write-head-same-length-4 : (t : ℕ) → write-head-lts.Need-same-length-4 (write-head-calls t) (write-head-at t) write-head.Post
 write-head-same-length-4 t c = search needs
 
 write-head-returns-4 : (t : ℕ) → write-head-lts.Need-returns-4 (write-head-calls t) (write-head-at t) write-head.Post
 unfolding ascii
-write-head-returns-4 t c = prefix-done (mut-prefix (write-head-room t (c .before .before .before .before .before .before .before .before .before .before .before .before)) (c .before .before .before .before .before .match .keys3)) (c .before .before .put2 .ensures)
+write-head-returns-4 t c = prefix-done (write-head-mut t (c .before .before .before .before .before)) (c .before .before .put2 .ensures)
 
 write-head-same-length-5 : (t : ℕ) → write-head-lts.Need-same-length-5 (write-head-calls t) (write-head-at t) write-head.Post
 write-head-same-length-5 t c = search needs
 
 write-head-returns-5 : (t : ℕ) → write-head-lts.Need-returns-5 (write-head-calls t) (write-head-at t) write-head.Post
 unfolding ascii
-write-head-returns-5 t c = prefix-done (impl-prefix (write-head-room t (c .before .before .before .before .before .before .before .before .before .before .before .before)) (c .before .before .before .before .before .match .keys4)) (c .before .before .put3 .ensures)
+write-head-returns-5 t c = prefix-done (write-head-impl t (c .before .before .before .before .before)) (c .before .before .put3 .ensures)
 
 write-head-same-length-6 : (t : ℕ) → write-head-lts.Need-same-length-6 (write-head-calls t) (write-head-at t) write-head.Post
 write-head-same-length-6 t c = search needs
 
 write-head-returns-6 : (t : ℕ) → write-head-lts.Need-returns-6 (write-head-calls t) (write-head-at t) write-head.Post
 unfolding ascii
-write-head-returns-6 t c = prefix-done (dyn-prefix (write-head-room t (c .before .before .before .before .before .before .before .before .before .before .before .before)) (c .before .before .before .before .before .match .keys5)) (c .before .before .put4 .ensures)
+write-head-returns-6 t c = prefix-done (write-head-dyn t (c .before .before .before .before .before)) (c .before .before .put4 .ensures)
 
 write-head-same-length-7 : (t : ℕ) → write-head-lts.Need-same-length-7 (write-head-calls t) (write-head-at t) write-head.Post
 write-head-same-length-7 t c = search needs
@@ -501,7 +508,7 @@ write-head-same-length-9 : (t : ℕ) → write-head-lts.Need-same-length-9 (writ
 write-head-same-length-9 t c = search needs
 
 write-head-returns-9 : (t : ℕ) → write-head-lts.Need-returns-9 (write-head-calls t) (write-head-at t) write-head.Post
-write-head-returns-9 t c = node-front (both-node (write-head-room t (c .before .before .before .before .before .before .before .before .before .before .before)) (c .before .before .before .before .match .keys8)) (c .before .before .write-left .ensures)
+write-head-returns-9 t c = node-front (write-head-both t (c .before .before .before .before)) (c .before .before .write-left .ensures)
 
 write-head-same-length-10 : (t : ℕ) → write-head-lts.Need-same-length-10 (write-head-calls t) (write-head-at t) write-head.Post
 write-head-same-length-10 t c = search needs
@@ -513,10 +520,10 @@ write-head-same-length-11 : (t : ℕ) → write-head-lts.Need-same-length-11 (wr
 write-head-same-length-11 t c = search needs
 
 write-head-returns-11 : (t : ℕ) → write-head-lts.Need-returns-11 (write-head-calls t) (write-head-at t) write-head.Post
-write-head-returns-11 t c = node-whole (synonym-node (write-head-room t (c .before .before .before .before .before .before .before .before .before .before .before)) (c .before .before .before .before .match .keys10)) (c .before .before .write-synonym .ensures)
+write-head-returns-11 t c = node-whole (write-head-synonym t (c .before .before .before .before)) (c .before .before .write-synonym .ensures)
 
 write-head-returns-12 : (t : ℕ) → write-head-lts.Need-returns-12 (write-head-calls t) (write-head-at t) write-head.Post
-write-head-returns-12 t c = prefix-done (meta-prefix (write-head-room t (c .before .before .before .before .before .before .before)) (c .before .if1 .left) (c .match .rest)) (wrote-nothing _ _)
+write-head-returns-12 t c = prefix-done (write-head-meta t c) (wrote-nothing _ _)
 
 write-inputs-room : (t : ℕ) (s : write-inputs-lts.Start (write-inputs-calls t) (write-inputs-at t) write-inputs.Post) → NodeRoom (s .args .words .now) (s .args .pairs .now) (s .args .text .now) (Function (s .args .n)) (s .args .at) (s .args .out .now) (s .args .pos)
 write-inputs-room t s = record { there = s .pre .1 .1 }
@@ -648,7 +655,7 @@ write-part-shared-slice-read-put-name t c = omega (arith, name-there (write-part
 write-part-put-name-requires : (t : ℕ) → write-part-lts.Need-put-name-requires (write-part-calls t) (write-part-at t) write-part.Post
 write-part-put-name-requires t c κs =
     let s = c .before .before .before .before .before .before .before .before in
-    (name-there (write-part-room t s) (c .before .before .if1 .taken) .below, s .pre .1 .0, leaf-room (name-leaf (write-part-room t s) (c .before .before .if1 .taken)))
+    name-asked (write-part-room t s) (c .before .before .if1 .taken) (s .pre .1 .0)
 
 write-part-same-length : (t : ℕ) → write-part-lts.Need-same-length (write-part-calls t) (write-part-at t) write-part.Post
 write-part-same-length t c = search needs
@@ -660,7 +667,7 @@ write-part-add-t21 : (t : ℕ) → write-part-lts.Need-add-t21 (write-part-calls
 write-part-add-t21 t c = omega (arith, room-here (write-part-room t (c .before .before .before .before .before .before .before)))
 
 write-part-put-primitive-requires : (t : ℕ) → write-part-lts.Need-put-primitive-requires (write-part-calls t) (write-part-at t) write-part.Post
-write-part-put-primitive-requires t c κs = (c .before .if2 .taken, leaf-room (plain-leaf (write-part-room t (c .before .before .before .before .before .before .before .before)) (c .before .if2 .taken)))
+write-part-put-primitive-requires t c κs = plain-asked (write-part-room t (c .before .before .before .before .before .before .before .before)) (c .before .if2 .taken)
 
 write-part-same-length-2 : (t : ℕ) → write-part-lts.Need-same-length-2 (write-part-calls t) (write-part-at t) write-part.Post
 write-part-same-length-2 t c = search needs

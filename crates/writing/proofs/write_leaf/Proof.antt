@@ -1,4 +1,4 @@
-use Rattle.writing.proofs.Rooms.{TypeRoom, room-here, plain-leaf, name-there, name-leaf, leaf-room, leaf-done}
+use Rattle.writing.proofs.Rooms.{TypeRoom, room-here, plain-leaf, name-there, name-leaf, leaf-done, name-asked, plain-asked}
 use native.Mathlib.Omega.{arith}
 use borrow.Author.Needs.{needs}
 use Rattle.writing.proofs.write_leaf.Statement.{statement}
@@ -17,7 +17,7 @@ add-t12 : tie.Need-add-t12
 add-t12 c = omega (arith, room-here (room (c .before .before .before .before .before .before)))
 
 put-primitive-requires : tie.Need-put-primitive-requires
-put-primitive-requires c κs = (c .before .if1 .taken, leaf-room (plain-leaf (room (c .before .before .before .before .before .before .before)) (c .before .if1 .taken)))
+put-primitive-requires c κs = plain-asked (room (c .before .before .before .before .before .before .before)) (c .before .if1 .taken)
 
 same-length : tie.Need-same-length
 same-length c = search needs
@@ -40,7 +40,7 @@ shared-slice-read-put-name c = omega (arith, name-there (room (c .before .before
 put-name-requires : tie.Need-put-name-requires
 put-name-requires c κs =
     let s = c .before .before .before .before .before .before .before .before .before in
-    (name-there (room s) (c .before .before .if2 .taken) .below, s .pre .1, leaf-room (name-leaf (room s) (c .before .before .if2 .taken)))
+    name-asked (room s) (c .before .before .if2 .taken) (s .pre .1)
 
 same-length-2 : tie.Need-same-length-2
 same-length-2 c = search needs
