@@ -42,7 +42,7 @@ use Rattle.laying.specs.declared.Place.{Place}
 use Rattle.laying.specs.declared.Place.the-variants.{At, Stopped}
 use Rattle.laying.specs.Passes.{Chain, last, _then_, run, Ready, Came, Went, Counts, came}
 use Rattle.laying.specs.Texts.{visibilityAt, nameAt, typeTextAt, docAt}
-use Rattle.laying.proofs.Passes.{Runs, AlongChain, came-as, came-at, came-bytes, chain-fits, chain-laid, chain-start, counts-bytes, last-came, last-ready, ready-as, ready-bytes, stops-here, went-last, went-runs, went-then}
+use Rattle.laying.proofs.Passes.{Runs, AlongChain, came-as, came-at, came-bytes, chain-fits, chain-laid, chain-start, counts-bytes, last-came, last-ready, ready-as, ready-bytes, stops-here, went-as, went-last, went-runs, went-then}
 use Rattle.laying.proofs.Splits.{map-made, text-before, counted-got, counted-none, counted-stop}
 
 -- ---- what a scan says
@@ -178,6 +178,14 @@ module _ (deep : ℕ) (ws pairs : List ℕ) (text : Bytes) (at : ℕ) where
   pub named-text : at < length ws → getD ws at 0 ≡ 12 → textWithin (suc deep) ws pairs text at ≡ nameAt ws pairs text (at + 1)
   unfolding readType readName headAfter
   named-text h k = rw (head-at (nameCount pairs) ws at h, k) (name-map ws (nameBytes pairs text) (readType (nameCount pairs) ws (nameBytes pairs text) deep) (readBelow (nameCount pairs) ws (at + 1)))
+
+  -- counted by the length of a plain type, or as a name
+  pub plain-counts : {p l q : ℕ} → at < length ws → getD ws at 0 < 12 → l ≡ length (Primitive·ToString (getD primitives (getD ws at 0) U8)) → clamp q ≡ clamp (p + l)
+      → Came false [] p (textWithin (suc deep) ws pairs text at) [] (at + 1) q
+  plain-counts {p} h k e c = came-as (sym (plain-text h k)) (counts-bytes (c ∙ ap (λ (n : ℕ). clamp (p + n)) e))
+
+  pub named-counts : {p : ℕ} {r : Place} → at < length ws → getD ws at 0 ≡ 12 → Counts p (nameAt ws pairs text (at + 1)) r → Counts p (textWithin (suc deep) ws pairs text at) r
+  named-counts h k w = went-as (sym (named-text h k)) w
 
 -- ---- borrows
 
