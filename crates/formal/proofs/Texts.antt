@@ -22,7 +22,7 @@ use Rattle.encoding.specs.Tested.{Good, nameLength}
 use Rattle.encoding.specs.Types.{typeAt}
 use Rattle.encoding.specs.Declarations.{readName, readFormal}
 use Rattle.encoding.proofs.Tables.{impossible, name-length}
-use Rattle.encoding.proofs.Reading.{map-got}
+use Rattle.encoding.proofs.Reading.{map-got, map-stop}
 use Rattle.writing.specs.declared.Spot.{Spot}
 use Rattle.writing.specs.declared.Part.{Part}
 use Rattle.writing.specs.declared.Part.the-variants.{Rest, Done}
@@ -30,7 +30,7 @@ use Rattle.writing.specs.Written.{Readable}
 use Rattle.laying.specs.Passes.{last, _then_, run, Ready, Came, Along}
 use Rattle.laying.specs.Texts.{typeTextAt}
 use Rattle.laying.proofs.Passes.{Runs, ReadyChain, came-bytes, counts-bytes, ready-count, ready-runs, ready-last, ready-next, went-runs, went-last, went-then}
-use Rattle.laying.proofs.Leaves.{BelowThere, below-of}
+use Rattle.laying.proofs.Leaves.{BelowThere, below-of, read-of}
 use Rattle.laying.proofs.Splits.{map-made}
 use Rattle.formal.specs.declared.Label.{Label}
 use Rattle.formal.specs.declared.Label.the-variants.{Open, Whole, NoLabel}
@@ -193,14 +193,9 @@ module _ (ws pairs : List ℕ) (text : Bytes) (x at : ℕ) where
 
 -- ---- a field that was accepted
 
-made-of : {A : Type 0} (f : A → Bytes) (y : Reading A) {b : Bytes} {n : ℕ} → mapReading f y ≡ got b n → Readable y
-unfolding mapReading
-made-of f (got a m) e = record { value = a; end = m; reads = refl }
-made-of f (stop k) e = impossible (cc)
-
 module _ (ws pairs : List ℕ) (text : Bytes) {o : List ℕ} {pos : ℕ} where
   pub type-read : (x at : ℕ) → Ready true o pos (formalOf ws pairs text x at) → Readable (typeAt ws pairs text at)
-  type-read x at r = made-of (λ t. Formal·ToString (formal (nameBytes pairs text x) t)) (typeAt ws pairs text at) (r .room refl .reads)
+  type-read x at r = read-of (typeAt ws pairs text at) (formalOf ws pairs text x at) (λ k e. map-stop (λ t. Formal·ToString (formal (nameBytes pairs text x) t)) e) r
 
   pub formal-there : (at : ℕ) → Ready true o pos (formalAt ws pairs text at) → BelowThere (nameCount pairs) ws at
   formal-there at r = below-of (nameCount pairs) ws at (formalAt ws pairs text at) (λ k e. formal-stop ws pairs text at e) r
