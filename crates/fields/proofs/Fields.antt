@@ -12,7 +12,9 @@ use Rattle.rast.specs.ToString.{Type·ToString}
 use Rattle.rast.specs.Indent.{IND, indent, SeqToString}
 use Rattle.rast.specs.Declaration.{NamedFields, NamelessFields}
 use Rattle.rast.specs.DeclarationToString.{Visibility·ToString, Formal·ToString, Field·ToString, NamelessField·ToString, separatorText, beginSpace, endSpace, Fields·ToString}
+use Rattle.output.specs.Wrote.{Wrote}
 use Rattle.output.specs.Laid.{clamp, Laid}
+use Rattle.output.proofs.Laws.{wrote-as}
 use Rattle.output.proofs.Passes.{laid-counted}
 use Rattle.doc.proofs.Laying.{indent-length, line-size}
 use Rattle.encoding.specs.Reading.{Reading, got}
@@ -63,8 +65,12 @@ laid-size {p} c e = laid-counted refl (c ∙ ap (λ (m : ℕ). clamp (p + m)) e)
 pub size-of : {A : Type 0} (f : A → Bytes) {a b : A} {n : ℕ} → a ≡ b → length (f b) ≡ n → n ≡ length (f a)
 size-of {A} f e d = sym d ∙ ap (λ (c : A). length (f c)) (sym e)
 
-pub room-as : (p : ℕ) (o : List ℕ) {b c : Bytes} → b ≡ c → p + length b ≤ length o → p + length c ≤ length o
-room-as p o e h = subst (λ (x : Bytes). p + length x ≤ length o) e h
+-- the room for a text, and that it is written, likewise
+pub room-of : {A : Type 0} (f : A → Bytes) (p : ℕ) (o : List ℕ) {a b : A} → a ≡ b → p + length (f a) ≤ length o → p + length (f b) ≤ length o
+room-of {A} f p o e h = subst (λ (c : A). p + length (f c) ≤ length o) e h
+
+pub wrote-of : {A : Type 0} (f : A → Bytes) {o o′ : List ℕ} {p p′ : ℕ} {a b : A} → a ≡ b → Wrote o p (f b) o′ p′ → Wrote o p (f a) o′ p′
+wrote-of f e w = wrote-as (ap f (sym e)) w
 
 -- what was left of a text is written: so is the text
 pub along-came : {o o₁ o₂ : List ℕ} {p p₁ n q : ℕ} {whole left : Reading Bytes} → Along true o p whole o₁ p₁ left → Came true o₁ p₁ left o₂ n q → Came true o p whole o₂ n q

@@ -25,6 +25,7 @@ use Rattle.encoding.proofs.Types.{type-end}
 use Rattle.encoding.proofs.TypeKinds.{kind, type-kind}
 use Rattle.writing.proofs.Accepted.{name-type, path-there, path-type}
 use Rattle.wrappers.specs.Asked.{Judges, ExpandsAt}
+use Rattle.wrappers.proofs.Expanding.{expand-bare}
 use Rattle.wrappers.proofs.TypesIn.{ref-of, mut-of}
 use Rattle.formal.specs.declared.Receiver.{Receiver}
 use Rattle.formal.specs.declared.Receiver.the-variants.{ByValue, ByRef, ByMut, Typed}
@@ -32,77 +33,35 @@ use Rattle.formal.specs.Receivers.{receiverOf, isReceiver, NoReceiver, B
 
 -- ---- a type of another kind
 
-owned-other : (t : Ty Bytes) → (kind t ≡ 13 → ⊥) → isSelfOwned t ≡ false
-unfolding isSelfOwned
-owned-other (Primitive p) h = refl
-owned-other (TIdentifier x) h = refl
-owned-other (TypeFromPath p) h = absurd (h refl)
-owned-other (TypeApp b ts) h = refl
-owned-other (Borrowed t) h = refl
-owned-other (BorrowedMut t) h = refl
-owned-other (ImplType t) h = refl
-owned-other (DynType t) h = refl
-owned-other (TupleType ts) h = refl
-owned-other (FnType ts t) h = refl
-owned-other (IntersectionType l r) h = refl
-owned-other (Array t s) h = refl
-owned-other (TSynonym d b) h = refl
-owned-other (TMetaData d c o) h = refl
-
-borrows-other : (t : Ty Bytes) → ((kind t ≡ 15 → ⊥) → isSelfBorrowed t ≡ false) × ((kind t ≡ 16 → ⊥) → isSelfBorrowedMut t ≡ false)
-unfolding isSelfBorrowed isSelfBorrowedMut
-borrows-other (Primitive p) = (λ h. refl, λ h. refl)
-borrows-other (TIdentifier x) = (λ h. refl, λ h. refl)
-borrows-other (TypeFromPath p) = (λ h. refl, λ h. refl)
-borrows-other (TypeApp b ts) = (λ h. refl, λ h. refl)
-borrows-other (Borrowed t) = (λ h. absurd (h refl), λ h. refl)
-borrows-other (BorrowedMut t) = (λ h. refl, λ h. absurd (h refl))
-borrows-other (ImplType t) = (λ h. refl, λ h. refl)
-borrows-other (DynType t) = (λ h. refl, λ h. refl)
-borrows-other (TupleType ts) = (λ h. refl, λ h. refl)
-borrows-other (FnType ts t) = (λ h. refl, λ h. refl)
-borrows-other (IntersectionType l r) = (λ h. refl, λ h. refl)
-borrows-other (Array t s) = (λ h. refl, λ h. refl)
-borrows-other (TSynonym d b) = (λ h. refl, λ h. refl)
-borrows-other (TMetaData d c o) = (λ h. refl, λ h. refl)
+other-kind : (t : Ty Bytes) → ((kind t ≡ 12 → ⊥) → isUnderscore t ≡ false) × ((kind t ≡ 13 → ⊥) → isSelfOwned t ≡ false) × ((kind t ≡ 15 → ⊥) → isSelfBorrowed t ≡ false) × ((kind t ≡ 16 → ⊥) → isSelfBorrowedMut t ≡ false)
+unfolding isUnderscore isSelfOwned isSelfBorrowed isSelfBorrowedMut
+other-kind (Primitive p) = (λ h. refl, λ h. refl, λ h. refl, λ h. refl)
+other-kind (TIdentifier x) = (λ h. absurd (h refl), λ h. refl, λ h. refl, λ h. refl)
+other-kind (TypeFromPath p) = (λ h. refl, λ h. absurd (h refl), λ h. refl, λ h. refl)
+other-kind (TypeApp b ts) = (λ h. refl, λ h. refl, λ h. refl, λ h. refl)
+other-kind (Borrowed t) = (λ h. refl, λ h. refl, λ h. absurd (h refl), λ h. refl)
+other-kind (BorrowedMut t) = (λ h. refl, λ h. refl, λ h. refl, λ h. absurd (h refl))
+other-kind (ImplType t) = (λ h. refl, λ h. refl, λ h. refl, λ h. refl)
+other-kind (DynType t) = (λ h. refl, λ h. refl, λ h. refl, λ h. refl)
+other-kind (TupleType ts) = (λ h. refl, λ h. refl, λ h. refl, λ h. refl)
+other-kind (FnType ts t) = (λ h. refl, λ h. refl, λ h. refl, λ h. refl)
+other-kind (IntersectionType l r) = (λ h. refl, λ h. refl, λ h. refl, λ h. refl)
+other-kind (Array t s) = (λ h. refl, λ h. refl, λ h. refl, λ h. refl)
+other-kind (TSynonym d b) = (λ h. refl, λ h. refl, λ h. refl, λ h. refl)
+other-kind (TMetaData d c o) = (λ h. refl, λ h. refl, λ h. refl, λ h. refl)
 
 borrowed-other : {k : ℕ} → BorrowKind k → (t : Ty Bytes) → (kind t ≡ k → ⊥) → isSelfBorrowedAs k t ≡ false
-borrowed-other shared t h = borrows-other t .0 h
-borrowed-other mutable t h = borrows-other t .1 h
-
-underscore-other : (t : Ty Bytes) → (kind t ≡ 12 → ⊥) → isUnderscore t ≡ false
-unfolding isUnderscore
-underscore-other (Primitive p) h = refl
-underscore-other (TIdentifier x) h = absurd (h refl)
-underscore-other (TypeFromPath p) h = refl
-underscore-other (TypeApp b ts) h = refl
-underscore-other (Borrowed t) h = refl
-underscore-other (BorrowedMut t) h = refl
-underscore-other (ImplType t) h = refl
-underscore-other (DynType t) h = refl
-underscore-other (TupleType ts) h = refl
-underscore-other (FnType ts t) h = refl
-underscore-other (IntersectionType l r) h = refl
-underscore-other (Array t s) h = refl
-underscore-other (TSynonym d b) h = refl
-underscore-other (TMetaData d c o) h = refl
+borrowed-other shared t h = other-kind t .2 h
+borrowed-other mutable t h = other-kind t .3 h
 
 leaf-other : (b : Bytes) (t : Ty Bytes) → kind t < 13 → isReceiver b t ≡ false
-unfolding isReceiver Expand isSelfOwned isSelfBorrowed isSelfBorrowedMut
-leaf-other b (Primitive p) h = and-false (same b (ascii "self"))
-leaf-other b (TIdentifier x) h = and-false (same b (ascii "self"))
-leaf-other b (TypeFromPath p) h = absurd (let z : ⊥ = omega arith in z)
-leaf-other b (TypeApp c ts) h = absurd (let z : ⊥ = omega arith in z)
-leaf-other b (Borrowed t) h = absurd (let z : ⊥ = omega arith in z)
-leaf-other b (BorrowedMut t) h = absurd (let z : ⊥ = omega arith in z)
-leaf-other b (ImplType t) h = absurd (let z : ⊥ = omega arith in z)
-leaf-other b (DynType t) h = absurd (let z : ⊥ = omega arith in z)
-leaf-other b (TupleType ts) h = absurd (let z : ⊥ = omega arith in z)
-leaf-other b (FnType ts t) h = absurd (let z : ⊥ = omega arith in z)
-leaf-other b (IntersectionType l r) h = absurd (let z : ⊥ = omega arith in z)
-leaf-other b (Array t s) h = absurd (let z : ⊥ = omega arith in z)
-leaf-other b (TSynonym d c) h = absurd (let z : ⊥ = omega arith in z)
-leaf-other b (TMetaData d c o) h = absurd (let z : ⊥ = omega arith in z)
+unfolding isReceiver
+leaf-other b t h =
+    let e = expand-bare t (λ k. omega arith) (λ k. omega arith) in
+    let owned = other-kind t .1 (λ k. omega arith) in
+    let borrowed = other-kind t .2 (λ k. omega arith) in
+    let mutably = other-kind t .3 (λ k. omega arith) in
+    rw (e, owned, borrowed, mutably) (and-false (same b (ascii "self")))
 
 -- ---- a path that is `Self`: no other root, and no names
 
@@ -140,7 +99,7 @@ module _ (ws pairs : List ℕ) (text : Bytes) (at : ℕ) where
   x = typeAt ws pairs text at
 
   pub not-path : (getD ws at 0 ≡ 13 → ⊥) → Judges isSelfOwned x false
-  not-path h = record { says = λ t n e. sym (owned-other t (λ k. h (sym (type-kind ws pairs text at e) ∙ k))) }
+  not-path h = record { says = λ t n e. sym (other-kind t .1 (λ k. h (sym (type-kind ws pairs text at e) ∙ k))) }
 
   pub not-self : getD ws at 0 ≡ 13 → (getD ws (at + 1) 0 ≡ 2 → ⊥) → Judges isSelfOwned x false
   unfolding isSelfOwned
@@ -197,7 +156,7 @@ module _ (ws pairs : List ℕ) (text : Bytes) (at : ℕ) where
 
   pub tells-other : (getD ws at 0 ≡ 12 → ⊥) → Tells x at false
   tells-other h = record {
-    says = λ t n e. sym (underscore-other t (λ k. h (sym (type-kind ws pairs text at e) ∙ k)));
+    says = λ t n e. sym (other-kind t .0 (λ k. h (sym (type-kind ws pairs text at e) ∙ k)));
     there = λ d. impossible (cc);
   }
 

@@ -4,7 +4,7 @@ use mathlib.Core.Path.{_≡_, refl, ap, sym, _∙_, subst}
 use mathlib.Core.Bool.{Bool, true, false}
 use mathlib.Core.List.{List, [], _++_, append-assoc}
 use native.Mathlib.Omega.{arith}
-use lib.ListN.{length, getD}
+use lib.ListN.{length}
 use Rattle.rast.specs.Bytes.{Bytes, ascii, same, _and_, _or_}
 use Rattle.rast.specs.Tree.{Ty, TIdentifier}
 use Rattle.rast.specs.ToString.{Type·ToString}
@@ -22,9 +22,7 @@ use Rattle.encoding.specs.Tested.{Good, nameLength}
 use Rattle.encoding.specs.Types.{typeAt}
 use Rattle.encoding.specs.Declarations.{readName, readFormal}
 use Rattle.encoding.proofs.Tables.{impossible, name-length}
-use Rattle.encoding.proofs.Types.{bind-got}
-use Rattle.encoding.proofs.Inside.{below-there}
-use Rattle.encoding.proofs.Reading.{map-got}
+use Rattle.encoding.proofs.Reading.{map-got, map-stop}
 use Rattle.writing.specs.declared.Spot.{Spot}
 use Rattle.writing.specs.declared.Part.{Part}
 use Rattle.writing.specs.declared.Part.the-variants.{Rest, Done}
@@ -32,6 +30,7 @@ use Rattle.writing.specs.Written.{Readable}
 use Rattle.laying.specs.Passes.{last, _then_, run, Ready, Came, Along}
 use Rattle.laying.specs.Texts.{typeTextAt}
 use Rattle.laying.proofs.Passes.{Runs, ReadyChain, came-bytes, counts-bytes, ready-count, ready-runs, ready-last, ready-next, went-runs, went-last, went-then}
+use Rattle.laying.proofs.Leaves.{BelowThere, below-of, read-of}
 use Rattle.laying.proofs.Splits.{map-made}
 use Rattle.formal.specs.declared.Label.{Label}
 use Rattle.formal.specs.declared.Label.the-variants.{Open, Whole, NoLabel}
@@ -194,23 +193,12 @@ module _ (ws pairs : List ℕ) (text : Bytes) (x at : ℕ) where
 
 -- ---- a field that was accepted
 
-made-of : {A : Type 0} (f : A → Bytes) (y : Reading A) {b : Bytes} {n : ℕ} → mapReading f y ≡ got b n → Readable y
-unfolding mapReading
-made-of f (got a m) e = record { value = a; end = m; reads = refl }
-made-of f (stop k) e = impossible (cc)
-
 module _ (ws pairs : List ℕ) (text : Bytes) {o : List ℕ} {pos : ℕ} where
   pub type-read : (x at : ℕ) → Ready true o pos (formalOf ws pairs text x at) → Readable (typeAt ws pairs text at)
-  type-read x at r = made-of (λ t. Formal·ToString (formal (nameBytes pairs text x) t)) (typeAt ws pairs text at) (r .room refl .reads)
+  type-read x at r = read-of (typeAt ws pairs text at) (formalOf ws pairs text x at) (λ k e. map-stop (λ t. Formal·ToString (formal (nameBytes pairs text x) t)) e) r
 
-  pub name-read : (at : ℕ) → Ready true o pos (formalAt ws pairs text at) → readBelow (nameCount pairs) ws at ≡ got (getD ws at 0) (at + 1)
-  unfolding readFormal readName
-  name-read at r =
-      let m = made-of Formal·ToString (readFormal (nameCount pairs) ws (nameBytes pairs text) (typeAt ws pairs text) at) (r .room refl .reads) in
-      let d = bind-got (readName (nameCount pairs) ws (nameBytes pairs text) (typeAt ws pairs text) at) _ (m .reads) in
-      let e = bind-got (readBelow (nameCount pairs) ws at) _ (d .first) in
-      let w = below-there (nameCount pairs) ws at (e .first) in
-      e .first ∙ cc (w .same, w .next)
+  pub formal-there : (at : ℕ) → Ready true o pos (formalAt ws pairs text at) → BelowThere (nameCount pairs) ws at
+  formal-there at r = below-of (nameCount pairs) ws at (formalAt ws pairs text at) (λ k e. formal-stop ws pairs text at e) r
 
 -- ---- how far a field was counted
 

@@ -4,8 +4,8 @@ use mathlib.Core.Path.{_≡_, refl, ap, sym, _∙_, subst}
 use mathlib.Core.Bool.{Bool, true, false}
 use mathlib.Core.List.{List, []}
 use native.Mathlib.Omega.{arith}
-use borrow.Author.Tests.{eq-eqb, ne-eqb, leb-true, ltb-true, ltb-false}
-use lib.Dec.{leb, ltb}
+use borrow.Author.Tests.{eq-eqb, ne-eqb, leb-true}
+use lib.Dec.{leb}
 use lib.ListN.{length, getD}
 use Rattle.rast.specs.Bytes.{Bytes, ascii, _and_}
 use Rattle.rast.specs.Tree.{U8, Ty, Borrowed}
@@ -37,12 +37,13 @@ use Rattle.measure.specs.declared.Measure.the-variants.{Measured, Stopped as Re
 use Rattle.measure.specs.Lengths.{measureOf}
 use Rattle.measure.proofs.Measured.{measured-got, measured-stop}
 use Rattle.writing.specs.declared.Spot.{Spot}
-use Rattle.writing.specs.Written.{Room, Written}
+use Rattle.writing.specs.Written.{Readable, Room, Written}
+use Rattle.writing.proofs.Accepted.{type-here}
 use Rattle.laying.specs.declared.Place.{Place}
 use Rattle.laying.specs.declared.Place.the-variants.{At, Stopped}
 use Rattle.laying.specs.Passes.{Chain, last, _then_, run, Ready, Came, Went, Counts, came}
 use Rattle.laying.specs.Texts.{visibilityAt, nameAt, typeTextAt, docAt}
-use Rattle.laying.proofs.Passes.{Runs, AlongChain, came-as, came-at, came-bytes, chain-fits, chain-laid, chain-start, counts-bytes, last-came, last-ready, ready-as, ready-bytes, stops-here, went-last, went-runs, went-then}
+use Rattle.laying.proofs.Passes.{Runs, AlongChain, came-as, came-at, came-bytes, chain-fits, chain-laid, chain-start, counts-bytes, last-came, last-ready, ready-as, ready-bytes, stops-here, went-as, went-last, went-runs, went-then}
 use Rattle.laying.proofs.Splits.{map-made, text-before, counted-got, counted-none, counted-stop}
 
 -- ---- what a scan says
@@ -73,28 +74,26 @@ module _ (ws pairs : List ℕ) (text : Bytes) (at : ℕ) where
 
 -- ---- what was accepted is there
 
--- a word below b, which a text that was accepted is made of
+-- what a text that was accepted is made of: where that is refused, so is the text
+pub read-of : {A : Type 0} (y : Reading A) {o : List ℕ} {p : ℕ} (x : Reading Bytes) → ((k : Refusal) → y ≡ stop k → x ≡ stop k) → Ready true o p x → Readable y
+read-of (got a n) x stops r = record { value = a; end = n; reads = refl }
+read-of (stop k) x stops r = impossible (let e = stops k refl in let d = r .room refl .reads in cc)
+
+-- a word below b
 pub record BelowThere (b : ℕ) (ws : List ℕ) (at : ℕ) : Type 0 where
   pub here : at < length ws
   pub below : getD ws at 0 < b
   pub reads : readBelow b ws at ≡ got (getD ws at 0) (at + 1)
 
 pub below-of : (b : ℕ) (ws : List ℕ) (at : ℕ) {o : List ℕ} {p : ℕ} (x : Reading Bytes) → ((k : Refusal) → readBelow b ws at ≡ stop k → x ≡ stop k) → Ready true o p x → BelowThere b ws at
-below-of b ws at x stops r = go (readBelow b ws at) refl (r .room refl .reads)
-  where
-    go : {v : Bytes} {n : ℕ} (y : Reading ℕ) → readBelow b ws at ≡ y → x ≡ got v n → BelowThere b ws at
-    go (got w m) e d =
-        let t = below-there b ws at e in
-        record { here = t .here; below = subst (λ (z : ℕ). z < b) (t .same) (t .below); reads = e ∙ ap (λ (z : ℕ). got z m) (t .same) ∙ ap (got (getD ws at 0)) (t .next) }
-    go (stop k) e d = impossible (let c = stops k e in cc)
+below-of b ws at x stops r =
+    let m = read-of (readBelow b ws at) x stops r in
+    let t = below-there b ws at (m .reads) in
+    record { here = t .here; below = subst (λ (z : ℕ). z < b) (t .same) (t .below); reads = m .reads ∙ ap (λ (z : ℕ). got z (m .end)) (t .same) ∙ ap (got (getD ws at 0)) (t .next) }
 
--- and any word
+-- any word
 pub word-of : (ws : List ℕ) (at : ℕ) {o : List ℕ} {p : ℕ} (x : Reading Bytes) → ((k : Refusal) → readWord ws at ≡ stop k → x ≡ stop k) → Ready true o p x → at < length ws
-word-of ws at x stops r = go (readWord ws at) refl (r .room refl .reads)
-  where
-    go : {v : Bytes} {n : ℕ} (y : Reading ℕ) → readWord ws at ≡ y → x ≡ got v n → at < length ws
-    go (got w m) e d = word-there ws at e .here
-    go (stop k) e d = impossible (let c = stops k e in cc)
+word-of ws at x stops r = word-there ws at (read-of (readWord ws at) x stops r .reads) .here
 
 module _ (ws pairs : List ℕ) (text : Bytes) (at : ℕ) {o : List ℕ} {p : ℕ} where
   pub name-there : Ready true o p (nameAt ws pairs text at) → BelowThere (nameCount pairs) ws at
@@ -179,6 +178,14 @@ module _ (deep : ℕ) (ws pairs : List ℕ) (text : Bytes) (at : ℕ) where
   unfolding readType readName headAfter
   named-text h k = rw (head-at (nameCount pairs) ws at h, k) (name-map ws (nameBytes pairs text) (readType (nameCount pairs) ws (nameBytes pairs text) deep) (readBelow (nameCount pairs) ws (at + 1)))
 
+  -- counted by the length of a plain type, or as a name
+  pub plain-counts : {p l q : ℕ} → at < length ws → getD ws at 0 < 12 → l ≡ length (Primitive·ToString (getD primitives (getD ws at 0) U8)) → clamp q ≡ clamp (p + l)
+      → Came false [] p (textWithin (suc deep) ws pairs text at) [] (at + 1) q
+  plain-counts {p} h k e c = came-as (sym (plain-text h k)) (counts-bytes (c ∙ ap (λ (n : ℕ). clamp (p + n)) e))
+
+  pub named-counts : {p : ℕ} {r : Place} → at < length ws → getD ws at 0 ≡ 12 → Counts p (nameAt ws pairs text (at + 1)) r → Counts p (textWithin (suc deep) ws pairs text at) r
+  named-counts h k w = went-as (sym (named-text h k)) w
+
 -- ---- borrows
 
 -- a borrow's text has "&" before that of what is borrowed
@@ -213,11 +220,7 @@ module _ (ws pairs : List ℕ) (text : Bytes) (at : ℕ) (h : at < length ws) (k
 
 module _ (ws pairs : List ℕ) (text : Bytes) (at : ℕ) {o : List ℕ} {p : ℕ} (r : Ready true o p (typeTextAt ws pairs text at)) where
   pub type-there : at < length ws
-  type-there = go (ltb at (length ws)) (ltb-true at (length ws)) (ltb-false at (length ws))
-    where
-      go : (t : Bool) → (t ≡ true → at < length ws) → (t ≡ false → length ws ≤ at) → at < length ws
-      go true h k = h refl
-      go false h k = impossible (let e = ended-text 63 ws pairs text at (k refl) in let d = r .room refl .reads in cc)
+  type-there = type-here ws pairs text at (room-type (typeAt ws pairs text at) (r .room refl) .reads)
 
   module _ (k : getD ws at 0 < 12) where
     pub plain-room : p + length (Primitive·ToString (getD primitives (getD ws at 0) U8)) ≤ length o

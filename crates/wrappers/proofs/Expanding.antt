@@ -43,7 +43,7 @@ unfolding Expand
 expand-display p c o d = ap (got (Expand d)) (omega (arith, meta-words d c o))
 
 -- no wrapper
-expand-bare : (t : Ty Bytes) → (kind t ≡ 23 → ⊥) → (kind t ≡ 24 → ⊥) → Expand t ≡ t
+pub expand-bare : (t : Ty Bytes) → (kind t ≡ 23 → ⊥) → (kind t ≡ 24 → ⊥) → Expand t ≡ t
 unfolding Expand
 expand-bare (Primitive p) h k = refl
 expand-bare (TIdentifier x) h k = refl

@@ -1,10 +1,10 @@
-use Rattle.output.proofs.Laws.{room-last, wrote-as, wrote-then}
+use Rattle.output.proofs.Laws.{room-last, wrote-then}
 use Rattle.rast.specs.Indent.{indent}
 use lib.ListN.{length-append}
 use mathlib.Core.List.{_++_}
-use mathlib.Core.Path.{ap, refl, sym}
+use mathlib.Core.Path.{refl}
 use native.Mathlib.Omega.{arith}
-use Rattle.fields.proofs.Fields.{room-as}
+use Rattle.fields.proofs.Fields.{room-of, wrote-of}
 use Rattle.fields.specs.Texts.{listEnd}
 use Rattle.rast.specs.Bytes.{ascii}
 use mathlib.Core.Bool.{Bool}
@@ -16,7 +16,7 @@ put-line-requires : tie.Need-put-line-requires
 unfolding listEnd ascii
 put-line-requires c κs =
     let start = c .before .before .before in
-    let room = room-as (start .args .pos) (start .args .out .now) (ap (λ (b : Bool). listEnd b (start .args .level)) (c .before .if1 .taken)) (start .pre) in
+    let room = room-of (λ (b : Bool). listEnd b (start .args .level)) (start .args .pos) (start .args .out .now) (c .before .if1 .taken) (start .pre) in
     let size = length-append (ascii "\n" ++ indent (start .args .level)) (ascii "}") in
     omega (arith, room, size)
 
@@ -27,7 +27,7 @@ put-requires : tie.Need-put-requires
 unfolding listEnd ascii
 put-requires c κs =
     let start = c .before .before .before .before .before .before .before .before in
-    let room = room-as (start .args .pos) (start .args .out .now) (ap (λ (b : Bool). listEnd b (start .args .level)) (c .before .before .before .before .before .before .if1 .taken)) (start .pre) in
+    let room = room-of (λ (b : Bool). listEnd b (start .args .level)) (start .args .pos) (start .args .out .now) (c .before .before .before .before .before .before .if1 .taken) (start .pre) in
     room-last (ascii "}") room (c .before .before .before .before .put-line .ensures) refl
 
 same-length : tie.Need-same-length
@@ -37,7 +37,7 @@ returns : tie.Need-returns
 unfolding listEnd ascii
 returns c =
     let start = c .before .before .before .before .before .before .before .before .before .before .before in
-    wrote-as (ap (λ (b : Bool). listEnd b (start .args .level)) (sym (c .before .before .before .before .before .before .before .before .before .if1 .taken))) (wrote-then (c .before .before .before .before .before .before .before .put-line .ensures) (c .before .before .put .ensures))
+    wrote-of (λ (b : Bool). listEnd b (start .args .level)) (c .before .before .before .before .before .before .before .before .before .if1 .taken) (wrote-then (c .before .before .before .before .before .before .before .put-line .ensures) (c .before .before .put .ensures))
 
 slice-aggregate-put-2 : tie.Need-slice-aggregate-put-2
 slice-aggregate-put-2 c = search needs
@@ -46,7 +46,7 @@ put-requires-2 : tie.Need-put-requires-2
 unfolding listEnd ascii
 put-requires-2 c κs =
     let start = c .before .before .before .before in
-    room-as (start .args .pos) (start .args .out .now) (ap (λ (b : Bool). listEnd b (start .args .level)) (c .before .before .if1 .left)) (start .pre)
+    room-of (λ (b : Bool). listEnd b (start .args .level)) (start .args .pos) (start .args .out .now) (c .before .before .if1 .left) (start .pre)
 
 same-length-2 : tie.Need-same-length-2
 same-length-2 c = search needs
@@ -55,7 +55,7 @@ returns-2 : tie.Need-returns-2
 unfolding listEnd ascii
 returns-2 c =
     let start = c .before .before .before .before .before .before .before in
-    wrote-as (ap (λ (b : Bool). listEnd b (start .args .level)) (sym (c .before .before .before .before .before .if1 .left))) (c .before .before .put2 .ensures)
+    wrote-of (λ (b : Bool). listEnd b (start .args .level)) (c .before .before .before .before .before .if1 .left) (c .before .before .put2 .ensures)
 
 pub write-end-spec : {M : Type 1} → statement M
 write-end-spec =

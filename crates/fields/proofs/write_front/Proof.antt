@@ -1,10 +1,10 @@
 use Prim.Native.Nat.{_+_}
-use Rattle.output.proofs.Laws.{room-last, wrote-as, wrote-then}
+use Rattle.output.proofs.Laws.{room-last, wrote-then}
 use Rattle.rast.specs.Indent.{indent}
 use mathlib.Core.List.{_++_}
-use mathlib.Core.Path.{ap, refl, sym}
+use mathlib.Core.Path.{refl}
 use native.Mathlib.Omega.{arith}
-use Rattle.fields.proofs.Fields.{room-as}
+use Rattle.fields.proofs.Fields.{room-of, wrote-of}
 use Rattle.fields.specs.Texts.{listFront}
 use Rattle.rast.specs.Bytes.{ascii}
 use mathlib.Core.Bool.{Bool}
@@ -19,7 +19,7 @@ put-requires : tie.Need-put-requires
 unfolding listFront ascii
 put-requires c κs =
     let start = c .before .before .before .before in
-    let room = room-as (start .args .pos) (start .args .out .now) (ap (λ (b : Bool). listFront b (start .args .level)) (c .before .before .if1 .taken)) (start .pre .1) in
+    let room = room-of (λ (b : Bool). listFront b (start .args .level)) (start .args .pos) (start .args .out .now) (c .before .before .if1 .taken) (start .pre .1) in
     omega (arith, room)
 
 add-put-line : tie.Need-add-put-line
@@ -29,7 +29,7 @@ put-line-requires : tie.Need-put-line-requires
 unfolding listFront ascii
 put-line-requires c κs =
     let start = c .before .before .before .before .before .before .before .before in
-    let room = room-as (start .args .pos) (start .args .out .now) (ap (λ (b : Bool). listFront b (start .args .level)) (c .before .before .before .before .before .before .if1 .taken)) (start .pre .1) in
+    let room = room-of (λ (b : Bool). listFront b (start .args .level)) (start .args .pos) (start .args .out .now) (c .before .before .before .before .before .before .if1 .taken) (start .pre .1) in
     room-last (ascii "\n" ++ indent (start .args .level + 1)) room (c .before .before .before .put .ensures) refl
 
 same-length : tie.Need-same-length
@@ -39,7 +39,7 @@ returns : tie.Need-returns
 unfolding listFront ascii
 returns c =
     let start = c .before .before .before .before .before .before .before .before .before .before .before in
-    wrote-as (ap (λ (b : Bool). listFront b (start .args .level)) (sym (c .before .before .before .before .before .before .before .before .before .if1 .taken))) (wrote-then (c .before .before .before .before .before .before .put .ensures) (c .before .before .put-line .ensures))
+    wrote-of (λ (b : Bool). listFront b (start .args .level)) (c .before .before .before .before .before .before .before .before .before .if1 .taken) (wrote-then (c .before .before .before .before .before .before .put .ensures) (c .before .before .put-line .ensures))
 
 slice-aggregate-put-2 : tie.Need-slice-aggregate-put-2
 slice-aggregate-put-2 c = search needs
@@ -48,7 +48,7 @@ put-requires-2 : tie.Need-put-requires-2
 unfolding listFront ascii
 put-requires-2 c κs =
     let start = c .before .before .before .before in
-    room-as (start .args .pos) (start .args .out .now) (ap (λ (b : Bool). listFront b (start .args .level)) (c .before .before .if1 .left)) (start .pre .1)
+    room-of (λ (b : Bool). listFront b (start .args .level)) (start .args .pos) (start .args .out .now) (c .before .before .if1 .left) (start .pre .1)
 
 same-length-2 : tie.Need-same-length-2
 same-length-2 c = search needs
@@ -57,7 +57,7 @@ returns-2 : tie.Need-returns-2
 unfolding listFront ascii
 returns-2 c =
     let start = c .before .before .before .before .before .before .before in
-    wrote-as (ap (λ (b : Bool). listFront b (start .args .level)) (sym (c .before .before .before .before .before .if1 .left))) (c .before .before .put2 .ensures)
+    wrote-of (λ (b : Bool). listFront b (start .args .level)) (c .before .before .before .before .before .if1 .left) (c .before .before .put2 .ensures)
 
 pub write-front-spec : {M : Type 1} → statement M
 write-front-spec =

@@ -1,14 +1,13 @@
 use Prim.Native.Nat.{_+_, _<_}
 use mathlib.Core.Bool.{true}
-use mathlib.Core.Path.{ap, refl, sym}
+use mathlib.Core.Path.{refl, sym}
 use native.Mathlib.Omega.{arith}
 use lib.ListN.{getD, length}
-use Rattle.fields.proofs.Fields.{list-first, room-as}
+use Rattle.fields.proofs.Fields.{list-first, room-of, wrote-of}
 use Rattle.fields.specs.Texts.{listAt, noFields, someAt}
 use Rattle.laying.proofs.Leaves.{count-there, none-fits, there-none, there-some}
 use Rattle.laying.proofs.Passes.{AlongChain, last-came, last-ready}
 use Rattle.laying.specs.Passes.{last}
-use Rattle.output.proofs.Laws.{wrote-as}
 use Rattle.output.proofs.Passes.{laid-wrote}
 use borrow.Author.Needs.{needs}
 use Rattle.fields.proofs.write_list.Statement.{statement}
@@ -44,7 +43,7 @@ is-named-requires c κs = search needs
 write-none-requires : tie.Need-write-none-requires
 write-none-requires c κs =
     let start = c .before .before .before .before .before .before .before .before in
-    room-as (start .args .pos) (start .args .out .now) (ap noFields (sym (c .before .is-named .ensures))) (none-fits (list-first (start .args .words .now) (start .args .pairs .now) (start .args .text .now) (start .args .entry) (start .args .level) (start .args .at)) (start .pre .2) (c .before .before .if1 .taken) .room refl)
+    room-of noFields (start .args .pos) (start .args .out .now) (sym (c .before .is-named .ensures)) (none-fits (list-first (start .args .words .now) (start .args .pairs .now) (start .args .text .now) (start .args .entry) (start .args .level) (start .args .at)) (start .pre .2) (c .before .before .if1 .taken) .room refl)
 
 same-length : tie.Need-same-length
 same-length c = search needs
@@ -52,7 +51,7 @@ same-length c = search needs
 returns : tie.Need-returns
 returns c =
     let start = c .before .before .before .before .before .before .before .before .before .before .before in
-    there-none (list-first (start .args .words .now) (start .args .pairs .now) (start .args .text .now) (start .args .entry) (start .args .level) (start .args .at)) (start .pre .2) (c .before .before .before .before .before .if1 .taken) (laid-wrote refl (wrote-as (ap noFields (c .before .before .before .before .is-named .ensures)) (c .before .before .write-none .ensures)))
+    there-none (list-first (start .args .words .now) (start .args .pairs .now) (start .args .text .now) (start .args .entry) (start .args .level) (start .args .at)) (start .pre .2) (c .before .before .before .before .before .if1 .taken) (laid-wrote refl (wrote-of noFields (sym (c .before .before .before .before .is-named .ensures)) (c .before .before .write-none .ensures)))
 
 all-numbers-requires : tie.Need-all-numbers-requires
 all-numbers-requires c κs = search needs

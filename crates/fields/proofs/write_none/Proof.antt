@@ -1,8 +1,6 @@
-use Rattle.fields.proofs.Fields.{room-as}
+use Rattle.fields.proofs.Fields.{room-of, wrote-of}
 use Rattle.fields.specs.Texts.{noFields}
-use Rattle.output.proofs.Laws.{wrote-as}
 use Rattle.rast.specs.Bytes.{ascii}
-use mathlib.Core.Path.{ap, sym}
 use borrow.Author.Needs.{needs}
 use Rattle.fields.proofs.write_none.Statement.{statement}
 use Rattle.fields.proofs.write_none.Tie as tie
@@ -14,14 +12,14 @@ put-requires : tie.Need-put-requires
 unfolding noFields ascii
 put-requires c κs =
     let start = c .before .before .before .before in
-    room-as (start .args .pos) (start .args .out .now) (ap noFields (c .before .before .if1 .taken)) (start .pre)
+    room-of noFields (start .args .pos) (start .args .out .now) (c .before .before .if1 .taken) (start .pre)
 
 same-length : tie.Need-same-length
 same-length c = search needs
 
 returns : tie.Need-returns
 unfolding noFields ascii
-returns c = wrote-as (ap noFields (sym (c .before .before .before .before .before .if1 .taken))) (c .before .before .put .ensures)
+returns c = wrote-of noFields (c .before .before .before .before .before .if1 .taken) (c .before .before .put .ensures)
 
 slice-aggregate-put-2 : tie.Need-slice-aggregate-put-2
 slice-aggregate-put-2 c = search needs
@@ -30,14 +28,14 @@ put-requires-2 : tie.Need-put-requires-2
 unfolding noFields ascii
 put-requires-2 c κs =
     let start = c .before .before .before .before in
-    room-as (start .args .pos) (start .args .out .now) (ap noFields (c .before .before .if1 .left)) (start .pre)
+    room-of noFields (start .args .pos) (start .args .out .now) (c .before .before .if1 .left) (start .pre)
 
 same-length-2 : tie.Need-same-length-2
 same-length-2 c = search needs
 
 returns-2 : tie.Need-returns-2
 unfolding noFields ascii
-returns-2 c = wrote-as (ap noFields (sym (c .before .before .before .before .before .if1 .left))) (c .before .before .put2 .ensures)
+returns-2 c = wrote-of noFields (c .before .before .before .before .before .if1 .left) (c .before .before .put2 .ensures)
 
 pub write-none-spec : {M : Type 1} → statement M
 write-none-spec =

@@ -1,3 +1,4 @@
+use Prim.Native.Nat.{_<_, _^_}
 use Rattle.formal.proofs.Texts.{typed-counted}
 use Rattle.formal.specs.Labels.{opened}
 use Rattle.measure.proofs.Lengths.{name-fits}
@@ -6,18 +7,17 @@ use borrow.Author.Needs.{needs}
 use Rattle.formal.proofs.count_open.Statement.{statement}
 use Rattle.formal.proofs.count_open.Tie as tie
 
+short : (c : tie.After-name-length) → c .name-length .result < 2 ^ 32
+short c = name-fits (c .before .before .before .before .args .pairs .now) (λ i. omega (arith, c .before .before .shared-slice-known2 .given i)) _ _ (c .name-length .ensures)
+
 name-length-requires : tie.Need-name-length-requires
 name-length-requires c κs = search needs
 
 add-count-few : tie.Need-add-count-few
-add-count-few c =
-    let start = c .before .before .before .before in
-    omega (arith, name-fits (start .args .pairs .now) (λ i. omega (arith, c .before .before .shared-slice-known2 .given i)) _ _ (c .name-length .ensures))
+add-count-few c = omega (arith, short c)
 
 count-few-requires : tie.Need-count-few-requires
-count-few-requires c κs =
-    let start = c .before .before .before .before in
-    omega (arith, name-fits (start .args .pairs .now) (λ i. omega (arith, c .before .before .shared-slice-known2 .given i)) _ _ (c .name-length .ensures))
+count-few-requires c κs = omega (arith, short c)
 
 returns : tie.Need-returns
 returns c =

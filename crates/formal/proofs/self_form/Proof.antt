@@ -1,9 +1,18 @@
 use Rattle.encoding.specs.Types.{typeAt}
+use Rattle.wrappers.specs.Asked.{Judges}
 use Rattle.wrappers.proofs.Expanding.{expands-readable}
 use Rattle.formal.specs.Receivers.{shared, mutable}
-use Rattle.formal.proofs.Receivers.{by-mut, by-ref, by-underscore, by-value, judge-expanded, with-type}
+use Rattle.formal.proofs.Receivers.{by-mut, by-ref, by-underscore, by-value, expandsToSelf, judge-expanded, with-type}
 use Rattle.formal.proofs.self_form.Statement.{statement}
 use Rattle.formal.proofs.self_form.Tie as tie
+
+-- the first test: of what `Expand` gives
+judged : (c : tie.After-is-self-type) →
+    let a = c .before .before .before .before .before .args in
+    Judges expandsToSelf (typeAt (a .words .now) (a .pairs .now) (a .text .now) (a .at)) (c .is-self-type .result)
+judged c =
+    let a = c .before .before .before .before .before .args in
+    judge-expanded (typeAt (a .words .now) (a .pairs .now) (a .text .now)) (c .before .expand .ensures) (c .is-self-type .ensures)
 
 expand-requires : tie.Need-expand-requires
 expand-requires c κs = c .before .before .before .pre .1
@@ -15,8 +24,7 @@ is-self-type-requires c κs =
 
 returns : tie.Need-returns
 returns c =
-    let a = c .before .before .before .before .before .before .args in
-    let j = judge-expanded (typeAt (a .words .now) (a .pairs .now) (a .text .now)) (c .before .before .expand .ensures) (c .before .is-self-type .ensures) in
+    let j = judged (c .before) in
     by-value j (c .if1 .taken)
 
 is-self-borrowed-requires : tie.Need-is-self-borrowed-requires
@@ -24,8 +32,7 @@ is-self-borrowed-requires c κs = (shared, c .before .before .before .before .be
 
 returns-2 : tie.Need-returns-2
 returns-2 c =
-    let a = c .before .before .before .before .before .before .before .before .args in
-    let j = judge-expanded (typeAt (a .words .now) (a .pairs .now) (a .text .now)) (c .before .before .before .before .expand .ensures) (c .before .before .before .is-self-type .ensures) in
+    let j = judged (c .before .before .before) in
     by-ref j (c .before .before .if1 .left) (c .before .is-self-borrowed .ensures) (c .if2 .taken)
 
 is-self-borrowed-requires-2 : tie.Need-is-self-borrowed-requires-2
@@ -33,8 +40,7 @@ is-self-borrowed-requires-2 c κs = (mutable, c .before .before .before .before 
 
 returns-3 : tie.Need-returns-3
 returns-3 c =
-    let a = c .before .before .before .before .before .before .before .before .before .before .args in
-    let j = judge-expanded (typeAt (a .words .now) (a .pairs .now) (a .text .now)) (c .before .before .before .before .before .before .expand .ensures) (c .before .before .before .before .before .is-self-type .ensures) in
+    let j = judged (c .before .before .before .before .before) in
     by-mut j (c .before .before .before .before .if1 .left) (c .before .before .before .is-self-borrowed .ensures)
     (c .before .before .if2 .left) (c .before .is-self-borrowed2 .ensures)
     (c .if3 .taken)
@@ -44,8 +50,7 @@ is-underscore-requires c κs = c .before .before .before .before .before .before
 
 returns-4 : tie.Need-returns-4
 returns-4 c =
-    let a = c .before .before .before .before .before .before .before .before .before .before .before .before .args in
-    let j = judge-expanded (typeAt (a .words .now) (a .pairs .now) (a .text .now)) (c .before .before .before .before .before .before .before .before .expand .ensures) (c .before .before .before .before .before .before .before .is-self-type .ensures) in
+    let j = judged (c .before .before .before .before .before .before .before) in
     by-underscore j (c .before .before .before .before .before .before .if1 .left) (c .before .before .before .before .before .is-self-borrowed .ensures)
     (c .before .before .before .before .if2 .left) (c .before .before .before .is-self-borrowed2 .ensures)
     (c .before .before .if3 .left) (c .before .is-underscore .ensures)
@@ -53,8 +58,7 @@ returns-4 c =
 
 returns-5 : tie.Need-returns-5
 returns-5 c =
-    let a = c .before .before .before .before .before .before .before .before .before .before .before .before .args in
-    let j = judge-expanded (typeAt (a .words .now) (a .pairs .now) (a .text .now)) (c .before .before .before .before .before .before .before .before .expand .ensures) (c .before .before .before .before .before .before .before .is-self-type .ensures) in
+    let j = judged (c .before .before .before .before .before .before .before) in
     with-type j (c .before .before .before .before .before .before .if1 .left) (c .before .before .before .before .before .is-self-borrowed .ensures)
     (c .before .before .before .before .if2 .left) (c .before .before .before .is-self-borrowed2 .ensures)
     (c .before .before .if3 .left) (c .before .is-underscore .ensures)

@@ -1,11 +1,11 @@
-use Prim.Native.Nat.{ℕ, _+_}
-use mathlib.Core.Path.{_≡_, _∙_, ap, sym}
+use Prim.Native.Nat.{_+_}
+use mathlib.Core.Path.{_≡_, _∙_, ap}
 use native.Mathlib.Omega.{arith}
 use Rattle.output.specs.Laid.{clamp}
 use Rattle.laying.specs.Passes.{came}
 use Rattle.laying.specs.Texts.{nameAt}
-use Rattle.laying.proofs.Leaves.{borrow-counts, ended-text, named-text, plain-text}
-use Rattle.laying.proofs.Passes.{came-as, came-at, counts-bytes, stops-here, went-as}
+use Rattle.laying.proofs.Leaves.{borrow-counts, ended-text, named-counts, plain-counts}
+use Rattle.laying.proofs.Passes.{came-at, stops-here, went-as}
 use borrow.Author.Needs.{needs}
 use Rattle.laying.proofs.count_borrow.Statement.{statement}
 use Rattle.laying.proofs.count_borrow.Tie as tie
@@ -39,12 +39,12 @@ count-few-requires c κs = search needs
 
 returns-2 : tie.Need-returns-2
 returns-2 c =
-    let a = c .before .before .before .before .before .before .before .before .args in
+    let start = c .before .before .before .before .before .before .before .before in
+    let a = start .args in
     let next : a .at + 1 + 1 ≡ a .at + 2 = omega arith in
     let sum : a .pos + (1 + c .before .primitive-length .result) ≡ a .pos + 1 + c .before .primitive-length .result = omega arith in
-    borrow-counts (c .before .before .before .before .before .before .before .before .args .words .now) (c .before .before .before .before .before .before .before .before .args .pairs .now) (c .before .before .before .before .before .before .before .before .args .text .now) (c .before .before .before .before .before .before .before .before .args .at) (c .before .before .before .before .before .before .before .before .pre .1) (c .before .before .before .before .before .before .before .before .pre .2)
-    (came (came-at next (came-as (sym (plain-text 62 (c .before .before .before .before .before .before .before .before .args .words .now) (c .before .before .before .before .before .before .before .before .args .pairs .now) (c .before .before .before .before .before .before .before .before .args .text .now) (c .before .before .before .before .before .before .before .before .args .at + 1) (omega (arith, c .before .before .before .before .if1 .left)) (c .before .before .if2 .taken)))
-    (counts-bytes (c .count-few .ensures ∙ ap clamp sum ∙ ap (λ (n : ℕ). clamp (a .pos + 1 + n)) (c .before .primitive-length .ensures .0))))))
+    borrow-counts (a .words .now) (a .pairs .now) (a .text .now) (a .at) (start .pre .1) (start .pre .2)
+    (came (came-at next (plain-counts 62 (a .words .now) (a .pairs .now) (a .text .now) (a .at + 1) (omega (arith, c .before .before .before .before .if1 .left)) (c .before .before .if2 .taken) (c .before .primitive-length .ensures .0) (c .count-few .ensures ∙ ap clamp sum))))
 
 add-count-name : tie.Need-add-count-name
 add-count-name c = search needs
@@ -54,10 +54,11 @@ count-name-requires c κs = search needs
 
 returns-3 : tie.Need-returns-3
 returns-3 c =
-    let a = c .before .before .before .before .before .before .before .before .args in
-    let next : a .at + 1 + 1 ≡ a .at + 2 = omega arith in
-    borrow-counts (c .before .before .before .before .before .before .before .before .args .words .now) (c .before .before .before .before .before .before .before .before .args .pairs .now) (c .before .before .before .before .before .before .before .before .args .text .now) (c .before .before .before .before .before .before .before .before .args .at) (c .before .before .before .before .before .before .before .before .pre .1) (c .before .before .before .before .before .before .before .before .pre .2)
-    (went-as (sym (named-text 62 (c .before .before .before .before .before .before .before .before .args .words .now) (c .before .before .before .before .before .before .before .before .args .pairs .now) (c .before .before .before .before .before .before .before .before .args .text .now) (c .before .before .before .before .before .before .before .before .args .at + 1) (omega (arith, c .before .before .before .before .if1 .left)) (c .before .if3 .taken) ∙ ap (nameAt (a .words .now) (a .pairs .now) (a .text .now)) next)) (c .count-name .ensures))
+    let start = c .before .before .before .before .before .before .before .before in
+    let a = start .args in
+    let next : a .at + 2 ≡ a .at + 1 + 1 = omega arith in
+    borrow-counts (a .words .now) (a .pairs .now) (a .text .now) (a .at) (start .pre .1) (start .pre .2)
+    (named-counts 62 (a .words .now) (a .pairs .now) (a .text .now) (a .at + 1) (omega (arith, c .before .before .before .before .if1 .left)) (c .before .if3 .taken) (went-as (ap (nameAt (a .words .now) (a .pairs .now) (a .text .now)) next) (c .count-name .ensures)))
 
 count-type-requires : tie.Need-count-type-requires
 count-type-requires c κs = search needs

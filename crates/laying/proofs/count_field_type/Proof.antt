@@ -1,10 +1,7 @@
-use Prim.Native.Nat.{ℕ, _+_}
-use mathlib.Core.Path.{_∙_, ap, sym}
 use native.Mathlib.Omega.{arith}
-use Rattle.output.specs.Laid.{clamp}
 use Rattle.laying.specs.Passes.{came}
-use Rattle.laying.proofs.Leaves.{ended-text, named-text, plain-text}
-use Rattle.laying.proofs.Passes.{counts-bytes, counts-here, stops-here, went-as}
+use Rattle.laying.proofs.Leaves.{ended-text, named-counts, plain-counts}
+use Rattle.laying.proofs.Passes.{counts-here, stops-here}
 use borrow.Author.Needs.{needs}
 use Rattle.laying.proofs.count_field_type.Statement.{statement}
 use Rattle.laying.proofs.count_field_type.Tie as tie
@@ -30,7 +27,7 @@ count-few-requires c κs = search needs
 returns-2 : tie.Need-returns-2
 returns-2 c =
     let a = c .before .before .before .before .before .before .before .before .args in
-    went-as (sym (plain-text 63 (c .before .before .before .before .before .before .before .before .args .words .now) (c .before .before .before .before .before .before .before .before .args .pairs .now) (c .before .before .before .before .before .before .before .before .args .text .now) (a .at) (omega (arith, c .before .before .before .before .if1 .left)) (c .before .before .if2 .taken))) (came (counts-bytes (c .count-few .ensures ∙ ap (λ (n : ℕ). clamp (a .pos + n)) (c .before .primitive-length .ensures .0))))
+    came (plain-counts 63 (a .words .now) (a .pairs .now) (a .text .now) (a .at) (omega (arith, c .before .before .before .before .if1 .left)) (c .before .before .if2 .taken) (c .before .primitive-length .ensures .0) (c .count-few .ensures))
 
 add-count-name : tie.Need-add-count-name
 add-count-name c = search needs
@@ -41,7 +38,7 @@ count-name-requires c κs = search needs
 returns-3 : tie.Need-returns-3
 returns-3 c =
     let a = c .before .before .before .before .before .before .before .before .args in
-    went-as (sym (named-text 63 (c .before .before .before .before .before .before .before .before .args .words .now) (c .before .before .before .before .before .before .before .before .args .pairs .now) (c .before .before .before .before .before .before .before .before .args .text .now) (a .at) (omega (arith, c .before .before .before .before .if1 .left)) (c .before .if3 .taken))) (counts-here (c .count-name .ensures))
+    named-counts 63 (a .words .now) (a .pairs .now) (a .text .now) (a .at) (omega (arith, c .before .before .before .before .if1 .left)) (c .before .if3 .taken) (counts-here (c .count-name .ensures))
 
 count-borrow-requires : tie.Need-count-borrow-requires
 count-borrow-requires c κs = (c .before .before .before .before .before .before .before .before .pre, omega (arith, c .before .before .before .before .if1 .left), c .if4 .taken)
