@@ -62,7 +62,8 @@ module _ (ws pairs : List ℕ) (text : Bytes) where
   unfolding readParameter readName
   parameter-ended p d =
       ended-behind (readBelow (nameCount pairs) ws p) _ _ (λ x q. ended (readCounted ws (typeAt ws pairs text) q)) (λ x q. ended-made (readCounted ws (typeAt ws pairs text) q) _)
-      ∙ behind-entry (nameCount pairs) ws p _ (λ x m q. ended (readList (typeAt ws pairs text) m q)) (λ x q. counted-ended ws (typeAt ws pairs text) q refl) d
+      ∙ sym (behind-word (readBelow (nameCount pairs) ws p) (λ q. ended (readCounted ws (typeAt ws pairs text) q)))
+      ∙ signature-ended (typeAt ws pairs text) p d
 
   -- ---- fields
 
