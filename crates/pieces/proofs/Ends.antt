@@ -8,22 +8,22 @@ use lib.Dec.{eqb}
 use lib.ListN.{length, getD}
 use Rattle.rast.specs.Bytes.{Bytes}
 use Rattle.rast.specs.Declaration.{Attribute, TypeParamDecl, NamedFields, NamelessFields}
-use Rattle.encoding.specs.declared.Refusal.{Refusal}
 use Rattle.encoding.specs.declared.Refusal.the-variants.{UnknownWord}
 use Rattle.encoding.specs.declared.Scan.{Scan}
-use Rattle.encoding.specs.declared.Scan.the-variants.{At, Refused}
+use Rattle.encoding.specs.declared.Scan.the-variants.{At}
+use Rattle.encoding.specs.declared.WordScan.{WordScan}
 use Rattle.encoding.specs.Refusals.{pick}
 use Rattle.encoding.specs.Reading.{Reading, got, stop, _>>=_, readWord, readBelow}
-use Rattle.encoding.specs.Scans.{ended}
+use Rattle.encoding.specs.Scans.{wordScan, ended}
 use Rattle.encoding.specs.Tables.{nameBytes, nameCount}
 use Rattle.encoding.specs.Heads.{readPath}
 use Rattle.encoding.specs.Types.{readNode, readType, typeAt}
 use Rattle.encoding.specs.Declarations.{structHead, enumHead, synonymHead, useHead, readList, readCounted, readVisibility, readName, readAttribute, readParameter, readFormal, readField, readNamelessField, readFields, readCase, readStruct, readEnum, readTypeSynonym, readUse, declarationAfter}
 use Rattle.encoding.proofs.Heads.{head-at, head-plain}
-use Rattle.pieces.specs.Walks.{readEntry, readTwo, readAttributes}
-use Rattle.pieces.specs.Ends.{thenAt, parameterAt, formalAt, fieldAt, namelessAt, fieldEnd, eachFieldEnd, fieldsAt, caseAt, signatureEnd, headingEnd, structAt, enumAt, synonymAt, useEnd}
-use Rattle.pieces.proofs.Scans.{ended-made, ended-map, NoPair, at-first, at-second, entry, no-entry, two, no-two, Each, list-each}
-use Rattle.pieces.proofs.Steps.{parameter-halts, fields-halt, field-halts, nameless-halts, case-halts}
+use Rattle.pieces.specs.Walks.{readEntry, readTwo, twoScan, readAttributes}
+use Rattle.pieces.specs.declared.Two.{Two}
+use Rattle.pieces.specs.Ends.{thenAt, parameterAt, formalAt, fieldAt, namelessAt, fieldEnd, eachFieldEnd, fieldsAt, caseAt, headingEnd, structAt, enumAt, synonymAt, useEnd}
+use Rattle.pieces.proofs.Scans.{ended-made, ended-map, thenWord, thenBoth, ended-word, ended-behind, counted-ended, behind-entry, behind-two, Each, list-each}
 use Rattle.pieces.proofs.Openings.{attributes-read, titleThen}
 
 -- the end of what follows does not depend on what was read first
@@ -37,6 +37,11 @@ ended-before : {A B : Type 0} (x : Reading A) {s : Scan} (f : A → ℕ → Read
 ended-before (got a n) f g h d e = e a n ∙ ap (λ t. thenAt (thenAt t g) h) d
 ended-before (stop r) f g h d e = ap (λ t. thenAt (thenAt t g) h) d
 
+-- the same, by the answer that stands for the word
+behind-word : (x : Reading ℕ) (f : ℕ → Scan) → thenAt (ended x) f ≡ thenWord (wordScan x) (λ a n. f n)
+behind-word (got a n) f = refl
+behind-word (stop r) f = refl
+
 module _ (ws pairs : List ℕ) (text : Bytes) where
   -- ---- types
 
@@ -46,39 +51,44 @@ module _ (ws pairs : List ℕ) (text : Bytes) where
 
   -- ---- parameters
 
-  pub parameter-ended : (p : ℕ) {x m q : ℕ} → readEntry (nameCount pairs) ws p ≡ got (x, m) q → ended (readList (typeAt ws pairs text) m q) ≡ ended (parameterAt ws pairs text p)
-  unfolding readParameter readName readCounted
-  parameter-ended p {x} {m} {q} e =
-      let t = entry (nameCount pairs) ws p e in
-      rw (t .first, t .second) (sym (ended-made (readList (typeAt ws pairs text) m q) _))
+  -- a name, and a list behind it
+  pub signature-ended : {A : Type 0} (item : ℕ → Reading A) (p : ℕ) {s : Two} → twoScan (readEntry (nameCount pairs) ws p) ≡ s
+      → thenAt (ended (readBelow (nameCount pairs) ws p)) (λ q. ended (readCounted ws item q)) ≡ thenBoth s (λ x n q. ended (readList item n q))
+  signature-ended item p d =
+      behind-word (readBelow (nameCount pairs) ws p) _
+      ∙ behind-entry (nameCount pairs) ws p (λ x q. ended (readCounted ws item q)) (λ x n q. ended (readList item n q)) (λ x q. counted-ended ws item q refl) d
 
-  pub parameter-refused : (p : ℕ) {r : Refusal} → readEntry (nameCount pairs) ws p ≡ stop r → Refused r ≡ ended (parameterAt ws pairs text p)
-  parameter-refused p e = ap ended (sym (parameter-halts (nameCount pairs) ws (nameBytes pairs text) (typeAt ws pairs text) p (no-entry (nameCount pairs) ws p e)))
+  pub parameter-ended : (p : ℕ) {s : Two} → twoScan (readEntry (nameCount pairs) ws p) ≡ s → ended (parameterAt ws pairs text p) ≡ thenBoth s (λ x m q. ended (readList (typeAt ws pairs text) m q))
+  unfolding readParameter readName
+  parameter-ended p d =
+      ended-behind (readBelow (nameCount pairs) ws p) _ _ (λ x q. ended (readCounted ws (typeAt ws pairs text) q)) (λ x q. ended-made (readCounted ws (typeAt ws pairs text) q) _)
+      ∙ sym (behind-word (readBelow (nameCount pairs) ws p) (λ q. ended (readCounted ws (typeAt ws pairs text) q)))
+      ∙ signature-ended (typeAt ws pairs text) p d
 
   -- ---- fields
 
-  pub formal-ended : (p : ℕ) {x q : ℕ} → readBelow (nameCount pairs) ws p ≡ got x q → ended (typeAt ws pairs text q) ≡ ended (formalAt ws pairs text p)
+  pub formal-ended : (p : ℕ) {s : WordScan} → wordScan (readBelow (nameCount pairs) ws p) ≡ s → ended (formalAt ws pairs text p) ≡ thenWord s (λ x q. ended (typeAt ws pairs text q))
   unfolding readFormal readName
-  formal-ended p {x} {q} e = rw e (sym (ended-made (typeAt ws pairs text q) _))
+  formal-ended p d = ended-behind (readBelow (nameCount pairs) ws p) _ _ _ (λ x q. ended-made (typeAt ws pairs text q) _) ∙ ap (λ s. thenWord s (λ x q. ended (typeAt ws pairs text q))) d
 
-  pub formal-refused : (p : ℕ) {r : Refusal} → readBelow (nameCount pairs) ws p ≡ stop r → Refused r ≡ ended (formalAt ws pairs text p)
-  unfolding readFormal readName
-  formal-refused p e = rw e
+  -- what stands behind a field's visibility
+  abbrev memberEnd : ℕ → ℕ → Scan
+  memberEnd k q = pick (eqb k 0) (ended (formalAt ws pairs text q)) (ended (typeAt ws pairs text q))
 
-  pub named-ended : (k p : ℕ) {v q : ℕ} → k ≡ 0 → readBelow 2 ws p ≡ got v q → ended (formalAt ws pairs text q) ≡ fieldEnd ws pairs text k p
-  unfolding readField readVisibility
-  named-ended k p {v} {q} h e = rw (eq-eqb k 0 h, e) (sym (ended-made (formalAt ws pairs text q) _))
+  pub named-member : (k q : ℕ) → k ≡ 0 → ended (formalAt ws pairs text q) ≡ memberEnd k q
+  named-member k q h = rw (eq-eqb k 0 h)
 
-  pub nameless-ended : (k p : ℕ) {v q : ℕ} → (k ≡ 0 → ⊥) → readBelow 2 ws p ≡ got v q → ended (typeAt ws pairs text q) ≡ fieldEnd ws pairs text k p
-  unfolding readNamelessField readVisibility
-  nameless-ended k p {v} {q} h e = rw (ne-eqb k 0 h, e) (sym (ended-made (typeAt ws pairs text q) _))
+  pub nameless-member : (k q : ℕ) → (k ≡ 0 → ⊥) → ended (typeAt ws pairs text q) ≡ memberEnd k q
+  nameless-member k q h = rw (ne-eqb k 0 h)
 
-  pub field-refused : (k p : ℕ) {r : Refusal} → readBelow 2 ws p ≡ stop r → Refused r ≡ fieldEnd ws pairs text k p
-  field-refused k p {r} e = go (eqb k 0)
+  pub field-ended : (k p : ℕ) {s : WordScan} → wordScan (readBelow 2 ws p) ≡ s → fieldEnd ws pairs text k p ≡ thenWord s (λ v q. memberEnd k q)
+  unfolding readField readNamelessField readVisibility
+  field-ended k p d = go (eqb k 0) ∙ ap (λ s. thenWord s (λ v q. memberEnd k q)) d
     where
-      go : (b : Bool) → Refused r ≡ pick b (ended (fieldAt ws pairs text p)) (ended (namelessAt ws pairs text p))
-      go true = ap ended (sym (field-halts (nameCount pairs) ws (nameBytes pairs text) (typeAt ws pairs text) p (at-first e)))
-      go false = ap ended (sym (nameless-halts (nameCount pairs) ws (nameBytes pairs text) (typeAt ws pairs text) p e))
+      go : (b : Bool) → pick b (ended (fieldAt ws pairs text p)) (ended (namelessAt ws pairs text p))
+          ≡ thenWord (wordScan (readBelow 2 ws p)) (λ v q. pick b (ended (formalAt ws pairs text q)) (ended (typeAt ws pairs text q)))
+      go true = ended-behind (readBelow 2 ws p) _ _ _ (λ v q. ended-made (formalAt ws pairs text q) _)
+      go false = ended-behind (readBelow 2 ws p) _ _ _ (λ v q. ended-made (typeAt ws pairs text q) _)
 
   pub fields-each : (k : ℕ) → Each (fieldEnd ws pairs text k) (eachFieldEnd ws pairs text k)
   fields-each k = go (eqb k 0)
@@ -88,40 +98,26 @@ module _ (ws pairs : List ℕ) (text : Bytes) where
       go true = list-each (fieldAt ws pairs text)
       go false = list-each (namelessAt ws pairs text)
 
-  pub fields-ended : (p : ℕ) {k n q : ℕ} → readEntry 2 ws p ≡ got (k, n) q → eachFieldEnd ws pairs text k n q ≡ ended (fieldsAt ws pairs text p)
-  unfolding readFields readCounted
-  fields-ended p {k} {n} {q} e = let t = entry 2 ws p e in rw (t .first, t .second) (go (eqb k 0))
+  pub fields-ended : (p : ℕ) {s : Two} → twoScan (readEntry 2 ws p) ≡ s → ended (fieldsAt ws pairs text p) ≡ thenBoth s (λ k n q. eachFieldEnd ws pairs text k n q)
+  unfolding readFields
+  fields-ended p d = ended-word (readBelow 2 ws p) _ _ (λ k q. go q (eqb k 0)) ∙ behind-entry 2 ws p _ (λ k n q. eachFieldEnd ws pairs text k n q) (λ k q. refl) d
     where
-      go : (b : Bool) → pick b (ended (readList (fieldAt ws pairs text) n q)) (ended (readList (namelessAt ws pairs text) n q))
-          ≡ ended (pick b (readList (fieldAt ws pairs text) n q >>= λ xs r. got (NamedFields xs) r) (readList (namelessAt ws pairs text) n q >>= λ xs r. got (NamelessFields xs) r))
-      go true = sym (ended-made (readList (fieldAt ws pairs text) n q) NamedFields)
-      go false = sym (ended-made (readList (namelessAt ws pairs text) n q) NamelessFields)
-
-  pub fields-refused : (p : ℕ) {r : Refusal} → readEntry 2 ws p ≡ stop r → Refused r ≡ ended (fieldsAt ws pairs text p)
-  fields-refused p e = ap ended (sym (fields-halt (nameCount pairs) ws (nameBytes pairs text) (typeAt ws pairs text) p (no-entry 2 ws p e)))
+      go : (q : ℕ) (b : Bool)
+          → ended (pick b (readCounted ws (fieldAt ws pairs text) q >>= λ xs r. got (NamedFields xs) r) (readCounted ws (namelessAt ws pairs text) q >>= λ xs r. got (NamelessFields xs) r))
+          ≡ thenWord (wordScan (readWord ws q)) (λ n r. pick b (ended (readList (fieldAt ws pairs text) n r)) (ended (readList (namelessAt ws pairs text) n r)))
+      go q true = ended-made (readCounted ws (fieldAt ws pairs text) q) NamedFields ∙ counted-ended ws (fieldAt ws pairs text) q refl
+      go q false = ended-made (readCounted ws (namelessAt ws pairs text) q) NamelessFields ∙ counted-ended ws (namelessAt ws pairs text) q refl
 
   -- ---- cases
 
-  pub case-ended : (p : ℕ) {d x q : ℕ} → readTwo (nameCount pairs) (nameCount pairs) ws p ≡ got (d, x) q → ended (fieldsAt ws pairs text q) ≡ ended (caseAt ws pairs text p)
+  pub case-ended : (p : ℕ) {s : Two} → twoScan (readTwo (nameCount pairs) (nameCount pairs) ws p) ≡ s → ended (caseAt ws pairs text p) ≡ thenBoth s (λ d x q. ended (fieldsAt ws pairs text q))
   unfolding readCase readName
-  case-ended p {d} {x} {q} e = let t = two (nameCount pairs) ws p (nameCount pairs) e in rw (t .first, t .second) (sym (ended-made (fieldsAt ws pairs text q) _))
-
-  pub case-refused : (p : ℕ) {r : Refusal} → readTwo (nameCount pairs) (nameCount pairs) ws p ≡ stop r → Refused r ≡ ended (caseAt ws pairs text p)
-  case-refused p e = ap ended (sym (case-halts (nameCount pairs) ws (nameBytes pairs text) (typeAt ws pairs text) p (no-two (nameCount pairs) ws p (nameCount pairs) e)))
+  case-ended p d =
+      ended-behind (readBelow (nameCount pairs) ws p) _ _ (λ c q. thenWord (wordScan (readBelow (nameCount pairs) ws q)) (λ x r. ended (fieldsAt ws pairs text r)))
+      (λ c q. ended-behind (readBelow (nameCount pairs) ws q) _ _ _ (λ x r. ended-made (fieldsAt ws pairs text r) _))
+      ∙ behind-two (nameCount pairs) ws p _ (λ c x q. ended (fieldsAt ws pairs text q)) (nameCount pairs) (λ c q. refl) d
 
   -- ---- headings
-
-  pub signature-ended : (p : ℕ) {x n q : ℕ} → readEntry (nameCount pairs) ws p ≡ got (x, n) q → ended (readList (parameterAt ws pairs text) n q) ≡ signatureEnd ws pairs text p
-  unfolding readCounted
-  signature-ended p e = let t = entry (nameCount pairs) ws p e in rw (t .first, t .second)
-
-  pub signature-refused : (p : ℕ) {r : Refusal} → readEntry (nameCount pairs) ws p ≡ stop r → Refused r ≡ signatureEnd ws pairs text p
-  unfolding readCounted
-  signature-refused p {r} e = go (no-entry (nameCount pairs) ws p e)
-    where
-      go : NoPair (readBelow (nameCount pairs) ws p) (readWord ws) r → Refused r ≡ signatureEnd ws pairs text p
-      go (at-first d) = rw d
-      go (at-second d k) = rw (d, k)
 
   -- attributes end where they end by name numbers
   attributes-ended : (p : ℕ) → ended (readCounted ws (readAttribute (nameCount pairs) ws (nameBytes pairs text) (typeAt ws pairs text)) p) ≡ ended (readAttributes (nameCount pairs) ws p)

@@ -10,9 +10,11 @@ use Rattle.encoding.specs.declared.Refusal.{Refusal}
 use Rattle.encoding.specs.declared.Refusal.the-variants.{UnknownWord}
 use Rattle.encoding.specs.declared.Scan.{Scan}
 use Rattle.encoding.specs.declared.Scan.the-variants.{At, Refused}
-use Rattle.encoding.proofs.Reading.{scan-got, scan-stop}
+use Rattle.encoding.specs.declared.WordScan.{WordScan}
+use Rattle.encoding.specs.declared.WordScan.the-variants.{Word, NoWord}
+use Rattle.encoding.proofs.Reading.{scan-got, scan-stop, word-got, word-stop}
 use Rattle.encoding.specs.Reading.{Reading, got, stop, _>>=_, readWord, readBelow, readNames}
-use Rattle.encoding.specs.Scans.{ended, mapReading}
+use Rattle.encoding.specs.Scans.{wordScan, ended, mapReading}
 use Rattle.encoding.specs.Declarations.{readList, readCounted, readAttribute, readName, structHead, enumHead, synonymHead, useHead}
 use Rattle.encoding.proofs.Tables.{impossible}
 use Rattle.encoding.proofs.Types.{made₂-got}
@@ -75,6 +77,17 @@ no-pair (got a m) y {r} e = at-second refl (behind (y m) e)
     behind (stop k) d = cc
 no-pair (stop k) y e = at-first (cc)
 
+-- the answer of both, by the answers of each
+module _ (x : Reading ℕ) (y : ℕ → Reading ℕ) {s : WordScan} (e : s ≡ wordScan x) where
+  pub both-read : {t : WordScan} {a m c n : ℕ} → s ≡ Word a m → t ≡ wordScan (y m) → t ≡ Word c n → Both a c n ≡ twoScan (both x y)
+  both-read {m = m} d f g = rw (word-got x e d, word-got (y m) f g)
+
+  pub second-refused : {t : WordScan} {a m : ℕ} {r : Refusal} → s ≡ Word a m → t ≡ wordScan (y m) → t ≡ NoWord r → Neither r ≡ twoScan (both x y)
+  second-refused {m = m} d f g = rw (word-got x e d, word-stop (y m) f g)
+
+  pub first-refused : {r : Refusal} → s ≡ NoWord r → Neither r ≡ twoScan (both x y)
+  first-refused d = rw (word-stop x e d)
+
 module _ (b : ℕ) (ws : List ℕ) (p : ℕ) where
   pub entry : {x y n : ℕ} → readEntry b ws p ≡ got (x, y) n → Pair (readBelow b ws p) (readWord ws) x y n
   unfolding readEntry
@@ -92,6 +105,52 @@ module _ (b : ℕ) (ws : List ℕ) (p : ℕ) where
   unfolding readTwo
   no-two c e = no-pair (readBelow b ws p) (readBelow c ws) e
 
+-- ---- where what follows one word, or two, ends
+
+abbrev pub thenWord : WordScan → (ℕ → ℕ → Scan) → Scan
+thenWord (Word a n) f = f a n
+thenWord (NoWord r) f = Refused r
+
+abbrev pub thenBoth : Two → (ℕ → ℕ → ℕ → Scan) → Scan
+thenBoth (Both a b n) f = f a b n
+thenBoth (Neither r) f = Refused r
+
+pub ended-word : {B : Type 0} (x : Reading ℕ) (f : ℕ → ℕ → Reading B) (g : ℕ → ℕ → Scan) → ((a n : ℕ) → ended (f a n) ≡ g a n) → ended (x >>= f) ≡ thenWord (wordScan x) g
+ended-word (got a n) f g e = e a n
+ended-word (stop r) f g e = refl
+
+-- what is made of the word does not matter
+pub ended-behind : {A B : Type 0} (x : Reading ℕ) (h : ℕ → A) (f : A → ℕ → Reading B) (g : ℕ → ℕ → Scan) → ((a n : ℕ) → ended (f (h a) n) ≡ g a n)
+    → ended ((x >>= λ a n. got (h a) n) >>= f) ≡ thenWord (wordScan x) g
+ended-behind (got a n) h f g e = e a n
+ended-behind (stop r) h f g e = refl
+
+pub counted-ended : {A : Type 0} (ws : List ℕ) (item : ℕ → Reading A) (p : ℕ) {s : WordScan} → wordScan (readWord ws p) ≡ s → ended (readCounted ws item p) ≡ thenWord s (λ n q. ended (readList item n q))
+unfolding readCounted
+counted-ended ws item p e = ended-word (readWord ws p) (readList item) (λ n q. ended (readList item n q)) (λ n q. refl) ∙ ap (λ s. thenWord s (λ n q. ended (readList item n q))) e
+
+-- two words, one behind the other, answered at once
+behind-both : (x : Reading ℕ) (y : ℕ → Reading ℕ) (f : ℕ → ℕ → Scan) (g : ℕ → ℕ → ℕ → Scan) → ((a q : ℕ) → f a q ≡ thenWord (wordScan (y q)) (g a)) → {s : Two} → twoScan (both x y) ≡ s
+    → thenWord (wordScan x) f ≡ thenBoth s g
+behind-both x y f g e d = go x ∙ ap (λ s. thenBoth s g) d
+  where
+    second : (a : ℕ) (z : Reading ℕ) → thenWord (wordScan z) (g a) ≡ thenBoth (twoScan (z >>= λ b n. got (a, b) n)) g
+    second a (got b n) = refl
+    second a (stop r) = refl
+
+    go : (x : Reading ℕ) → thenWord (wordScan x) f ≡ thenBoth (twoScan (both x y)) g
+    go (got a q) = e a q ∙ second a (y q)
+    go (stop r) = refl
+
+module _ (b : ℕ) (ws : List ℕ) (p : ℕ) (f : ℕ → ℕ → Scan) (g : ℕ → ℕ → ℕ → Scan) where
+  pub behind-entry : ((a q : ℕ) → f a q ≡ thenWord (wordScan (readWord ws q)) (g a)) → {s : Two} → twoScan (readEntry b ws p) ≡ s → thenWord (wordScan (readBelow b ws p)) f ≡ thenBoth s g
+  unfolding readEntry
+  behind-entry e d = behind-both (readBelow b ws p) (readWord ws) f g e d
+
+  pub behind-two : (c : ℕ) → ((a q : ℕ) → f a q ≡ thenWord (wordScan (readBelow c ws q)) (g a)) → {s : Two} → twoScan (readTwo b c ws p) ≡ s → thenWord (wordScan (readBelow b ws p)) f ≡ thenBoth s g
+  unfolding readTwo
+  behind-two c e d = behind-both (readBelow b ws p) (readBelow c ws) f g e d
+
 -- ---- attributes
 
 -- names read one by one end where they end read as a list
@@ -105,19 +164,14 @@ names-ended b ws name (suc n) p = go (readBelow b ws p) (names-ended b ws name n
     go (got w q) ih = ih q ∙ sym (ended-made (readList (readName b ws name (λ i. stop UnknownWord)) n q) (_∷_ (name w)))
     go (stop k) ih = refl
 
-pub attribute-ended : (b : ℕ) (ws : List ℕ) (p : ℕ) {x m q : ℕ} → readEntry b ws p ≡ got (x, m) q → ended (readNames b ws m q) ≡ ended (readOneAttribute b ws p)
+pub attribute-ended : (b : ℕ) (ws : List ℕ) (p : ℕ) {s : Two} → twoScan (readEntry b ws p) ≡ s → ended (readOneAttribute b ws p) ≡ thenBoth s (λ x m q. ended (readNames b ws m q))
 unfolding readAttribute readCounted readName
-attribute-ended b ws p {x} {m} {q} e =
-    let t = entry b ws p e in
-    names-ended b ws (λ i. i) m q ∙ rw (t .first, t .second) (sym (ended-made (readList (readName b ws (λ i. i) (λ i. stop UnknownWord)) m q) _))
-
-pub attribute-halts : (b : ℕ) (ws : List ℕ) (p : ℕ) {r : Refusal} → readEntry b ws p ≡ stop r → readOneAttribute b ws p ≡ stop r
-unfolding readAttribute readCounted readName
-attribute-halts b ws p {r} e = go (no-entry b ws p e)
-  where
-    go : NoPair (readBelow b ws p) (readWord ws) r → readOneAttribute b ws p ≡ stop r
-    go (at-first d) = rw d
-    go (at-second d k) = rw (d, k)
+attribute-ended b ws p d =
+    let name = readName b ws (λ i. i) (λ i. stop UnknownWord) in
+    let names : ℕ → ℕ → Scan = λ m r. ended (readNames b ws m r) in
+    ended-behind (readBelow b ws p) (λ i. i) _ (λ x q. thenWord (wordScan (readWord ws q)) names)
+    (λ x q. ended-made (readCounted ws name q) _ ∙ ended-word (readWord ws q) (readList name) names (λ m r. sym (names-ended b ws (λ i. i) m r)))
+    ∙ behind-entry b ws p _ (λ x. names) (λ x q. refl) d
 
 -- ---- lists: `each n p` is where n things end that begin at p, `one p` where the first of them does
 

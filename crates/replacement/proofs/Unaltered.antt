@@ -46,7 +46,7 @@ use Rattle.rebuild_declaration.proofs.Pieces.{encode-none, encode-own, encode-t
 use Rattle.pieces.specs.declared.Whole.{Whole}
 use Rattle.pieces.specs.declared.Whole.the-variants.{AType, ADeclaration}
 use Rattle.replacement.specs.Wholes.{laidBy, wholeRebuilt}
-use Rattle.replacement.proofs.Wholes.{ends-got, ends-alike, whole-answered}
+use Rattle.replacement.proofs.Wholes.{tree-got, ends-alike, whole-answered}
 use Rattle.replacement.proofs.EachType.{Every, each-type, declaration-deep}
 
 -- a list of no rules
@@ -110,10 +110,10 @@ module _ (ws pairs : List ℕ) (m : Ty ℕ → Ty ℕ) (stays : (q : ℕ) (t : T
   fills lay deep x {a} e l k {o} h = record { fills = λ b n i. let j : got (lay a) (length ws) ≡ got b n = rw e at i in let y : lay a ≡ b = cc in h ∙ shallow o ws (deep a) l ∙ ap (λ z. laidDown o (given z)) (sym k ∙ y) }
 
   pub unaltered-fills : (what : Whole) {o o′ : List ℕ} {r : RebuildAnswer} → ended (laidBy what ws pairs m) ≡ At (length ws) → (r, o′) ≡ laidDown o (given (sameWords ws 0)) → Fills (laidBy what ws pairs m) o o′ r
-  unaltered-fills AType e h = let t = ends-got (laidType m) (treeAt ws pairs 0) e in fills (laidType m) depth (treeAt ws pairs 0) (t .1) (tree-deep ws pairs 0 (t .1)) (type-kept ws pairs m stays (t .1)) h
+  unaltered-fills AType e h = let t = tree-got AType ws pairs m e in fills (laidType m) depth (treeAt ws pairs 0) (t .reads) (tree-deep ws pairs 0 (t .reads)) (type-kept ws pairs m stays (t .reads)) h
   unaltered-fills ADeclaration e h =
-      let d = ends-got (laidDeclaration m) (declarationIn ws pairs) e in
-      fills (laidDeclaration m) (λ x. deepestPiece (pieces x)) (declarationIn ws pairs) (d .1) (declaration-deep ws pairs (d .1)) (declaration-kept ws pairs m stays (d .1)) h
+      let d = tree-got ADeclaration ws pairs m e in
+      fills (laidDeclaration m) (λ x. deepestPiece (pieces x)) (declarationIn ws pairs) (d .reads) (declaration-deep ws pairs (d .reads)) (declaration-kept ws pairs m stays (d .reads)) h
 
 -- ---- without rules
 

@@ -1,7 +1,5 @@
-use Rattle.encoding.specs.Scans.{ended}
-use Rattle.pieces.proofs.Scans.{attribute-ended, attribute-halts, two-got, two-stop}
-use Rattle.pieces.specs.Walks.{readEntry}
-use mathlib.Core.Path.{_∙_, ap, sym}
+use Rattle.pieces.proofs.Scans.{attribute-ended}
+use mathlib.Core.Path.{_∙_, sym}
 use borrow.Author.Needs.{needs}
 use Rattle.pieces.proofs.scan_attribute.Statement.{statement}
 use Rattle.pieces.proofs.scan_attribute.Tie as tie
@@ -20,11 +18,13 @@ enum-known-r c = search needs
 
 returns : tie.Need-returns
 returns c =
-    c .scan-names .ensures ∙ attribute-ended (c .before .before .before .before .before .before .args .bound) (c .before .before .before .before .before .before .args .words .now) (c .before .before .before .before .before .before .args .at) (two-got (readEntry (c .before .before .before .before .before .before .args .bound) (c .before .before .before .before .before .before .args .words .now) (c .before .before .before .before .before .before .args .at)) (c .before .before .before .before .scan-entry .ensures) (c .before .before .second .given .1))
+    let a = c .before .before .before .before .before .before .args in
+    c .scan-names .ensures ∙ sym (attribute-ended (a .bound) (a .words .now) (a .at) (sym (c .before .before .before .before .scan-entry .ensures) ∙ c .before .before .second .given .1))
 
 returns-2 : tie.Need-returns-2
 returns-2 c =
-    ap ended (sym (attribute-halts (c .before .before .before .before .before .args .bound) (c .before .before .before .before .before .args .words .now) (c .before .before .before .before .before .args .at) (two-stop (readEntry (c .before .before .before .before .before .args .bound) (c .before .before .before .before .before .args .words .now) (c .before .before .before .before .before .args .at)) (c .before .before .before .scan-entry .ensures) (c .before .r .given .1))))
+    let a = c .before .before .before .before .before .args in
+    sym (attribute-ended (a .bound) (a .words .now) (a .at) (sym (c .before .before .before .scan-entry .ensures) ∙ c .before .r .given .1))
 
 pub scan-attribute-spec : {M : Type 1} → statement M
 scan-attribute-spec =

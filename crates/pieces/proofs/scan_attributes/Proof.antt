@@ -1,8 +1,6 @@
-use Rattle.encoding.proofs.Reading.{word-got, word-stop}
-use Rattle.encoding.specs.Declarations.{readCounted}
-use Rattle.encoding.specs.Reading.{readWord}
-use Rattle.pieces.specs.Walks.{readAttributes}
-use mathlib.Core.Path.{_∙_}
+use Rattle.pieces.specs.Walks.{readAttributes, readOneAttribute}
+use Rattle.pieces.proofs.Scans.{counted-ended}
+use mathlib.Core.Path.{_∙_, sym}
 use borrow.Author.Needs.{needs}
 use Rattle.pieces.proofs.scan_attributes.Statement.{statement}
 use Rattle.pieces.proofs.scan_attributes.Tie as tie
@@ -20,14 +18,16 @@ enum-known-r : tie.Need-enum-known-r
 enum-known-r c = search needs
 
 returns : tie.Need-returns
-unfolding readAttributes readCounted
+unfolding readAttributes
 returns c =
-    c .scan-each-attribute .ensures ∙ rw (word-got (readWord (c .before .before .before .before .before .before .args .words .now) (c .before .before .before .before .before .before .args .at)) (c .before .before .before .before .scan-word .ensures) (c .before .before .value .given .1))
+    let a = c .before .before .before .before .before .before .args in
+    c .scan-each-attribute .ensures ∙ sym (counted-ended (a .words .now) (readOneAttribute (a .bound) (a .words .now)) (a .at) (sym (c .before .before .before .before .scan-word .ensures) ∙ c .before .before .value .given .1))
 
 returns-2 : tie.Need-returns-2
-unfolding readAttributes readCounted
+unfolding readAttributes
 returns-2 c =
-    rw (word-stop (readWord (c .before .before .before .before .before .args .words .now) (c .before .before .before .before .before .args .at)) (c .before .before .before .scan-word .ensures) (c .before .r .given .1))
+    let a = c .before .before .before .before .before .args in
+    sym (counted-ended (a .words .now) (readOneAttribute (a .bound) (a .words .now)) (a .at) (sym (c .before .before .before .scan-word .ensures) ∙ c .before .r .given .1))
 
 pub scan-attributes-spec : {M : Type 1} → statement M
 scan-attributes-spec =

@@ -1,8 +1,5 @@
-use Rattle.encoding.specs.Tables.{nameCount}
-use Rattle.pieces.specs.Walks.{readTwo}
-use Rattle.pieces.proofs.Scans.{two-got, two-stop}
-use Rattle.pieces.proofs.Ends.{case-ended, case-refused}
-use mathlib.Core.Path.{_∙_}
+use Rattle.pieces.proofs.Ends.{case-ended}
+use mathlib.Core.Path.{_∙_, sym}
 use borrow.Author.Needs.{needs}
 use Rattle.pieces.proofs.scan_case.Statement.{statement}
 use Rattle.pieces.proofs.scan_case.Tie as tie
@@ -25,12 +22,12 @@ enum-known-r c = search needs
 returns : tie.Need-returns
 returns c =
     let a = c .before .before .before .before .before .before .before .before .before .args in
-    c .scan-fields .ensures ∙ case-ended (a .words .now) (a .pairs .now) (a .text .now) (a .at) (two-got (readTwo (nameCount (a .pairs .now)) (nameCount (a .pairs .now)) (a .words .now) (a .at)) (rw (c .before .before .before .before .before .name-count .ensures) at (c .before .before .before .before .scan-two .ensures)) (c .before .before .next .given .1))
+    c .scan-fields .ensures ∙ sym (case-ended (a .words .now) (a .pairs .now) (a .text .now) (a .at) (sym (rw (c .before .before .before .before .before .name-count .ensures) at (c .before .before .before .before .scan-two .ensures)) ∙ c .before .before .next .given .1))
 
 returns-2 : tie.Need-returns-2
 returns-2 c =
     let a = c .before .before .before .before .before .before .before .before .args in
-    case-refused (a .words .now) (a .pairs .now) (a .text .now) (a .at) (two-stop (readTwo (nameCount (a .pairs .now)) (nameCount (a .pairs .now)) (a .words .now) (a .at)) (rw (c .before .before .before .before .name-count .ensures) at (c .before .before .before .scan-two .ensures)) (c .before .r .given .1))
+    sym (case-ended (a .words .now) (a .pairs .now) (a .text .now) (a .at) (sym (rw (c .before .before .before .before .name-count .ensures) at (c .before .before .before .scan-two .ensures)) ∙ c .before .r .given .1))
 
 pub scan-case-spec : {M : Type 1} → statement M
 scan-case-spec =

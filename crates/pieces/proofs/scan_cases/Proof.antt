@@ -1,7 +1,6 @@
-use Rattle.encoding.specs.Reading.{readWord}
-use Rattle.encoding.specs.Declarations.{readCounted}
-use Rattle.encoding.proofs.Reading.{word-got, word-stop}
-use mathlib.Core.Path.{_∙_}
+use Rattle.pieces.specs.Ends.{caseAt}
+use Rattle.pieces.proofs.Scans.{counted-ended}
+use mathlib.Core.Path.{_∙_, sym}
 use borrow.Author.Needs.{needs}
 use Rattle.pieces.proofs.scan_cases.Statement.{statement}
 use Rattle.pieces.proofs.scan_cases.Tie as tie
@@ -19,16 +18,14 @@ enum-known-r : tie.Need-enum-known-r
 enum-known-r c = search needs
 
 returns : tie.Need-returns
-unfolding readCounted
 returns c =
     let a = c .before .before .before .before .before .before .before .before .args in
-    c .scan-each-case .ensures ∙ rw (word-got (readWord (a .words .now) (a .at)) (c .before .before .before .before .scan-word .ensures) (c .before .before .value .given .1))
+    c .scan-each-case .ensures ∙ sym (counted-ended (a .words .now) (caseAt (a .words .now) (a .pairs .now) (a .text .now)) (a .at) (sym (c .before .before .before .before .scan-word .ensures) ∙ c .before .before .value .given .1))
 
 returns-2 : tie.Need-returns-2
-unfolding readCounted
 returns-2 c =
     let a = c .before .before .before .before .before .before .before .args in
-    rw (word-stop (readWord (a .words .now) (a .at)) (c .before .before .before .scan-word .ensures) (c .before .r .given .1))
+    sym (counted-ended (a .words .now) (caseAt (a .words .now) (a .pairs .now) (a .text .now)) (a .at) (sym (c .before .before .before .scan-word .ensures) ∙ c .before .r .given .1))
 
 pub scan-cases-spec : {M : Type 1} → statement M
 scan-cases-spec =

@@ -1,6 +1,6 @@
-use Rattle.encoding.proofs.Reading.{word-got, word-stop}
 use Rattle.encoding.specs.Reading.{readBelow, readWord}
 use Rattle.pieces.specs.Walks.{readEntry}
+use Rattle.pieces.proofs.Scans.{both-read, second-refused, first-refused}
 use borrow.Author.Needs.{needs}
 use Rattle.pieces.proofs.scan_entry.Statement.{statement}
 use Rattle.pieces.proofs.scan_entry.Tie as tie
@@ -26,17 +26,20 @@ enum-known-r-2 c = search needs
 returns : tie.Need-returns
 unfolding readEntry
 returns c =
-    rw (word-got (readBelow (c .before .before .before .before .before .before .before .before .before .args .bound) (c .before .before .before .before .before .before .before .before .before .args .words .now) (c .before .before .before .before .before .before .before .before .before .args .at)) (c .before .before .before .before .before .before .before .scan-below .ensures) (c .before .before .before .before .before .first .given .1), word-got (readWord (c .before .before .before .before .before .before .before .before .before .args .words .now) _) (c .before .before .before .scan-word .ensures) (c .before .second .given .1))
+    let a = c .before .before .before .before .before .before .before .before .before .args in
+    both-read (readBelow (a .bound) (a .words .now) (a .at)) (readWord (a .words .now)) (c .before .before .before .before .before .before .before .scan-below .ensures) (c .before .before .before .before .before .first .given .1) (c .before .before .before .scan-word .ensures) (c .before .second .given .1)
 
 returns-2 : tie.Need-returns-2
 unfolding readEntry
 returns-2 c =
-    rw (word-got (readBelow (c .before .before .before .before .before .before .before .before .before .args .bound) (c .before .before .before .before .before .before .before .before .before .args .words .now) (c .before .before .before .before .before .before .before .before .before .args .at)) (c .before .before .before .before .before .before .before .scan-below .ensures) (c .before .before .before .before .before .first .given .1), word-stop (readWord (c .before .before .before .before .before .before .before .before .before .args .words .now) _) (c .before .before .before .scan-word .ensures) (c .before .r .given .1))
+    let a = c .before .before .before .before .before .before .before .before .before .args in
+    second-refused (readBelow (a .bound) (a .words .now) (a .at)) (readWord (a .words .now)) (c .before .before .before .before .before .before .before .scan-below .ensures) (c .before .before .before .before .before .first .given .1) (c .before .before .before .scan-word .ensures) (c .before .r .given .1)
 
 returns-3 : tie.Need-returns-3
 unfolding readEntry
 returns-3 c =
-    rw (word-stop (readBelow (c .before .before .before .before .before .args .bound) (c .before .before .before .before .before .args .words .now) (c .before .before .before .before .before .args .at)) (c .before .before .before .scan-below .ensures) (c .before .r2 .given .1))
+    let a = c .before .before .before .before .before .args in
+    first-refused (readBelow (a .bound) (a .words .now) (a .at)) (readWord (a .words .now)) (c .before .before .before .scan-below .ensures) (c .before .r2 .given .1)
 
 pub scan-entry-spec : {M : Type 1} → statement M
 scan-entry-spec =

@@ -1,7 +1,5 @@
-use Rattle.encoding.specs.Reading.{readBelow}
-use Rattle.encoding.proofs.Reading.{word-got, word-stop}
-use Rattle.pieces.proofs.Ends.{field-refused, named-ended, nameless-ended}
-use mathlib.Core.Path.{_∙_}
+use Rattle.pieces.proofs.Ends.{field-ended, named-member, nameless-member}
+use mathlib.Core.Path.{_∙_, sym}
 use borrow.Author.Needs.{needs}
 use Rattle.pieces.proofs.scan_field.Statement.{statement}
 use Rattle.pieces.proofs.scan_field.Tie as tie
@@ -18,7 +16,7 @@ scan-formal-requires c κs = search needs
 returns : tie.Need-returns
 returns c =
     let a = c .before .before .before .before .before .before .before .before .before .args in
-    c .scan-formal .ensures ∙ named-ended (a .words .now) (a .pairs .now) (a .text .now) (a .kind) (a .at) (c .before .if1 .taken) (word-got (readBelow 2 (a .words .now) (a .at)) (c .before .before .before .before .before .scan-below .ensures) (c .before .before .before .next .given .1))
+    c .scan-formal .ensures ∙ named-member (a .words .now) (a .pairs .now) (a .text .now) (a .kind) _ (c .before .if1 .taken) ∙ sym (field-ended (a .words .now) (a .pairs .now) (a .text .now) (a .kind) (a .at) (sym (c .before .before .before .before .before .scan-below .ensures) ∙ c .before .before .before .next .given .1))
 
 scan-type-requires : tie.Need-scan-type-requires
 scan-type-requires c κs = search needs
@@ -29,12 +27,12 @@ enum-known-r c = search needs
 returns-2 : tie.Need-returns-2
 returns-2 c =
     let a = c .before .before .before .before .before .before .before .before .before .args in
-    c .scan-type .ensures ∙ nameless-ended (a .words .now) (a .pairs .now) (a .text .now) (a .kind) (a .at) (c .before .if1 .left) (word-got (readBelow 2 (a .words .now) (a .at)) (c .before .before .before .before .before .scan-below .ensures) (c .before .before .before .next .given .1))
+    c .scan-type .ensures ∙ nameless-member (a .words .now) (a .pairs .now) (a .text .now) (a .kind) _ (c .before .if1 .left) ∙ sym (field-ended (a .words .now) (a .pairs .now) (a .text .now) (a .kind) (a .at) (sym (c .before .before .before .before .before .scan-below .ensures) ∙ c .before .before .before .next .given .1))
 
 returns-3 : tie.Need-returns-3
 returns-3 c =
     let a = c .before .before .before .before .before .before .before .args in
-    field-refused (a .words .now) (a .pairs .now) (a .text .now) (a .kind) (a .at) (word-stop (readBelow 2 (a .words .now) (a .at)) (c .before .before .before .scan-below .ensures) (c .before .r .given .1))
+    sym (field-ended (a .words .now) (a .pairs .now) (a .text .now) (a .kind) (a .at) (sym (c .before .before .before .scan-below .ensures) ∙ c .before .r .given .1))
 
 pub scan-field-spec : {M : Type 1} → statement M
 scan-field-spec =

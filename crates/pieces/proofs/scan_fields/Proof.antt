@@ -1,7 +1,5 @@
-use Rattle.pieces.specs.Walks.{readEntry}
-use Rattle.pieces.proofs.Scans.{two-got, two-stop}
-use Rattle.pieces.proofs.Ends.{fields-ended, fields-refused}
-use mathlib.Core.Path.{_∙_}
+use Rattle.pieces.proofs.Ends.{fields-ended}
+use mathlib.Core.Path.{_∙_, sym}
 use borrow.Author.Needs.{needs}
 use Rattle.pieces.proofs.scan_fields.Statement.{statement}
 use Rattle.pieces.proofs.scan_fields.Tie as tie
@@ -21,12 +19,12 @@ enum-known-r c = search needs
 returns : tie.Need-returns
 returns c =
     let a = c .before .before .before .before .before .before .before .before .args in
-    c .scan-each-field .ensures ∙ fields-ended (a .words .now) (a .pairs .now) (a .text .now) (a .at) (two-got (readEntry 2 (a .words .now) (a .at)) (c .before .before .before .before .scan-entry .ensures) (c .before .before .first .given .1))
+    c .scan-each-field .ensures ∙ sym (fields-ended (a .words .now) (a .pairs .now) (a .text .now) (a .at) (sym (c .before .before .before .before .scan-entry .ensures) ∙ c .before .before .first .given .1))
 
 returns-2 : tie.Need-returns-2
 returns-2 c =
     let a = c .before .before .before .before .before .before .before .args in
-    fields-refused (a .words .now) (a .pairs .now) (a .text .now) (a .at) (two-stop (readEntry 2 (a .words .now) (a .at)) (c .before .before .before .scan-entry .ensures) (c .before .r .given .1))
+    sym (fields-ended (a .words .now) (a .pairs .now) (a .text .now) (a .at) (sym (c .before .before .before .scan-entry .ensures) ∙ c .before .r .given .1))
 
 pub scan-fields-spec : {M : Type 1} → statement M
 scan-fields-spec =

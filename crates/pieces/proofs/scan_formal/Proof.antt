@@ -1,8 +1,5 @@
-use Rattle.encoding.specs.Tables.{nameCount}
-use Rattle.encoding.specs.Reading.{readBelow}
-use Rattle.encoding.proofs.Reading.{word-got, word-stop}
-use Rattle.pieces.proofs.Ends.{formal-ended, formal-refused}
-use mathlib.Core.Path.{_∙_}
+use Rattle.pieces.proofs.Ends.{formal-ended}
+use mathlib.Core.Path.{_∙_, sym}
 use borrow.Author.Needs.{needs}
 use Rattle.pieces.proofs.scan_formal.Statement.{statement}
 use Rattle.pieces.proofs.scan_formal.Tie as tie
@@ -25,12 +22,12 @@ enum-known-r c = search needs
 returns : tie.Need-returns
 returns c =
     let a = c .before .before .before .before .before .before .before .before .before .args in
-    c .scan-type .ensures ∙ formal-ended (a .words .now) (a .pairs .now) (a .text .now) (a .at) (word-got (readBelow (nameCount (a .pairs .now)) (a .words .now) (a .at)) (rw (c .before .before .before .before .before .name-count .ensures) at (c .before .before .before .before .scan-below .ensures)) (c .before .before .next .given .1))
+    c .scan-type .ensures ∙ sym (formal-ended (a .words .now) (a .pairs .now) (a .text .now) (a .at) (sym (rw (c .before .before .before .before .before .name-count .ensures) at (c .before .before .before .before .scan-below .ensures)) ∙ c .before .before .next .given .1))
 
 returns-2 : tie.Need-returns-2
 returns-2 c =
     let a = c .before .before .before .before .before .before .before .before .args in
-    formal-refused (a .words .now) (a .pairs .now) (a .text .now) (a .at) (word-stop (readBelow (nameCount (a .pairs .now)) (a .words .now) (a .at)) (rw (c .before .before .before .before .name-count .ensures) at (c .before .before .before .scan-below .ensures)) (c .before .r .given .1))
+    sym (formal-ended (a .words .now) (a .pairs .now) (a .text .now) (a .at) (sym (rw (c .before .before .before .before .name-count .ensures) at (c .before .before .before .scan-below .ensures)) ∙ c .before .r .given .1))
 
 pub scan-formal-spec : {M : Type 1} → statement M
 scan-formal-spec =
