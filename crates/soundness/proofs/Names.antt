@@ -19,7 +19,7 @@ use Rattle.encoding.specs.Types.{sizeOf}
 use Rattle.output.proofs.Laws.{part-length}
 use Rattle.soundness.specs.declared.NameCheck.{NameCheck}
 use Rattle.soundness.specs.declared.NameCheck.the-variants.{Fine, Poor, NoName}
-use Rattle.soundness.specs.Judging.{letters, beginsExcluded, WordBytes, Known, unlessJudged, Checked, fine, poor, no-name}
+use Rattle.soundness.specs.Judging.{letters, wordStarts, wordLengths, beginsExcluded, WordBytes, Known, unlessJudged, Checked, fine, poor, no-name}
 use Rattle.encoding.proofs.Tables.{impossible, everyBelow, every-at, same-eq, name-fixed}
 use Rattle.encoding.proofs.Names.{beq-eq}
 use Rattle.measure.proofs.PathNames.{part-next, part-none}
@@ -134,28 +134,22 @@ pub among-end : (x : Bytes) (l : List Bytes) (k : ℕ) → length l ≤ k → am
 unfolding among
 among-end x l k h = rw (drop-of-length-le l h)
 
-unfoldable pub starts : List ℕ
-starts = 0 ∷ 2 ∷ 5 ∷ 8 ∷ 11 ∷ 15 ∷ 17 ∷ 20 ∷ 23 ∷ 26 ∷ 30 ∷ 35 ∷ 39 ∷ 42 ∷ 46 ∷ 49 ∷ 54 ∷ []
-
-unfoldable pub lengths : List ℕ
-lengths = 2 ∷ 3 ∷ 3 ∷ 3 ∷ 4 ∷ 2 ∷ 3 ∷ 3 ∷ 3 ∷ 4 ∷ 5 ∷ 4 ∷ 3 ∷ 4 ∷ 3 ∷ 5 ∷ 4 ∷ []
-
-pub excluded-part : (k : ℕ) → k < 17 → take (getD lengths k 0) (drop (getD starts k 0) letters) ≡ getD excluded k []
-unfolding everyBelow same starts lengths letters excluded ascii _and_
+pub excluded-part : (k : ℕ) → k < 17 → take (getD wordLengths k 0) (drop (getD wordStarts k 0) letters) ≡ getD excluded k []
+unfolding everyBelow same wordStarts wordLengths letters excluded ascii _and_
 excluded-part k h =
-    same-eq (take (getD lengths k 0) (drop (getD starts k 0) letters)) (getD excluded k [])
-    (every-at (λ i. same (take (getD lengths i 0) (drop (getD starts i 0) letters)) (getD excluded i [])) 17 refl k h)
+    same-eq (take (getD wordLengths k 0) (drop (getD wordStarts k 0) letters)) (getD excluded k [])
+    (every-at (λ i. same (take (getD wordLengths i 0) (drop (getD wordStarts i 0) letters)) (getD excluded i [])) 17 refl k h)
 
 -- each of these words lies within the letters
-pub excluded-inside : (k : ℕ) → k < 17 → getD starts k 0 + getD lengths k 0 ≤ 58
-unfolding everyBelow starts lengths _and_
+pub excluded-inside : (k : ℕ) → k < 17 → getD wordStarts k 0 + getD wordLengths k 0 ≤ 58
+unfolding everyBelow wordStarts wordLengths _and_
 excluded-inside k h =
-    leb-true (getD starts k 0 + getD lengths k 0) 58
-    (every-at (λ i. leb (getD starts i 0 + getD lengths i 0) 58) 17 refl k h)
+    leb-true (getD wordStarts k 0 + getD wordLengths k 0) 58
+    (every-at (λ i. leb (getD wordStarts i 0 + getD wordLengths i 0) 58) 17 refl k h)
 
-pub excluded-length : (k : ℕ) → k < 17 → length (getD excluded k []) ≡ getD lengths k 0
+pub excluded-length : (k : ℕ) → k < 17 → length (getD excluded k []) ≡ getD wordLengths k 0
 unfolding letters ascii
-excluded-length k h = sym (ap length (excluded-part k h)) ∙ part-length letters (getD starts k 0) (getD lengths k 0) (excluded-inside k h)
+excluded-length k h = sym (ap length (excluded-part k h)) ∙ part-length letters (getD wordStarts k 0) (getD wordLengths k 0) (excluded-inside k h)
 
 -- what lacks something that all of some words have is none of them
 among-none : (f : Bytes → Bool) (x : Bytes) (l : List Bytes) → ((k : ℕ) → k < length l → f (getD l k []) ≡ true) → f x ≡ false → among x l ≡ false

@@ -15,7 +15,7 @@ ghost use Rattle.encoding.specs.Heads.{pathHead, headAfter, readHead};
 ghost use Rattle.encoding.specs.Types.{sizeOf, typeAt};
 ghost use Rattle.encoding.specs.declared.Head.the-variants.{Name, Apply, Tuple, Function, ArrayOf, Meta};
 ghost use Rattle.measure.specs.Lengths.{worded, namesPath, headOfPath};
-ghost use Rattle.soundness.specs.Judging.{letters, beginsExcluded, WordBytes, Ready, Known, Checked, Onward, OnwardAlways, unlessJudged, rootScan, nodeScan, bareScan, leafScan, bothScan, Scanned, askNext, nextType, under, pushed, leaving, Outward, Kept, Stepped};
+ghost use Rattle.soundness.specs.Judging.{letters, wordStarts, wordLengths, beginsExcluded, WordBytes, Ready, Known, Checked, Onward, OnwardAlways, unlessJudged, rootScan, nodeScan, bareScan, leafScan, bothScan, Scanned, askNext, nextType, under, pushed, leaving, Outward, Kept, Stepped};
 ghost use Rattle.soundness.specs.Calls.{typeIsSound, soundAnswer};
 use encoding::Check;
 use encoding::PathAt;
@@ -180,7 +180,7 @@ fn is_word(text: &[u8], start: usize, end: usize) -> bool
     false
 }
 
-// The words that are no names stand one behind the other in `stands_at`: where each starts, and how long it is.
+// The words that are no names stand one behind the other in `is_listed`: where each starts, and how long it is.
 const STARTS: [u8; 17] = [
     0,
     2,
@@ -204,32 +204,41 @@ const STARTS: [u8; 17] = [
 const LENGTHS: [u8; 17] = [2, 3, 3, 3, 4, 2, 3, 3, 3, 4, 5, 4, 3, 4, 3, 5, 4];
 
 // `bytes` stands at `start` among the letters of these words.
-fn stands_at(bytes: &[u8], start: usize) -> bool
-    requires { ⌜ start + length (now bytes) ≤ 58 ⌝ }
+fn stands_at(all: &[u8; 58], bytes: &[u8], start: usize) -> bool
+    requires { ⌜ (now all ≡ letters) × (start + length (now bytes) ≤ 58) ⌝ }
     ensures { λ r. ⌜ r ≡ same (now (bytes .entry)) (take (length (now (bytes .entry))) (drop start letters)) ⌝ }
 {
-    let all = b"u8u16u32u64u128i8i16i32i64i128usizeboolmutimpldyncrateSelf";
     encoding::same_bytes(bytes, encoding::part(all, start, start + bytes.len()))
 }
 
-// `bytes` is excluded word `k`. The letters are laid out only where the lengths agree.
-fn is_excluded_word(bytes: &[u8], k: usize) -> bool
-    requires { ⌜ k < 17 ⌝ }
+// `bytes` is excluded word `k`, by the tables of these words.
+fn is_excluded_word(
+    all: &[u8; 58],
+    starts: &[u8; 17],
+    lengths: &[u8; 17],
+    bytes: &[u8],
+    k: usize,
+) -> bool
+    requires { ⌜ (now all ≡ letters) × (now starts ≡ wordStarts) × (now lengths ≡ wordLengths) × (k < 17) ⌝ }
     ensures { λ r. ⌜ r ≡ same (now (bytes .entry)) (getD excluded k []) ⌝ }
 {
-    if bytes.len() != LENGTHS[k] as usize {
+    if bytes.len() != lengths[k] as usize {
         return false;
     }
-    stands_at(bytes, STARTS[k] as usize)
+    stands_at(all, bytes, starts[k] as usize)
 }
 
-// `bytes` is one of the words that are no names, found by comparing with each.
+// `bytes` is one of the words that are no names, found by comparing with each. The tables are laid out once for all of them: what is read from one that was just
+// laid out waits for that.
 fn is_listed(bytes: &[u8]) -> bool
     ensures { λ r. ⌜ r ≡ among (now (bytes .entry)) excluded ⌝ }
 {
+    let all = *b"u8u16u32u64u128i8i16i32i64i128usizeboolmutimpldyncrateSelf";
+    let starts = STARTS;
+    let lengths = LENGTHS;
     let mut k = 0;
     while k < 17 {
-        if is_excluded_word(bytes, k) {
+        if is_excluded_word(&all, &starts, &lengths, bytes, k) {
             return true;
         }
         k += 1;

@@ -1,8 +1,7 @@
 use mathlib.Core.Path.{ap, _∙_}
-use lib.ListN.{length}
-use Rattle.rast.specs.Bytes.{ascii, same}
+use lib.ListN.{length, take, drop}
+use Rattle.rast.specs.Bytes.{same}
 use Rattle.encoding.proofs.Names.{part-to}
-use Rattle.soundness.specs.Judging.{letters}
 use borrow.Author.Needs.{needs}
 use Rattle.soundness.proofs.stands_at.Statement.{statement}
 use Rattle.soundness.proofs.stands_at.Tie as tie
@@ -17,10 +16,11 @@ same-bytes-requires : tie.Need-same-bytes-requires
 same-bytes-requires c κs = search needs
 
 returns : tie.Need-returns
-unfolding letters ascii
 returns c =
-    let a = c .before .before .before .before .before .args in
-    c .same-bytes .ensures ∙ ap (same (a .bytes .now)) (c .before .part .ensures ∙ part-to letters (a .start) (length (a .bytes .now)))
+    let s = c .before .before .before .before in
+    let a = s .args in
+    let n = length (a .bytes .now) in
+    c .same-bytes .ensures ∙ ap (same (a .bytes .now)) (c .before .part .ensures ∙ part-to (a .all .now) (a .start) n ∙ ap (λ l. take n (drop (a .start) l)) (s .pre .0))
 
 pub stands-at-spec : {M : Type 1} → statement M
 stands-at-spec = tie.close (tie.spec add-part part-requires same-bytes-requires returns)
