@@ -3,7 +3,7 @@ use mathlib.Core.Path.{_≡_, ap, sym, _∙_}
 use mathlib.Core.List.{List}
 use lib.ListN.{getD, take, drop}
 use Rattle.rast.specs.Bytes.{same}
-use Rattle.soundness.specs.Judging.{letters, wordStarts, wordLengths}
+use Rattle.soundness.specs.Judging.{letters, wordLengths}
 use Rattle.encoding.proofs.Names.{same-apart}
 use Rattle.soundness.proofs.Names.{excluded-inside, excluded-length, excluded-part}
 use native.Mathlib.Omega.{arith}
