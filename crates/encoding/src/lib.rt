@@ -598,12 +598,11 @@ fn go_on(next: usize, due: usize) -> Onward
     Onward { next, due }
 }
 
-// The first of `due` types has its head at `at`. One match says both what `types_below` and what `own_end` say.
-pub fn pass_head(words: &[u32], at: usize, due: usize) -> Onward
-    requires { ⌜ HeadHere (now words) at × (0 < due) × (due - 1 + typesBelow (now words) at < 2 ^ 63) ⌝ }
+// The first of `due` types has its head, of kind `w`, at `at`. One match says both what `types_below` and what `own_end` say.
+pub fn pass_kind(words: &[u32], w: u32, at: usize, due: usize) -> Onward
+    requires { ⌜ (w ≡ getD (now words) at 0) × (at < length (now words)) × HeadHere (now words) at × (0 < due) × (due - 1 + typesBelow (now words) at < 2 ^ 63) ⌝ }
     ensures { λ r. ⌜ (r .next ≡ ownEnd (now (words .entry)) at) × (r .due ≡ due - 1 + typesBelow (now (words .entry)) at) ⌝ }
 {
-    let w = kind_at(words, at);
     if w < 12 {
         return go_on(at + 1, due - 1);
     }
@@ -619,4 +618,13 @@ pub fn pass_head(words: &[u32], at: usize, due: usize) -> Onward
         24 => go_on(at + 2, due),
         _ => go_on(at + 1, due),
     }
+}
+
+// The same, where the kind was not read yet.
+pub fn pass_head(words: &[u32], at: usize, due: usize) -> Onward
+    requires { ⌜ HeadHere (now words) at × (0 < due) × (due - 1 + typesBelow (now words) at < 2 ^ 63) ⌝ }
+    ensures { λ r. ⌜ (r .next ≡ ownEnd (now (words .entry)) at) × (r .due ≡ due - 1 + typesBelow (now (words .entry)) at) ⌝ }
+{
+    let w = kind_at(words, at);
+    pass_kind(words, w, at, due)
 }

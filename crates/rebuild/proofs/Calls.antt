@@ -25,10 +25,10 @@ use Rattle.rebuild.specs.declared.Rebuilt.the-variants.{Done, Full}
 use Rattle.rebuild.specs.declared.RebuildAnswer.{RebuildAnswer}
 use Rattle.rebuild.specs.declared.RebuildAnswer.the-variants.{Length, Refused}
 use Rattle.rebuild.specs.declared.Attempt.{Attempt}
-use Rattle.rebuild.specs.declared.Attempt.the-variants.{Answered, NoRoom}
+use Rattle.rebuild.specs.declared.Attempt.the-variants.{Filled, Denied, NoRoom}
 use Rattle.rebuild.specs.Laid.{Rebuilds, rebuilt, full, ruleList, Ruled}
 use Rattle.rebuild.specs.Calls.{Laid, roomOf, zeros, laidDown, ruledBy}
-use Rattle.rebuild.specs.Attempts.{sameWords, LaidRebuilds, Attempted, answered, noRoom, Fills}
+use Rattle.rebuild.specs.Attempts.{sameWords, LaidRebuilds, Attempted, answered, denied, noRoom, Fills}
 use Rattle.rebuild.proofs.Types.{came, filled}
 
 -- more words would lie there than there is room
@@ -36,12 +36,12 @@ pub down-over : (o : List ℕ) (b : Laid) {o′ : List ℕ} → roomOf o < b .to
 unfolding laidDown
 down-over o b h e = rw (lt-ltb (roomOf o) (b .top) h, e) refl
 
--- the tree is too deep
 -- how deep a tree is does not matter, if it is not too deep
 pub shallow : (o ws : List ℕ) (d : ℕ) → d ≤ 64 → laidDown o (given (sameWords ws 0)) ≡ laidDown o (given (sameWords ws d))
 unfolding laidDown
 shallow o ws d h = rw (le-ltb 64 d h) refl
 
+-- the tree is too deep
 pub down-deep : (o : List ℕ) (b : Laid) {o′ : List ℕ} → b .top ≤ roomOf o → 64 < b .deep → o′ ≡ zeros o → _≡_ {A = RebuildAnswer × List ℕ} (Refused TooDeep, o′) (laidDown o (given b))
 unfolding laidDown
 down-deep o b h k e = rw (le-ltb (roomOf o) (b .top) h, lt-ltb 64 (b .deep) k, e) refl
@@ -64,12 +64,18 @@ module _ (x : Reading Laid) (o : List ℕ) {limit : ℕ} {s s′ : List ℕ} {r 
   pub attempt-fits : {n q d : ℕ} → limit ≤ length s → limit ≤ roomOf o → r ≡ Done n q d → (q ≤ length s′) × (q ≤ length o) × (q ≤ 8192)
   attempt-fits h l e = let b = came k e in (omega (arith, b .grown .kept, b .within), omega (arith, b .within), omega (arith, b .within))
 
-  pub attempt-done : {n q d : ℕ} {a : RebuildAnswer} {o′ : List ℕ} → limit ≤ roomOf o → r ≡ Done n q d → (a, o′) ≡ laidDown o (given (record { words = take q s′; top = q; deep = d }))
-      → Attempted limit x o o′ (Answered a)
-  attempt-done {n} {q} {d} l e f =
-      let b = came k e in
-      answered (b .reads)
-      (f ∙ down-same o (record { words = take q s′; top = q; deep = d }) (b .value) (b .grown .front) (b .deeps) (omega (arith, b .within)) (omega (arith, b .fits)))
+  module _ {n q d : ℕ} {a : RebuildAnswer} {o′ : List ℕ} (l : limit ≤ roomOf o) (e : r ≡ Done n q d) (f : (a, o′) ≡ laidDown o (given (record { words = take q s′; top = q; deep = d }))) where
+    -- the answer for the words in the scratch is the one for what was read
+    attempt-same : (a, o′) ≡ laidDown o (given (came k e .value))
+    attempt-same =
+        let b = came k e in
+        f ∙ down-same o (record { words = take q s′; top = q; deep = d }) (b .value) (b .grown .front) (b .deeps) (omega (arith, b .within)) (omega (arith, b .fits))
+
+    pub attempt-filled : {m : ℕ} → a ≡ Length m → Attempted limit x o o′ (Filled m)
+    attempt-filled g = answered (came k e .reads) (rw g at attempt-same)
+
+    pub attempt-denied : {c : Refusal} → a ≡ Refused c → Attempted limit x o o′ (Denied c)
+    attempt-denied g = denied (came k e .reads) (rw g at attempt-same)
 
   pub attempt-full : {o′ : List ℕ} {a : Laid} {n : ℕ} → x ≡ got a n → r ≡ Full → o′ ≡ o → Attempted limit x o o′ NoRoom
   attempt-full {a = a} c e d =
@@ -93,11 +99,21 @@ mapped-reads lay (stop k) r = impossible (let e = r .reads in cc)
 got-same : {A : Type 0} {a b : A} {m n : ℕ} {x : Reading A} → x ≡ got a m → x ≡ got b n → a ≡ b
 got-same e d = cc
 
-pub attempt-answered : {limit : ℕ} {x : Reading Laid} {o o′ : List ℕ} {a : Attempt} {r : RebuildAnswer} → Attempted limit x o o′ a → a ≡ Answered r → Fills x o o′ r
-attempt-answered {limit} {x} {o} {o′} {r = r} k e = go (subst (Attempted limit x o o′) e k)
+-- what answers for one tree that was read answers for it
+fills-by : {x : Reading Laid} {o o′ : List ℕ} {r : RebuildAnswer} {c : Laid} {m : ℕ} → x ≡ got c m → (r, o′) ≡ laidDown o (given c) → Fills x o o′ r
+fills-by {o = o} e f = record { fills = λ b n d. f ∙ ap (λ l. laidDown o (given l)) (got-same e d) }
+
+pub filled-fills : {limit : ℕ} {x : Reading Laid} {o o′ : List ℕ} {a : Attempt} {m : ℕ} → Attempted limit x o o′ a → a ≡ Filled m → Fills x o o′ (Length m)
+filled-fills {limit} {x} {o} {o′} {m = m} k e = go (subst (Attempted limit x o o′) e k)
   where
-    go : Attempted limit x o o′ (Answered r) → Fills x o o′ r
-    go (answered c f) = record { fills = λ b n d. f ∙ ap (λ l. laidDown o (given l)) (got-same c d) }
+    go : Attempted limit x o o′ (Filled m) → Fills x o o′ (Length m)
+    go (answered c f) = fills-by c f
+
+pub denied-fills : {limit : ℕ} {x : Reading Laid} {o o′ : List ℕ} {a : Attempt} {r : Refusal} → Attempted limit x o o′ a → a ≡ Denied r → Fills x o o′ (Refused r)
+denied-fills {limit} {x} {o} {o′} {r = r} k e = go (subst (Attempted limit x o o′) e k)
+  where
+    go : Attempted limit x o o′ (Denied r) → Fills x o o′ (Refused r)
+    go (denied c f) = fills-by c f
 
 -- there was no room in the caller's buffer
 pub attempt-over : {limit : ℕ} {x : Reading Laid} {o o′ o″ : List ℕ} {a : Attempt} → Attempted limit x o o′ a → a ≡ NoRoom → limit ≡ roomOf o → o″ ≡ zeros o′ → Fills x o o″ (Refused BufferTooShort)

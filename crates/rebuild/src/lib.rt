@@ -361,9 +361,10 @@ pub enum RebuildAnswer {
     Refused(Refusal),
 }
 
-// A call's answer, or that there was no room for it.
+// A call's answer, or that there was no room for it. It is no enum inside an enum: that would be copied as a whole, and waited for.
 pub enum Attempt {
-    Answered(RebuildAnswer),
+    Filled(usize),
+    Denied(Refusal),
     NoRoom,
 }
 

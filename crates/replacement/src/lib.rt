@@ -80,7 +80,10 @@ fn attempt(
             next: _,
             pos,
             depth,
-        } => Attempt::Answered(rebuild::finish(scratch, pos, depth, out)),
+        } => match rebuild::finish(scratch, pos, depth, out) {
+            RebuildAnswer::Length(n) => Attempt::Filled(n),
+            RebuildAnswer::Refused(r) => Attempt::Denied(r),
+        },
         Rebuilt::Full => Attempt::NoRoom,
     }
 }
@@ -105,7 +108,8 @@ fn fill_large(
     }
     let mut scratch = [0u32; 8192];
     match attempt(what, words, pairs, text, rules, table, k, &mut scratch, out) {
-        Attempt::Answered(answer) => answer,
+        Attempt::Filled(n) => RebuildAnswer::Length(n),
+        Attempt::Denied(r) => RebuildAnswer::Refused(r),
         Attempt::NoRoom => {
             rebuild::clear(out);
             RebuildAnswer::Refused(Refusal::BufferTooShort)
@@ -134,7 +138,8 @@ fn fill(
     }
     let mut scratch = [0u32; 128];
     match attempt(what, words, pairs, text, rules, table, k, &mut scratch, out) {
-        Attempt::Answered(answer) => answer,
+        Attempt::Filled(n) => RebuildAnswer::Length(n),
+        Attempt::Denied(r) => RebuildAnswer::Refused(r),
         Attempt::NoRoom => { fill_large(what, words, pairs, text, rules, table, k, out) },
     }
 }

@@ -1,5 +1,5 @@
 -- A pass over accepted types: what is still to be laid down, behind what was, is the whole list.
-use Prim.Native.Nat.{ℕ, zero, suc, _+_, _-_, _≤_, _<_}
+use Prim.Native.Nat.{ℕ, zero, suc, _+_, _-_, _^_, _≤_, _<_}
 use mathlib.Core.Path.{_≡_, refl, ap, sym, _∙_}
 use mathlib.Core.List.{List, [], _∷_, _++_, append-nil}
 use native.Mathlib.Omega.{arith}
@@ -121,7 +121,7 @@ module _ {ws pairs : List ℕ} {text : Bytes} {at due : ℕ} {o : List ℕ} {pos
       visit-here = type-here ws pairs text place (first .reads)
 
       -- where a type is due, a head stands
-      pub head-due : HeadHere ws place
+      head-due : HeadHere ws place
       head-due = head-here ws pairs place (numbered ws pairs text place (first .reads) .reads)
 
       synonymous : getD ws place 0 ≡ 23 → Synonymous ws pairs text place left (v .rest) (v .end)
@@ -192,6 +192,12 @@ module _ {ws pairs : List ℕ} {text : Bytes} {at due : ℕ} {o : List ℕ} {pos
         visit-words k =
             let h = bind-got (readHead (nameCount pairs) ws place) _ (first .reads) in
             rw (words-kids (nameCount pairs) ws place (h .first), words-end (nameCount pairs) ws place (h .first)) (visit-step k (h .first))
+
+        -- and are what a pass over it asks for
+        pub head-asked : {k : ℕ} → k ≡ getD ws place 0 → (k ≡ 23 → ⊥) → (k ≡ getD ws place 0) × (place < length ws) × HeadHere ws place × (0 < left) × (left - 1 + typesBelow ws place < 2 ^ 63)
+        head-asked e o =
+            let s = visit-words (λ z. o (e ∙ z)) in
+            (e, visit-here, head-due, l, omega (arith, s .few, v .few))
 
         -- of a synonym the display is visited,
         pub visit-display : getD ws place 0 ≡ 23 → Due ws pairs text (place + 1) 1 p″

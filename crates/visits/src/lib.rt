@@ -46,7 +46,8 @@ fn put_place(place: usize, out: &mut [u32], pos: usize) -> usize
     pos + 1
 }
 
-// The `due` types at `at`, which were accepted. Each head leaves as many types due as follow it, but for a synonym's base: that is passed over.
+// The `due` types at `at`, which were accepted. Each head leaves as many types due as follow it, but for a synonym's base: that is passed over. Few displays hold a
+// synonym themselves, so they are left to `visit_type`, which the compiler puts in place of its call here.
 fn visit_types(
     words: &[u32],
     pairs: &[u32],
@@ -63,15 +64,16 @@ fn visit_types(
     let mut left = due;
     let mut p = pos;
     while 0 < left {
+        let w = words[place];
         p = put_place(place, out, p);
-        if words[place] == SYNONYM {
-            let shown = visit_types(words, pairs, text, place + 1, 1, out, p);
+        if w == SYNONYM {
+            let shown = visit_type(words, pairs, text, place + 1, out, p);
             place = writing::skip_type(words, pairs, text, shown.next);
             left -= 1;
             p = shown.pos;
             continue;
         }
-        let onward = encoding::pass_head(words, place, left);
+        let onward = encoding::pass_kind(words, w, place, left);
         left = onward.due;
         place = onward.next;
     }
@@ -97,7 +99,8 @@ fn visit_type(
     let mut left = 1;
     let mut p = pos;
     while 0 < left {
-        if words[place] == SYNONYM {
+        let w = words[place];
+        if w == SYNONYM {
             let rest = visit_types(words, pairs, text, place, left, out, p);
             return Spot {
                 next: rest.next,
@@ -105,7 +108,7 @@ fn visit_type(
             };
         }
         p = put_place(place, out, p);
-        let onward = encoding::pass_head(words, place, left);
+        let onward = encoding::pass_kind(words, w, place, left);
         left = onward.due;
         place = onward.next;
     }

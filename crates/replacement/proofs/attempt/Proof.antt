@@ -1,4 +1,6 @@
-use Rattle.rebuild.proofs.Calls.{attempt-done, attempt-fits, attempt-full}
+use Rattle.encoding.specs.Reading.{Reading}
+use Rattle.rebuild.proofs.Calls.{attempt-denied, attempt-filled, attempt-fits, attempt-full}
+use Rattle.rebuild.specs.Calls.{Laid}
 use Rattle.rebuild.specs.Laid.{mapping}
 use Rattle.replacement.proofs.Wholes.{limit-is}
 use Rattle.replacement.specs.Wholes.{laidBy}
@@ -7,6 +9,10 @@ use native.Mathlib.Omega.{arith}
 use borrow.Author.Needs.{needs}
 use Rattle.replacement.proofs.attempt.Statement.{statement}
 use Rattle.replacement.proofs.attempt.Tie as tie
+
+-- the tree
+abbrev tree : tie.Start → Reading Laid
+tree s = laidBy (s .args .what) (s .args .words .now) (s .args .pairs .now) (mapping (s .args .rules .now) (s .args .pairs .now) (s .args .text .now))
 
 room-of-requires : tie.Need-room-of-requires
 room-of-requires c κs = search needs
@@ -19,8 +25,15 @@ enum-known-pos c = search needs
 
 finish-requires : tie.Need-finish-requires
 finish-requires c κs =
-    let a = c .before .before .before .before .before .before .before .before .before .before .before .before .before .before .before .before .args in
-    attempt-fits (laidBy (a .what) (a .words .now) (a .pairs .now) (mapping (a .rules .now) (a .pairs .now) (a .text .now))) (a .out .now) (c .before .before .before .before .before .before .before .rebuild-whole .ensures) (omega (arith, c .before .before .before .before .before .before .before .before .before .room-of .ensures)) (omega (arith, c .before .before .before .before .before .before .before .before .before .room-of .ensures, c .before .before .before .before .before .before .before .before .before .before .before .before .before .before .before .before .pre .3)) (c .before .before .before .pos .given .1)
+    let s = c .before .before .before .before .before .before .before .before .before .before .before .before .before .before .before .before in
+    let m = c .before .before .before .before .before .before .before .before .before .room-of .ensures in
+    attempt-fits (tree s) (s .args .out .now) (c .before .before .before .before .before .before .before .rebuild-whole .ensures) (omega (arith, m)) (omega (arith, m, s .pre .3)) (c .before .before .before .pos .given .1)
+
+enum-known-n : tie.Need-enum-known-n
+enum-known-n c = search needs
+
+enum-known-r : tie.Need-enum-known-r
+enum-known-r c = search needs
 
 enum-told : tie.Need-enum-told
 enum-told c = search needs
@@ -33,18 +46,30 @@ same-length-2 c = search needs
 
 returns : tie.Need-returns
 returns c =
-    let a = c .before .before .before .before .before .before .before .before .before .before .before .before .before .before .before .before .before .before .before .args in
-    limit-is (c .before .before .before .before .before .before .before .before .before .before .before .before .room-of .ensures)
-    (attempt-done (laidBy (a .what) (a .words .now) (a .pairs .now) (mapping (a .rules .now) (a .pairs .now) (a .text .now))) (a .out .now) (c .before .before .before .before .before .before .before .before .before .before .rebuild-whole .ensures) (omega (arith, c .before .before .before .before .before .before .before .before .before .before .before .before .room-of .ensures, c .before .before .before .before .before .before .before .before .before .before .before .before .before .before .before .before .before .before .before .pre .3)) (c .before .before .before .before .before .before .pos .given .1) (c .before .before .finish .ensures))
+    let s = c .before .before .before .before .before .before .before .before .before .before .before .before .before .before .before .before .before .before .before .before .before .before in
+    let m = c .before .before .before .before .before .before .before .before .before .before .before .before .before .before .before .room-of .ensures in
+    limit-is m (attempt-filled (tree s) (s .args .out .now) (c .before .before .before .before .before .before .before .before .before .before .before .before .before .rebuild-whole .ensures) (omega (arith, m, s .pre .3)) (c .before .before .before .before .before .before .before .before .before .pos .given .1) (c .before .before .before .before .before .finish .ensures) (c .before .n .given .1))
 
 same-length-3 : tie.Need-same-length-3
 same-length-3 c = search needs
 
+same-length-4 : tie.Need-same-length-4
+same-length-4 c = search needs
+
 returns-2 : tie.Need-returns-2
 returns-2 c =
-    let a = c .before .before .before .before .before .before .before .before .before .before .before .before .before .args in
+    let s = c .before .before .before .before .before .before .before .before .before .before .before .before .before .before .before .before .before .before .before .before .before .before in
+    let m = c .before .before .before .before .before .before .before .before .before .before .before .before .before .before .before .room-of .ensures in
+    limit-is m (attempt-denied (tree s) (s .args .out .now) (c .before .before .before .before .before .before .before .before .before .before .before .before .before .rebuild-whole .ensures) (omega (arith, m, s .pre .3)) (c .before .before .before .before .before .before .before .before .before .pos .given .1) (c .before .before .before .before .before .finish .ensures) (c .before .r .given .1))
+
+same-length-5 : tie.Need-same-length-5
+same-length-5 c = search needs
+
+returns-3 : tie.Need-returns-3
+returns-3 c =
+    let s = c .before .before .before .before .before .before .before .before .before .before .before .before .before in
     limit-is (c .before .before .before .before .before .before .room-of .ensures)
-    (attempt-full (laidBy (a .what) (a .words .now) (a .pairs .now) (mapping (a .rules .now) (a .pairs .now) (a .text .now))) (a .out .now) (c .before .before .before .before .rebuild-whole .ensures) (c .before .before .before .before .before .before .before .before .before .before .before .before .before .pre .2 .reads) (c .enum-told .given .1) refl)
+    (attempt-full (tree s) (s .args .out .now) (c .before .before .before .before .rebuild-whole .ensures) (s .pre .2 .reads) (c .enum-told .given .1) refl)
 
 pub attempt-spec : {M : Type 1} → statement M
 attempt-spec =
@@ -54,9 +79,14 @@ attempt-spec =
     rebuild-whole-requires
     enum-known-pos
     finish-requires
+    enum-known-n
+    enum-known-r
     enum-told
     same-length
     same-length-2
     returns
     same-length-3
-    returns-2)
+    same-length-4
+    returns-2
+    same-length-5
+    returns-3)
