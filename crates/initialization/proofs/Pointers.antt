@@ -7,7 +7,7 @@ use native.Mathlib.Omega.{arith}
 use borrow.Author.Tests.{eq-eqb, ne-eqb}
 use lib.Dec.{eqb}
 use lib.ListN.{getD}
-use Rattle.rast.specs.Bytes.{Bytes, ascii, same, _and_, _or_}
+use Rattle.rast.specs.Bytes.{Bytes, ascii, same, _and_}
 use Rattle.rast.specs.Tree.{Ty, Tys, nil, cons, count}
 use Rattle.rast.specs.DeclarationToString.{Expand}
 use Rattle.rast.proofs.BytesLaws.{and-false, and-true}
@@ -40,7 +40,7 @@ use Rattle.classes.proofs.Paths.{class-object, class-pointer}
 use Rattle.classes.proofs.Worded.{word-other, count-other, base-word-other, path-word, path-here}
 use Rattle.shapes.specs.Parts.{expanded, ObjectOrPointerUnderlying}
 use Rattle.shapes.specs.Shapes.{IsObject, IsObjectOrPointer}
-use Rattle.shapes.proofs.Pointers.{expanded-tree, pointer-is}
+use Rattle.shapes.proofs.Pointers.{or-true, expanded-tree, pointer-is}
 use Rattle.initialization.specs.declared.Pointer.{Pointer}
 use Rattle.initialization.specs.declared.Pointer.the-variants.{To, NoPointer}
 use Rattle.initialization.specs.Initialized.{nameAt, Member, OfRuntime, underPointer, Points}
@@ -177,10 +177,6 @@ module _ (ws pairs : List ℕ) (text : Bytes) (r : Readable (treeAt ws pairs 0))
     object-here {k} h n =
         let i : isOf ObjectClass (Expand type) ≡ true = sym object-is ∙ rw (e, h) refl in
         points-to k e (sym (pointer-is type) ∙ rw i (or-true (isOf PtrClass (Expand type)))) (n ∙ rw i refl)
-      where
-        or-true : (a : Bool) → (a or true) ≡ true
-        or-true true = refl
-        or-true false = refl
 
     pub pointer-here : same member (ascii "Object") ≡ false → same member (ascii "Ptr") ≡ true → Points ws pairs text (To 12 (at + 7))
     unfolding _and_
