@@ -1,5 +1,5 @@
 -- What changes at initialization, by what the finders answer.
-use Prim.Native.Nat.{ℕ, suc, _+_, _-_, _≤_, _<_}
+use Prim.Native.Nat.{ℕ, _+_, _-_, _≤_, _<_}
 use mathlib.Core.Path.{_≡_, refl, ap, sym, _∙_, subst}
 use mathlib.Core.Bool.{Bool, true, false}
 use mathlib.Core.List.{List, [], _∷_, _++_, map-append, append-nil}
@@ -7,7 +7,7 @@ use mathlib.Core.Option.{Option, some, none}
 use native.Mathlib.Omega.{arith}
 use borrow.Author.Tests.{eq-eqb, ne-eqb, eqb-true}
 use lib.Dec.{eqb}
-use lib.ListN.{length, getD, take, drop}
+use lib.ListN.{length, getD, take, drop, length-append}
 use Rattle.rast.specs.Bytes.{Bytes, _and_, _or_}
 use Rattle.rast.specs.Tree.{Path, Global, PMemberSelect, Ty, Tys, Primitive, TIdentifier, TypeFromPath, TypeApp, Borrowed, BorrowedMut, ImplType, DynType, TupleType, FnType, IntersectionType, Array, TSynonym, TMetaData, nil, cons, count}
 use Rattle.rast.specs.DeclarationToString.{Expand}
@@ -29,6 +29,7 @@ use Rattle.trees.proofs.Renaming.{words-kept, encode-words, spelled, tree-run, 
 use Rattle.replace.specs.Laying.{depth, deepest}
 use Rattle.wrappers.specs.Asked.{ExpandsAt}
 use Rattle.wrappers.proofs.TypesIn.{array-of}
+use Rattle.wrappers.proofs.Expanding.{expands-readable}
 use Rattle.classes.specs.declared.Found.{Found}
 use Rattle.classes.specs.declared.Found.the-variants.{At, NoPart}
 use Rattle.classes.specs.declared.Class.the-variants.{ArrayClass}
@@ -41,6 +42,7 @@ use Rattle.shapes.specs.Parts.{expandedAt, expanded, ObjectOrPointerUnderlying}
 use Rattle.shapes.specs.Shapes.{IsObject, IsPointer, IsObjectOrPointer, IsMultiArray}
 use Rattle.shapes.specs.Initialization.{MaybeUninitType, appliedToUninit, newUnderlying}
 use Rattle.shapes.proofs.Pointers.{expanded-tree, multi-array-is, pointer-found}
+use Rattle.rebuild.proofs.Growing.{front-taken}
 use Rattle.initialization.specs.declared.Initial.{Initial}
 use Rattle.initialization.specs.declared.Initial.the-variants.{OfArray, Unchanged}
 use Rattle.initialization.specs.Initialized.{uninitWords, newArray, Pieces, pieces, unchanged, Becomes}
@@ -64,14 +66,6 @@ uninit-words a = one-words (PMemberSelect (PMemberSelect (PMemberSelect Global 1
 uninit-depth : (a : Ty ℕ) → 0 < depth a → depth (MaybeUninitType a) ≡ 1 + depth a
 unfolding MaybeUninitType
 uninit-depth a h = one-depth (PMemberSelect (PMemberSelect (PMemberSelect Global 1) 8) 9) a h
-
-pub take-front : (l x y : List ℕ) → take (length (x ++ y)) l ≡ x ++ y → take (length x) l ≡ x
-take-front l [] y e = refl
-take-front [] (c ∷ x) y e = absurd (let z : ⊥ = (let n : 0 ≡ suc (length (x ++ y)) = ap length e in omega (arith, n)) in z)
-take-front (w ∷ l) (c ∷ x) y e =
-    let h : w ≡ c = ap (λ k. getD k 0 0) e in
-    let k : take (length (x ++ y)) l ≡ x ++ y = ap (drop 1) e in
-    rw h (ap (λ m. c ∷ m) (take-front l x y k))
 
 pub pieces-of : (ws pairs : List ℕ) (around : ℕ) (t : Ty ℕ) (end : ℕ) (new : Option (Ty ℕ)) (array u : Ty ℕ) (start element : ℕ) → new ≡ some array → start ≤ element → element ≤ length ws
     → treeAt ws pairs element ≡ got u end → encode array ≡ take (element - start) (drop start ws) ++ (uninitWords ++ encode u) → depth array ≡ 2 + depth u → around + depth u ≤ depth t
@@ -101,22 +95,28 @@ module _ (f : ℕ → Bytes) where
     made : s ≡ Array element size
     sized : renamedSize f size ≡ z
 
+  -- a type is an array, or it has no element
+  array-cases : (P : Ty ℕ → Type 0) → ((u : Ty ℕ) (z : Option ℕ) → P (Array u z)) → ((s : Ty ℕ) → ((v : Ty Bytes) (z : Option Bytes) → renamed f s ≡ Array v z → ⊥) → unsized s ≡ none → P s) → (s : Ty ℕ) → P s
+  unfolding unsized renamed
+  array-cases P h k (Primitive p) = k (Primitive p) (λ v z e. impossible (cc)) refl
+  array-cases P h k (TIdentifier x) = k (TIdentifier x) (λ v z e. impossible (cc)) refl
+  array-cases P h k (TypeFromPath p) = k (TypeFromPath p) (λ v z e. impossible (cc)) refl
+  array-cases P h k (TypeApp b ts) = k (TypeApp b ts) (λ v z e. impossible (cc)) refl
+  array-cases P h k (Borrowed t) = k (Borrowed t) (λ v z e. impossible (cc)) refl
+  array-cases P h k (BorrowedMut t) = k (BorrowedMut t) (λ v z e. impossible (cc)) refl
+  array-cases P h k (ImplType t) = k (ImplType t) (λ v z e. impossible (cc)) refl
+  array-cases P h k (DynType t) = k (DynType t) (λ v z e. impossible (cc)) refl
+  array-cases P h k (TupleType ts) = k (TupleType ts) (λ v z e. impossible (cc)) refl
+  array-cases P h k (FnType ts t) = k (FnType ts t) (λ v z e. impossible (cc)) refl
+  array-cases P h k (IntersectionType l r) = k (IntersectionType l r) (λ v z e. impossible (cc)) refl
+  array-cases P h k (Array t s) = h t s
+  array-cases P h k (TSynonym d b) = k (TSynonym d b) (λ v z e. impossible (cc)) refl
+  array-cases P h k (TMetaData d c o) = k (TMetaData d c o) (λ v z e. impossible (cc)) refl
+
   is-array : (s : Ty ℕ) {v : Ty Bytes} {z : Option Bytes} → renamed f s ≡ Array v z → IsArray s z
   unfolding renamed
-  is-array (Primitive p) e = impossible (cc)
-  is-array (TIdentifier x) e = impossible (cc)
-  is-array (TypeFromPath p) e = impossible (cc)
-  is-array (TypeApp b ts) e = impossible (cc)
-  is-array (Borrowed t) e = impossible (cc)
-  is-array (BorrowedMut t) e = impossible (cc)
-  is-array (ImplType t) e = impossible (cc)
-  is-array (DynType t) e = impossible (cc)
-  is-array (TupleType ts) e = impossible (cc)
-  is-array (FnType ts t) e = impossible (cc)
-  is-array (IntersectionType l r) e = impossible (cc)
-  is-array (Array t s) e = record { element = t; size = s; made = refl; sized = cc }
-  is-array (TSynonym d b) e = impossible (cc)
-  is-array (TMetaData d c o) e = impossible (cc)
+  is-array s {v} {z} =
+      array-cases (λ s. renamed f s ≡ Array v z → IsArray s z) (λ u y e. record { element = u; size = y; made = refl; sized = cc }) (λ s k n e. absurd (k v z e)) s
 
   no-size : (z : Option ℕ) → renamedSize f z ≡ none → z ≡ none
   unfolding renamedSize
@@ -130,21 +130,8 @@ module _ (f : ℕ → Bytes) where
   sized-stays u (some y) e = refl
 
   not-unsized : (s : Ty ℕ) → (kind (renamed f s) ≡ 22 → ⊥) → unsized s ≡ none
-  unfolding unsized renamed
-  not-unsized (Primitive p) h = refl
-  not-unsized (TIdentifier x) h = refl
-  not-unsized (TypeFromPath p) h = refl
-  not-unsized (TypeApp b ts) h = refl
-  not-unsized (Borrowed t) h = refl
-  not-unsized (BorrowedMut t) h = refl
-  not-unsized (ImplType t) h = refl
-  not-unsized (DynType t) h = refl
-  not-unsized (TupleType ts) h = refl
-  not-unsized (FnType ts t) h = refl
-  not-unsized (IntersectionType l r) h = refl
-  not-unsized (Array t s) h = absurd (h refl)
-  not-unsized (TSynonym d b) h = refl
-  not-unsized (TMetaData d c o) h = refl
+  unfolding renamed
+  not-unsized = array-cases (λ s. (kind (renamed f s) ≡ 22 → ⊥) → unsized s ≡ none) (λ u z h. absurd (h refl)) (λ s k n h. n)
 
   -- what becomes of a type that is no array
   new-none : (s : Ty ℕ) → unsized s ≡ none → IsMultiArray (renamed f s) ≡ false → newUnderlying f s ≡ none
@@ -192,6 +179,10 @@ module _ (ws pairs : List ℕ) (text : Bytes) where
   pub type-readable : (at : ℕ) → Readable (treeAt ws pairs at) → Readable (typeAt ws pairs text at)
   type-readable at r = record { value = renamed bytes (r .value); end = r .end; reads = type-read at (r .reads) }
 
+  -- what stands behind its wrappers
+  pub expanded-readable : (at : ℕ) → Readable (treeAt ws pairs at) → {start : ℕ} → ExpandsAt (typeAt ws pairs text) at start → Readable (typeAt ws pairs text start)
+  expanded-readable at r {start} x = expands-readable ws pairs text at start x (type-readable at r)
+
   -- where `Expand` of a tree stands
   pub expanded-place : (at : ℕ) (r : Readable (treeAt ws pairs at)) (start : ℕ) → ExpandsAt (typeAt ws pairs text) at start → expandedAt at (renamed bytes (r .value)) .at ≡ start
   expanded-place at r start x =
@@ -235,7 +226,7 @@ module _ (ws pairs : List ℕ) (text : Bytes) where
             let t = tree-here ws pairs (at + 2) d in
             let w = tree-run ws pairs at (omega (arith, t)) e .0 in
             let z : at + 2 - at ≡ 2 = omega arith in
-            let front : take (at + 2 - at) (drop at ws) ≡ 22 ∷ 0 ∷ [] = rw z (take-front (drop at ws) (22 ∷ 0 ∷ []) (encode u) (w .words)) in
+            let front : take (at + 2 - at) (drop at ws) ≡ 22 ∷ 0 ∷ [] = rw z (front-taken (drop at ws) (22 ∷ 0 ∷ []) (encode u) 2 (length (22 ∷ 0 ∷ encode u)) (w .words) refl (omega arith)) in
             record {
               tree = Array u none;
               end = r .end;
@@ -302,7 +293,7 @@ module _ (ws pairs : List ℕ) (text : Bytes) where
               let w = tree-run ws pairs start (let j = tree-here ws pairs start q in omega arith) q .0 in
               let own : List ℕ = 14 ∷ 1 ∷ encode (TypeFromPath p) in
               let z : element - start ≡ length own = omega (arith, i, encode-words (TypeFromPath p)) in
-              let front : take (element - start) (drop start ws) ≡ own = rw z (take-front (drop start ws) own (encode a) (rw (one-words p a) at (w .words))) in
+              let front : take (element - start) (drop start ws) ≡ own = front-taken (drop start ws) own (encode a) (element - start) (length (own ++ encode a)) (rw (one-words p a) at (w .words)) (sym z) (omega (arith, z, length-append own (encode a))) in
               let s = deep-some ws pairs element c in
               let d = uninit-depth a s in
               let g : encode (TypeApp (TypeFromPath p) (cons (MaybeUninitType a) nil)) ≡ take (element - start) (drop start ws) ++ (uninitWords ++ encode a) =

@@ -5,10 +5,10 @@ use mathlib.Core.Bool.{Bool, true, false}
 use mathlib.Core.List.{List, _++_}
 use mathlib.Core.Option.{Option, some, none}
 use native.Mathlib.Omega.{arith}
-use borrow.Author.Tests.{eq-eqb, eqb-true, le-ltb}
+use borrow.Author.Tests.{eq-eqb, le-ltb}
 use lib.Dec.{eqb, ltb}
 use lib.ListN.{length, take, drop, length-append}
-use lib.Seq.{sets, take-length}
+use lib.Seq.{sets}
 use Rattle.rast.specs.Bytes.{Bytes}
 use Rattle.rast.specs.Tree.{Global, PMemberSelect, Ty}
 use Rattle.rast.specs.DeclarationToString.{Expand}
@@ -23,6 +23,8 @@ use Rattle.encoding.specs.Tables.{nameBytes, nameCount, checkTables}
 use Rattle.encoding.specs.Heads.{readHead}
 use Rattle.encoding.specs.Types.{readNode, readType}
 use Rattle.encoding.proofs.Tables.{impossible}
+use Rattle.encoding.proofs.Reading.{map-got}
+use Rattle.encoding.proofs.Answers.{map-unless, given-whole}
 use Rattle.encoding.proofs.Types.{bind-got, node-parts}
 use Rattle.output.specs.Wrote.{Wrote}
 use Rattle.writing.specs.Written.{Readable}
@@ -43,7 +45,8 @@ use Rattle.rebuild.specs.declared.RebuildAnswer.{RebuildAnswer}
 use Rattle.rebuild.specs.declared.RebuildAnswer.the-variants.{Length, Refused}
 use Rattle.rebuild.specs.Calls.{Laid, roomOf, zeros, laidDown}
 use Rattle.rebuild.specs.Attempts.{sameWords, Fills}
-use Rattle.rebuild.proofs.Calls.{down-over, down-deep, down-front, shallow}
+use Rattle.shapes.proofs.Answers.{answer-given, answer-refused}
+use Rattle.rebuild.proofs.Calls.{down-over, down-deep, down-front, read-fills, copied-fills, run-whole}
 use Rattle.initialization.specs.declared.Initial.{Initial}
 use Rattle.initialization.specs.declared.Initial.the-variants.{OfArray, Unchanged}
 use Rattle.initialization.specs.Initialized.{wholeInitialized, typeWithin, pointerWords, uninitWords, initialWords, newArray, Named, Pieces, pieces, unchanged, Becomes, Whole, Shallow}
@@ -118,16 +121,6 @@ module _ (ws pairs : List ℕ) (text : Bytes) where
   abbrev laid : Reading Laid
   laid = mapReading (laidInit bytes) (treeAt ws pairs 0)
 
-  -- the answer to the tree that was read
-  pub filled : {t : Ty ℕ} {n : ℕ} {o o′ : List ℕ} {r : RebuildAnswer} → treeAt ws pairs 0 ≡ got t n → (r, o′) ≡ laidDown o (given (laidInit bytes t)) → Fills laid o o′ r
-  unfolding mapReading
-  filled {t} {n} {o} e d = record {
-    fills = λ b k c.
-        let g : got (laidInit bytes t) n ≡ got b k = rw e at c in
-        let i : laidInit bytes t ≡ b = cc in
-        d ∙ ap (λ x. laidDown o (given x)) i;
-  }
-
   pub record Changes (start element end deep : ℕ) : Type 0 where
     pub tree : Ty ℕ
     pub last : ℕ
@@ -176,16 +169,16 @@ module _ (ws pairs : List ℕ) (text : Bytes) where
 
   module _ {start element end deep count : ℕ} (c : Changes start element end deep) (o : List ℕ) (n : count ≡ 15 + (end - start)) where
     pub change-over : {o′ : List ℕ} → roomOf o < count → o′ ≡ zeros o → Fills laid o o′ (Refused BufferTooShort)
-    change-over h z = filled (c .reads) (down-over o (laidInit bytes (c .tree)) (omega (arith, h, n, c .size)) z)
+    change-over h z = read-fills (map-got (laidInit bytes) (c .reads)) (down-over o (laidInit bytes (c .tree)) (omega (arith, h, n, c .size)) z)
 
     pub change-deep : {o′ : List ℕ} → count ≤ roomOf o → 61 < deep → o′ ≡ zeros o → Fills laid o o′ (Refused TooDeep)
-    change-deep h d z = filled (c .reads) (down-deep o (laidInit bytes (c .tree)) (omega (arith, h, n, c .size)) (omega (arith, d, c .deeper)) z)
+    change-deep h d z = read-fills (map-got (laidInit bytes) (c .reads)) (down-deep o (laidInit bytes (c .tree)) (omega (arith, h, n, c .size)) (omega (arith, d, c .deeper)) z)
 
     pub change-front : {name : ℕ} {o′ : List ℕ} → count ≤ roomOf o → deep ≤ 61 → Named bytes (treeAt ws pairs 0) name → o′ ≡ sets o 0 (initialWords ws name start element end) → Fills laid o o′ (Length count)
     change-front {name} {o′} h d k z =
         let i = k .names (c .tree) (c .last) (c .reads) in
         let w : o′ ≡ sets o 0 (encode (TypeAtInitialization bytes (c .tree))) = z ∙ ap (sets o 0) (ap (λ x. initialWords ws x start element end) i ∙ sym (c .words)) in
-        filled (c .reads) (down-front o (laidInit bytes (c .tree)) (omega (arith, h, n, c .size)) (omega (arith, d, c .deeper)) (omega (arith, h, n, c .size)) w (omega (arith, n, c .size)))
+        read-fills (map-got (laidInit bytes) (c .reads)) (down-front o (laidInit bytes (c .tree)) (omega (arith, h, n, c .size)) (omega (arith, d, c .deeper)) (omega (arith, h, n, c .size)) w (omega (arith, n, c .size)))
 
   -- ---- a type that stays
 
@@ -198,10 +191,8 @@ module _ (ws pairs : List ℕ) (text : Bytes) where
           let q : TypeAtInitialization bytes t ≡ t = initial-same bytes t d in
           let i : b .end ≡ length ws = cc (b .reads, w .reads) in
           let a = tree-run ws pairs 0 (omega arith) (b .reads) in
-          let n : length ws ≡ length (encode t) = omega (arith, a .1, i, encode-words t) in
-          let same : ws ≡ encode t = sym (take-length ws) ∙ ap (λ k. take k ws) n ∙ a .0 .words in
-          let l : sameWords ws (depth t) ≡ laidInit bytes t = rw (q, sym same) refl in
-          filled (b .reads) (k ∙ shallow o ws (depth t) (tree-deep ws pairs 0 (b .reads)) ∙ ap (λ x. laidDown o (given x)) l)
+          let s : encode t ≡ ws = run-whole (a .0) (omega (arith, a .1, i, encode-words t)) in
+          copied-fills (laidInit bytes) depth (b .reads) (tree-deep ws pairs 0 (b .reads)) (rw (q, s) refl) k
 
 -- ---- the pieces, one behind the other
 
@@ -226,57 +217,48 @@ deeper-tree ws pairs {t} {n} e =
     let d = bind-got (readHead (nameCount pairs) ws 0) (λ h p. readNode ws (λ x. x) (readType (nameCount pairs) ws (λ x. x) 62) h p) e in
     rw (d .first) (node-parts (nameCount pairs) ws (λ x. x) 62 0 e (d .first))
 
-module _ (f : Ty ℕ → Ty Bytes) (size : ℕ) where
-  -- the tree behind a type that fills the words
-  accepted-tree : (x : Reading (Ty ℕ)) {c : Check} → c ≡ acceptance (whole size (mapReading f x)) → c ≡ Passed → (t : Ty ℕ) × (x ≡ got t size)
-  unfolding whole mapReading
-  accepted-tree (got t n) {c} e d = go (eqb n size) (eqb-true n size) e
-    where
-      go : (b : Bool) → (b ≡ true → n ≡ size) → c ≡ acceptance (pick b (given (f t)) (refused LeftOver)) → (u : Ty ℕ) × (got t n ≡ got u size)
-      go true h k = (t, ap (got t) (h refl))
-      go false h k = impossible (cc)
-  accepted-tree (stop r) e d = impossible (cc)
+-- what is read is accepted whatever is made of it
+accept-mapped : {A B : Type 0} (f : A → B) (size : ℕ) (x : Reading A) → acceptance (whole size (mapReading f x)) ≡ acceptance (whole size x)
+unfolding whole mapReading
+accept-mapped f size (got a n) = go (eqb n size)
+  where
+    go : (b : Bool) → acceptance (pick b (given (f a)) (refused LeftOver)) ≡ acceptance (pick b (given a) (refused LeftOver))
+    go true = refl
+    go false = refl
+accept-mapped f size (stop r) = refl
 
-  refused-tree : (x : Reading (Ty ℕ)) {c : Check} {r : Refusal} → c ≡ acceptance (whole size (mapReading f x)) → c ≡ Failed r → whole size x ≡ refused r
-  unfolding whole mapReading
-  refused-tree (got t n) {c} {r} e d = go (eqb n size) e
-    where
-      go : (b : Bool) → c ≡ acceptance (pick b (given (f t)) (refused LeftOver)) → pick b (given t) (refused LeftOver) ≡ refused r
-      go true k = impossible (cc)
-      go false k = let i : LeftOver ≡ r = cc in ap refused i
-  refused-tree (stop k) {c} {r} e d = let i : k ≡ r = cc in ap refused i
-
-module _ (ws pairs : List ℕ) (text : Bytes) {c : Check} where
-  renamed-within : (deep : ℕ) → c ≡ acceptance (whole (length ws) (typeWithin deep ws pairs text)) → c ≡ acceptance (whole (length ws) (mapReading (renamed (nameBytes pairs text)) (treeWithin deep ws pairs)))
-  renamed-within deep e = e ∙ ap (λ x. acceptance (whole (length ws) x)) (type-renamed (nameBytes pairs text) (λ x. x) (nameCount pairs) ws deep 0)
+module _ (ws pairs : List ℕ) (text : Bytes) {c : Check} (deep : ℕ) (e : c ≡ acceptance (whole (length ws) (typeWithin deep ws pairs text))) where
+  tree-accepted : c ≡ acceptance (whole (length ws) (treeWithin deep ws pairs))
+  tree-accepted =
+      e ∙ ap (λ x. acceptance (whole (length ws) x)) (type-renamed (nameBytes pairs text) (λ x. x) (nameCount pairs) ws deep 0)
+      ∙ accept-mapped (renamed (nameBytes pairs text)) (length ws) (treeWithin deep ws pairs)
 
   -- a type that is read with less depth is read, and less deep
+  whole-within : (deepest : Bool) → ((t : Ty ℕ) → treeWithin deep ws pairs ≡ got t (length ws) → treeAt ws pairs 0 ≡ got t (length ws)) → (deepest ≡ false → deep ≤ 63) → c ≡ Passed → Whole ws pairs deepest
+  unfolding unless
+  whole-within deepest up low d =
+      answer-given (whole (length ws) (treeWithin deep ws pairs)) tree-accepted d (Whole ws pairs deepest) λ t i.
+      let r = given-whole Passed (length ws) (treeWithin deep ws pairs) i .1 in
+      record { tree = t; reads = up t r; shallow = λ s. omega (arith, low s, within (nameCount pairs) ws deep 0 t (length ws) r) }
+
+module _ (ws pairs : List ℕ) (text : Bytes) {c : Check} where
   pub lower-whole : c ≡ acceptance (whole (length ws) (typeWithin 63 ws pairs text)) → c ≡ Passed → Whole ws pairs false
-  lower-whole e d =
-      let t = accepted-tree (renamed (nameBytes pairs text)) (length ws) (treeWithin 63 ws pairs) (renamed-within 63 e) d in
-      record { tree = t .0; reads = deeper-tree ws pairs (t .1); shallow = λ i. within (nameCount pairs) ws 63 0 (t .0) (length ws) (t .1) }
+  lower-whole e = whole-within ws pairs text 63 e false (λ t. deeper-tree ws pairs) (λ s. omega arith)
 
   pub deepest-whole : c ≡ acceptance (whole (length ws) (typeWithin 64 ws pairs text)) → c ≡ Passed → Whole ws pairs true
-  deepest-whole e d =
-      let t = accepted-tree (renamed (nameBytes pairs text)) (length ws) (treeAt ws pairs 0) (renamed-within 64 e) d in
-      record { tree = t .0; reads = t .1; shallow = λ i. impossible (cc) }
+  deepest-whole e = whole-within ws pairs text 64 e true (λ t r. r) (λ s. impossible (cc))
 
   pub not-whole : {o : List ℕ} {r : Refusal} → c ≡ acceptance (whole (length ws) (typeWithin 64 ws pairs text)) → c ≡ Failed r
       → _≡_ {A = RebuildAnswer × List ℕ} (Refused r, o) (laidDown o (wholeInitialized ws pairs text))
   unfolding laidDown wholeInitialized mapAnswer
-  not-whole e d = rw (refused-tree (renamed (nameBytes pairs text)) (length ws) (treeAt ws pairs 0) (renamed-within 64 e) d) refl
+  not-whole e d = rw (answer-refused (whole (length ws) (treeAt ws pairs 0)) (tree-accepted ws pairs text 64 e) d) refl
 
 module _ (ws pairs : List ℕ) (text : Bytes) {o o′ : List ℕ} {r : RebuildAnswer} where
   pub whole-filled : {deepest : Bool} → Whole ws pairs deepest → Fills (mapReading (laidInit (nameBytes pairs text)) (treeAt ws pairs 0)) o o′ r → (r, o′) ≡ laidDown o (wholeInitialized ws pairs text)
   unfolding mapReading wholeInitialized mapAnswer whole
   whole-filled w f = rw (w .reads, eq-eqb (length ws) (length ws) refl) (f .fills (laidInit (nameBytes pairs text) (w .tree)) (length ws) (rw (w .reads) refl))
 
-pub tables-filled : (ws pairs : List ℕ) (text : Bytes) (o : List ℕ) {p : RebuildAnswer × List ℕ} {c : Check} → c ≡ checkTables ws pairs text → c ≡ Passed
-    → p ≡ laidDown o (wholeInitialized ws pairs text) → p ≡ laidDown o (typeInitialized ws pairs text)
-unfolding typeInitialized wholeInitialized treeOf unless
-tables-filled ws pairs text o e d k = rw (sym e ∙ d) k
-
-pub tables-leave : (ws pairs : List ℕ) (text : Bytes) {o : List ℕ} {c : Check} {r : Refusal} → c ≡ checkTables ws pairs text → c ≡ Failed r
-    → _≡_ {A = RebuildAnswer × List ℕ} (Refused r, o) (laidDown o (typeInitialized ws pairs text))
-unfolding laidDown typeInitialized treeOf unless mapAnswer
-tables-leave ws pairs text e d = rw (sym e ∙ d) refl
+-- the tables are tested first
+pub tables-tested : (ws pairs : List ℕ) (text : Bytes) → unless (checkTables ws pairs text) (wholeInitialized ws pairs text) ≡ typeInitialized ws pairs text
+unfolding typeInitialized wholeInitialized treeOf
+tables-tested ws pairs text = sym (map-unless (laidInit (nameBytes pairs text)) (checkTables ws pairs text) (whole (length ws) (treeAt ws pairs 0)))

@@ -18,11 +18,11 @@ use Rattle.encoding.proofs.Types.{types-count}
 use Rattle.trees.specs.Renamed.{renamed, renamedAll}
 use Rattle.trees.specs.Encode.{tokens, tokensAll, words}
 use Rattle.trees.specs.Numbered.{treeAt}
-use Rattle.trees.proofs.Nodes.{Node, array, apply, synonym, meta, first-type}
+use Rattle.trees.proofs.Nodes.{Node, array, apply, synonym, meta}
 use Rattle.trees.proofs.Heads.{tree-head, tree-here, tree-below}
 use Rattle.trees.proofs.Renaming.{words-kept, tree-run}
 use Rattle.replace.specs.Laying.{depth}
-use Rattle.replace.proofs.Nodes.{depth-node}
+use Rattle.replace.proofs.Nodes.{first-of, depth-node}
 use Rattle.wrappers.proofs.Expanding.{synonym-words, meta-words}
 use Rattle.classes.specs.Matches.{onPath, applied}
 use Rattle.shapes.specs.Parts.{expandedAt}
@@ -53,22 +53,6 @@ module _ (ws pairs : List ℕ) where
   pub tree-words : (at : ℕ) {t : Ty ℕ} {n : ℕ} → treeAt ws pairs at ≡ got t n → n ≡ at + words t
   tree-words at e = tree-run ws pairs at (let h = tree-here ws pairs at e in omega arith) e .1
 
-  -- the first of some trees, and those behind it
-  record Next (k q : ℕ) (u : Ty ℕ) (us : Tys ℕ) (n : ℕ) : Type 0 where
-    middle : ℕ
-    first : treeAt ws pairs q ≡ got u middle
-    others : readTypes (treeAt ws pairs) (k - 1) middle ≡ got us n
-
-  next : (k q : ℕ) {n : ℕ} {u : Ty ℕ} {us : Tys ℕ} → readTypes (treeAt ws pairs) k q ≡ got (cons u us) n → Next k q u us n
-  unfolding count
-  next k q {n} {u} {us} e =
-      let c = types-count (treeAt ws pairs) k q e in
-      let f = first-type (treeAt ws pairs) k q (omega (arith, c)) e in
-      let m = f .made in
-      let i : f .type ≡ u = cc in
-      let j : f .more ≡ us = cc in
-      record { middle = f .middle; first = f .first ∙ ap (λ v. got v (f .middle)) i; others = f .others ∙ ap (λ v. got v n) j }
-
   last : (k q : ℕ) {n : ℕ} → readTypes (treeAt ws pairs) k q ≡ got nil n → q ≡ n
   unfolding readTypes count
   last k q {n} e =
@@ -88,7 +72,7 @@ module _ (ws pairs : List ℕ) where
       → treeAt ws pairs (at + own) ≡ got u n
   only-child at own {t} {u} {n} e k w =
       let c = children at (cons u nil) e k in
-      let f = next (c .0) (c .1) (c .2) in
+      let f = first-of (treeAt ws pairs) (c .0) (c .1) (c .2) in
       let l = last (c .0 - 1) (f .middle) (f .others) in
       let i : c .1 ≡ at + own = omega (arith, tree-words at e, tree-words (c .1) (f .first), l, w) in
       rw (sym i) (f .first ∙ ap (got u) l)
@@ -97,8 +81,8 @@ module _ (ws pairs : List ℕ) where
       → treeAt ws pairs (at + own + words d) ≡ got b n
   second-child at own {t} {d} {b} {n} e k w =
       let c = children at (cons d (cons b nil)) e k in
-      let f = next (c .0) (c .1) (c .2) in
-      let g = next (c .0 - 1) (f .middle) (f .others) in
+      let f = first-of (treeAt ws pairs) (c .0) (c .1) (c .2) in
+      let g = first-of (treeAt ws pairs) (c .0 - 1) (f .middle) (f .others) in
       let l = last (c .0 - 1 - 1) (g .middle) (g .others) in
       let i : f .middle ≡ at + own + words d = omega (arith, tree-words at e, tree-words (f .middle) (g .first), l, w) in
       rw (sym i) (g .first ∙ ap (got b) l)

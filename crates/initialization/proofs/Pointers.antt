@@ -1,16 +1,17 @@
 -- The pointer that a type is, by the words that stand there, and its name.
-use Prim.Native.Nat.{ℕ, _+_, _≤_}
+use Prim.Native.Nat.{ℕ, _+_, _≤_, _<_}
 use mathlib.Core.Path.{_≡_, refl, ap, sym, _∙_}
 use mathlib.Core.Bool.{Bool, true, false}
 use mathlib.Core.List.{List}
 use native.Mathlib.Omega.{arith}
-use borrow.Author.Tests.{ne-eqb}
+use borrow.Author.Tests.{eq-eqb, ne-eqb}
 use lib.Dec.{eqb}
 use lib.ListN.{getD}
-use Rattle.rast.specs.Bytes.{Bytes, ascii, same, _and_, _or_}
-use Rattle.rast.specs.Tree.{Ty, Tys, Primitive, TIdentifier, TypeFromPath, TypeApp, Borrowed, BorrowedMut, ImplType, DynType, TupleType, FnType, IntersectionType, Array, TSynonym, TMetaData, nil, cons, count}
+use Rattle.rast.specs.Bytes.{Bytes, ascii, same, _and_}
+use Rattle.rast.specs.Tree.{Ty, Tys, nil, cons, count}
 use Rattle.rast.specs.DeclarationToString.{Expand}
 use Rattle.rast.proofs.BytesLaws.{and-false, and-true}
+use Rattle.rast.proofs.SourceEquations.{expand-by}
 use Rattle.encoding.specs.declared.PathAt.{PathAt}
 use Rattle.encoding.specs.HeadWords.{InsidePath}
 use Rattle.encoding.specs.Refusals.{pick}
@@ -27,6 +28,7 @@ use Rattle.trees.specs.Renamed.{renamed}
 use Rattle.trees.proofs.Renaming.{type-words}
 use Rattle.wrappers.specs.Asked.{Judges, ExpandsAt}
 use Rattle.wrappers.proofs.TypesIn.{apply-of}
+use Rattle.wrappers.proofs.Expanding.{synonym-words, meta-words}
 use Rattle.classes.specs.declared.Class.{Class}
 use Rattle.classes.specs.declared.Class.the-variants.{ObjectClass, PtrClass}
 use Rattle.classes.specs.declared.Found.the-variants.{At}
@@ -36,9 +38,9 @@ use Rattle.classes.specs.Matches.{applied}
 use Rattle.classes.specs.Steps.{when, typeAtIndex, argumentAt, argumentOf}
 use Rattle.classes.proofs.Paths.{class-object, class-pointer}
 use Rattle.classes.proofs.Worded.{word-other, count-other, base-word-other, path-word, path-here}
-use Rattle.shapes.specs.Parts.{expandedAt, expanded, ObjectOrPointerUnderlying}
+use Rattle.shapes.specs.Parts.{expanded, ObjectOrPointerUnderlying}
 use Rattle.shapes.specs.Shapes.{IsObject, IsObjectOrPointer}
-use Rattle.shapes.proofs.Pointers.{expanded-tree, pointer-is}
+use Rattle.shapes.proofs.Pointers.{or-true, expanded-tree, pointer-is}
 use Rattle.initialization.specs.declared.Pointer.{Pointer}
 use Rattle.initialization.specs.declared.Pointer.the-variants.{To, NoPointer}
 use Rattle.initialization.specs.Initialized.{nameAt, Member, OfRuntime, underPointer, Points}
@@ -104,44 +106,17 @@ module _ (ws pairs : List ℕ) (text : Bytes) (at : ℕ) (x : Readable (typeAt w
 
 -- ---- behind wrappers
 
-behind : (p : ℕ) (t : Ty Bytes) → p ≤ expandedAt p t .at
-unfolding expandedAt
-behind p (Primitive x) = omega arith
-behind p (TIdentifier x) = omega arith
-behind p (TypeFromPath x) = omega arith
-behind p (TypeApp b ts) = omega arith
-behind p (Borrowed t) = omega arith
-behind p (BorrowedMut t) = omega arith
-behind p (ImplType t) = omega arith
-behind p (DynType t) = omega arith
-behind p (TupleType ts) = omega arith
-behind p (FnType ts t) = omega arith
-behind p (IntersectionType l r) = omega arith
-behind p (Array t s) = omega arith
-behind p (TSynonym d b) = let h = behind (p + 1 + words d) b in omega (arith, h)
-behind p (TMetaData d c o) = let h = behind (p + 2) d in omega (arith, h)
-
--- a type in wrappers is no application itself
-bare-only : (t : Ty Bytes) → isOf ObjectClass t ≡ (isOf ObjectClass (Expand t) and eqb (expandedAt 0 t .at) 0)
-unfolding isOf applied Expand expandedAt _and_
-bare-only (Primitive x) = refl
-bare-only (TIdentifier x) = refl
-bare-only (TypeFromPath x) = refl
-bare-only (TypeApp b ts) = sym (and-true (isOf ObjectClass (TypeApp b ts)))
-bare-only (Borrowed t) = refl
-bare-only (BorrowedMut t) = refl
-bare-only (ImplType t) = refl
-bare-only (DynType t) = refl
-bare-only (TupleType ts) = refl
-bare-only (FnType ts t) = refl
-bare-only (IntersectionType l r) = refl
-bare-only (Array t s) = refl
-bare-only (TSynonym d b) =
-    let h = behind (0 + 1 + words d) b in
-    sym (ap (λ x. isOf ObjectClass (Expand b) and x) (ne-eqb (expandedAt (0 + 1 + words d) b .at) 0 (λ e. omega (arith, h, e))) ∙ and-false (isOf ObjectClass (Expand b)))
-bare-only (TMetaData d c o) =
-    let h = behind (0 + 2) d in
-    sym (ap (λ x. isOf ObjectClass (Expand d) and x) (ne-eqb (expandedAt (0 + 2) d .at) 0 (λ e. omega (arith, h, e))) ∙ and-false (isOf ObjectClass (Expand d)))
+-- a type in wrappers is no application itself, and their words stand before what is in them
+bare-only : (t : Ty Bytes) (at : ℕ) → at + words (Expand t) ≡ words t → isOf ObjectClass t ≡ (isOf ObjectClass (Expand t) and eqb at 0)
+unfolding isOf applied
+bare-only t =
+    expand-by (λ t u. (words u ≤ words t) × ((at : ℕ) → at + words u ≡ words t → isOf ObjectClass t ≡ (isOf ObjectClass u and eqb at 0)))
+    (λ t h. (omega arith, λ at e. sym (ap (λ x. isOf ObjectClass t and x) (eq-eqb at 0 (omega (arith, e))) ∙ and-true (isOf ObjectClass t))))
+    (λ d b u h. (omega (arith, h .0, synonym-words d b), λ at e. sym (wrapped u at (omega (arith, h .0, e, synonym-words d b)))))
+    (λ d u c o h. (omega (arith, h .0, meta-words d c o), λ at e. sym (wrapped u at (omega (arith, h .0, e, meta-words d c o))))) t .1
+  where
+    wrapped : (u : Ty Bytes) (at : ℕ) → 0 < at → (isOf ObjectClass u and eqb at 0) ≡ false
+    wrapped u at h = ap (λ x. isOf ObjectClass u and x) (ne-eqb at 0 (λ e. omega (arith, h, e))) ∙ and-false (isOf ObjectClass u)
 
 module _ (ws pairs : List ℕ) (text : Bytes) (r : Readable (treeAt ws pairs 0)) (at : ℕ) (x : ExpandsAt (typeAt ws pairs text) 0 at) {b : Bool} (o : OfRuntime ws pairs text at b) where
   abbrev bytes : ℕ → Bytes
@@ -155,6 +130,9 @@ module _ (ws pairs : List ℕ) (text : Bytes) (r : Readable (treeAt ws pairs 0))
 
   opened : typeAt ws pairs text at ≡ got (Expand type) (r .end)
   opened = x .expands type (r .end) (type-read ws pairs text 0 (r .reads))
+
+  stands : at + words (Expand type) ≡ words type
+  stands = omega (arith, type-words ws pairs text at opened, type-words ws pairs text 0 (type-read ws pairs text 0 (r .reads)))
 
   object-is : (b and same member (ascii "Object")) ≡ isOf ObjectClass (Expand type)
   unfolding memberIn
@@ -189,7 +167,7 @@ module _ (ws pairs : List ℕ) (text : Bytes) (r : Readable (treeAt ws pairs 0))
           names = λ t l c.
               let i : r .value ≡ t = cc (r .reads, c) in
               let j : k ≡ m = cc in
-              sym j ∙ n ∙ ap (λ u. pick u 11 12) (sym (bare-only type ∙ ap (λ u. isOf ObjectClass (Expand type) and eqb u 0) (expanded-place ws pairs text 0 r at x)) ∙ ap (λ u. isOf ObjectClass (renamed bytes u)) i);
+              sym j ∙ n ∙ ap (λ u. pick u 11 12) (sym (bare-only type at stands) ∙ ap (λ u. isOf ObjectClass (renamed bytes u)) i);
         };
       }
 
@@ -199,10 +177,6 @@ module _ (ws pairs : List ℕ) (text : Bytes) (r : Readable (treeAt ws pairs 0))
     object-here {k} h n =
         let i : isOf ObjectClass (Expand type) ≡ true = sym object-is ∙ rw (e, h) refl in
         points-to k e (sym (pointer-is type) ∙ rw i (or-true (isOf PtrClass (Expand type)))) (n ∙ rw i refl)
-      where
-        or-true : (a : Bool) → (a or true) ≡ true
-        or-true true = refl
-        or-true false = refl
 
     pub pointer-here : same member (ascii "Object") ≡ false → same member (ascii "Ptr") ≡ true → Points ws pairs text (To 12 (at + 7))
     unfolding _and_

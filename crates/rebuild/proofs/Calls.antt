@@ -5,16 +5,19 @@ use mathlib.Core.List.{List}
 use native.Mathlib.Omega.{arith}
 use borrow.Author.Tests.{lt-ltb, le-ltb, eq-eqb, ne-eqb}
 use lib.ListN.{length, take}
-use lib.Seq.{sets}
+use lib.Seq.{sets, take-all}
 use Rattle.rast.specs.Bytes.{Bytes}
 use Rattle.encoding.specs.declared.Refusal.{Refusal}
 use Rattle.encoding.specs.declared.Refusal.the-variants.{LeftOver, TooDeep, BufferTooShort}
-use Rattle.encoding.specs.Refusals.{Answer, given, refused}
+use Rattle.encoding.specs.declared.Check.{Check}
+use Rattle.encoding.specs.declared.Check.the-variants.{Passed, Failed}
+use Rattle.encoding.specs.Refusals.{Answer, given, refused, unless}
 use Rattle.encoding.specs.Reading.{Reading, got, stop, whole}
 use Rattle.encoding.specs.Scans.{mapReading}
 use Rattle.encoding.proofs.Tables.{impossible}
 use Rattle.output.proofs.Laws.{sets-front}
 use Rattle.encoding.proofs.Reading.{map-got}
+use Rattle.trees.specs.Runs.{Run}
 use Rattle.writing.specs.Written.{Readable}
 use Rattle.replace.specs.Rules.{Rule, rulesOf}
 use Rattle.rules.specs.declared.RulesAnswer.{RulesAnswer}
@@ -36,11 +39,6 @@ pub down-over : (o : List ℕ) (b : Laid) {o′ : List ℕ} → roomOf o < b .to
 unfolding laidDown
 down-over o b h e = rw (lt-ltb (roomOf o) (b .top) h, e) refl
 
--- how deep a tree is does not matter, if it is not too deep
-pub shallow : (o ws : List ℕ) (d : ℕ) → d ≤ 64 → laidDown o (given (sameWords ws 0)) ≡ laidDown o (given (sameWords ws d))
-unfolding laidDown
-shallow o ws d h = rw (le-ltb 64 d h) refl
-
 -- the tree is too deep
 pub down-deep : (o : List ℕ) (b : Laid) {o′ : List ℕ} → b .top ≤ roomOf o → 64 < b .deep → o′ ≡ zeros o → _≡_ {A = RebuildAnswer × List ℕ} (Refused TooDeep, o′) (laidDown o (given b))
 unfolding laidDown
@@ -51,6 +49,39 @@ pub down-front : (o : List ℕ) (b : Laid) {o′ : List ℕ} {n : ℕ} → b .to
     → _≡_ {A = RebuildAnswer × List ℕ} (Length n, o′) (laidDown o (given b))
 unfolding laidDown
 down-front o b h k l e d = rw (le-ltb (roomOf o) (b .top) h, le-ltb 64 (b .deep) k, e, d, sets-front (b .words) o l) refl
+
+-- how deep a tree is does not matter, if it is not too deep
+shallow : (o ws : List ℕ) (d : ℕ) → d ≤ 64 → laidDown o (given (sameWords ws 0)) ≡ laidDown o (given (sameWords ws d))
+unfolding laidDown
+shallow o ws d h = rw (le-ltb 64 d h) refl
+
+-- a test goes before the answer
+module _ (o : List ℕ) (x : Answer Laid) {r c : Check} (e : r ≡ c) where
+  pub down-passed : {p : RebuildAnswer × List ℕ} → r ≡ Passed → p ≡ laidDown o x → p ≡ laidDown o (unless c x)
+  unfolding unless
+  down-passed d h = rw (sym e ∙ d) h
+
+  pub down-failed : {k : Refusal} → r ≡ Failed k → _≡_ {A = RebuildAnswer × List ℕ} (Refused k, o) (laidDown o (unless c x))
+  unfolding unless laidDown
+  down-failed d = rw (sym e ∙ d) refl
+
+-- ---- what was read
+
+got-same : {A : Type 0} {a b : A} {m n : ℕ} {x : Reading A} → x ≡ got a m → x ≡ got b n → a ≡ b
+got-same e d = cc
+
+-- the answer to what was read
+pub read-fills : {x : Reading Laid} {b : Laid} {n : ℕ} {o o′ : List ℕ} {r : RebuildAnswer} → x ≡ got b n → (r, o′) ≡ laidDown o (given b) → Fills x o o′ r
+read-fills {o = o} e h = record { fills = λ c k d. h ∙ ap (λ l. laidDown o (given l)) (got-same e d) }
+
+-- words that are copied as they stand
+pub copied-fills : {A : Type 0} (lay : A → Laid) (deep : A → ℕ) {x : Reading A} {a : A} {n : ℕ} {ws o o′ : List ℕ} {r : RebuildAnswer} → x ≡ got a n → deep a ≤ 64 → lay a ≡ sameWords ws (deep a)
+    → (r, o′) ≡ laidDown o (given (sameWords ws 0)) → Fills (mapReading lay x) o o′ r
+copied-fills lay deep {a = a} {ws = ws} {o = o} e l k h = read-fills (map-got lay e) (h ∙ shallow o ws (deep a) l ∙ ap (λ b. laidDown o (given b)) (sym k))
+
+-- words that fill others are these
+pub run-whole : {ws b : List ℕ} → Run ws 0 b → length ws ≡ length b → b ≡ ws
+run-whole {ws} {b} r e = sym (r .words) ∙ take-all (length b) ws (omega (arith, e))
 
 -- ---- one attempt
 
@@ -96,31 +127,24 @@ mapped-reads lay (stop k) r = impossible (let e = r .reads in cc)
 
 -- ---- the answer of an attempt
 
-got-same : {A : Type 0} {a b : A} {m n : ℕ} {x : Reading A} → x ≡ got a m → x ≡ got b n → a ≡ b
-got-same e d = cc
-
--- what answers for one tree that was read answers for it
-fills-by : {x : Reading Laid} {o o′ : List ℕ} {r : RebuildAnswer} {c : Laid} {m : ℕ} → x ≡ got c m → (r, o′) ≡ laidDown o (given c) → Fills x o o′ r
-fills-by {o = o} e f = record { fills = λ b n d. f ∙ ap (λ l. laidDown o (given l)) (got-same e d) }
-
 pub filled-fills : {limit : ℕ} {x : Reading Laid} {o o′ : List ℕ} {a : Attempt} {m : ℕ} → Attempted limit x o o′ a → a ≡ Filled m → Fills x o o′ (Length m)
 filled-fills {limit} {x} {o} {o′} {m = m} k e = go (subst (Attempted limit x o o′) e k)
   where
     go : Attempted limit x o o′ (Filled m) → Fills x o o′ (Length m)
-    go (answered c f) = fills-by c f
+    go (answered c f) = read-fills c f
 
 pub denied-fills : {limit : ℕ} {x : Reading Laid} {o o′ : List ℕ} {a : Attempt} {r : Refusal} → Attempted limit x o o′ a → a ≡ Denied r → Fills x o o′ (Refused r)
 denied-fills {limit} {x} {o} {o′} {r = r} k e = go (subst (Attempted limit x o o′) e k)
   where
     go : Attempted limit x o o′ (Denied r) → Fills x o o′ (Refused r)
-    go (denied c f) = fills-by c f
+    go (denied c f) = read-fills c f
 
 -- there was no room in the caller's buffer
 pub attempt-over : {limit : ℕ} {x : Reading Laid} {o o′ o″ : List ℕ} {a : Attempt} → Attempted limit x o o′ a → a ≡ NoRoom → limit ≡ roomOf o → o″ ≡ zeros o′ → Fills x o o″ (Refused BufferTooShort)
 attempt-over {limit} {x} {o} {o′} {o″} k e l z = go (subst (Attempted limit x o o′) e k)
   where
     go : Attempted limit x o o′ NoRoom → Fills x o o″ (Refused BufferTooShort)
-    go (noRoom c h d) = record { fills = λ b n f. down-over o b (rw (sym l, sym (got-same c f)) h) (z ∙ ap zeros d) }
+    go (noRoom {b = b} c h d) = read-fills c (down-over o b (rw (sym l) h) (z ∙ ap zeros d))
 
 -- there was no room in the scratch
 pub attempt-again : {limit : ℕ} {x : Reading Laid} {o o′ o″ : List ℕ} {a : Attempt} {r : RebuildAnswer} → Attempted limit x o o′ a → a ≡ NoRoom → Fills x o′ o″ r → Fills x o o″ r

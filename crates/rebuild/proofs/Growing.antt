@@ -61,12 +61,13 @@ grown-then {o} {o′} {o″} {b} {c} {p} {p′} {p″} l m = record {
 pub grown-nothing : (o : List ℕ) (p : ℕ) → p ≤ length o → Grown o p [] o p
 grown-nothing o p h = record { kept = refl; next = omega arith; room = h; front = sym (append-nil (take p o)) }
 
+-- of what was taken, the front alone
+pub front-taken : (l x y : List ℕ) (k n : ℕ) → take n l ≡ x ++ y → length x ≡ k → k ≤ n → take k l ≡ x
+front-taken l x y k n e d h = sym (take-take k n l h) ∙ ap (take k) e ∙ take-at x y k d
+
 -- what lies below the start stays
 grown-below : {o o′ b : List ℕ} {p p′ : ℕ} → Grown o p b o′ p′ → take p o′ ≡ take p o
-grown-below {o} {o′} {b} {p} {p′} l =
-    let h : p ≤ p′ = omega (arith, l .next) in
-    let k : p ≤ length o = omega (arith, l .room) in
-    sym (take-take p p′ o′ h) ∙ ap (take p) (l .front) ∙ take-at (take p o) b p (length-take-le p o k)
+grown-below {o} {o′} {b} {p} {p′} l = front-taken o′ (take p o) b p p′ (l .front) (length-take-le p o (omega (arith, l .next, l .room))) (omega (arith, l .next))
 
 -- the words that were laid down
 pub grown-words : {o o′ b : List ℕ} {p p′ : ℕ} → Grown o p b o′ p′ → take (p′ - p) (drop p o′) ≡ b

@@ -23,7 +23,7 @@ encode-append : (ps qs : List (Piece ℕ)) → encodePieces (ps ++ qs) ≡ encod
 unfolding encodePieces
 encode-append ps qs = ap (map tokenWord) (runs-append pieceTokens ps qs) ∙ map-append tokenWord (runs pieceTokens ps) (runs pieceTokens qs)
 
-pub deepest-append : (ps qs : List (Piece ℕ)) → deepestPiece (ps ++ qs) ≡ max (deepestPiece ps) (deepestPiece qs)
+deepest-append : (ps qs : List (Piece ℕ)) → deepestPiece (ps ++ qs) ≡ max (deepestPiece ps) (deepestPiece qs)
 unfolding deepestPiece
 deepest-append [] qs = omega arith
 deepest-append (own k ∷ ps) qs = deepest-append ps qs
@@ -88,9 +88,12 @@ module _ (m : Ty ℕ → Ty ℕ) where
   replaced-with (UseDecl u) = refl
 
   -- a rebuilt declaration is its pieces, rebuilt
+  replaced-pieces : (d : Declaration ℕ) → pieces (ReplaceModDecl m d) ≡ map (pieceWith (Replace m)) (pieces d)
+  replaced-pieces d = ap pieces (replaced-with d) ∙ with-pieces (Replace m) d
+
   pub declaration-words : (d : Declaration ℕ) → laidDeclaration m d .words ≡ rebuiltWords m (pieces d)
   unfolding encodeDeclaration declarationTokens encodePieces
-  declaration-words d = ap (λ (e : Declaration ℕ). map tokenWord (runs pieceTokens (pieces e))) (replaced-with d) ∙ ap (λ ps. map tokenWord (runs pieceTokens ps)) (with-pieces (Replace m) d)
+  declaration-words d = ap (λ ps. map tokenWord (runs pieceTokens ps)) (replaced-pieces d)
 
   pub declaration-depth : (d : Declaration ℕ) → laidDeclaration m d .deep ≡ rebuiltDepth m (pieces d)
-  declaration-depth d = ap (λ (e : Declaration ℕ). deepestPiece (pieces e)) (replaced-with d) ∙ ap deepestPiece (with-pieces (Replace m) d)
+  declaration-depth d = ap deepestPiece (replaced-pieces d)

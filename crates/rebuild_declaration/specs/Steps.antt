@@ -3,12 +3,15 @@ use Prim.Native.Nat.{ℕ, _+_, _≤_, _<_}
 use mathlib.Core.Path.{_≡_}
 use mathlib.Core.List.{List, [], map}
 use lib.ListN.{length}
+use Rattle.rast.specs.Bytes.{Bytes}
 use Rattle.rast.specs.Tree.{Ty}
 use Rattle.rast.specs.Declaration.{Declaration}
 use Rattle.encoding.specs.Reading.{Reading, got}
 use Rattle.encoding.specs.Tables.{nameCount}
+use Rattle.encoding.specs.Tested.{Good}
 use Rattle.trees.specs.Encode.{tokenWord}
 use Rattle.trees.specs.Numbered.{treeAt}
+use Rattle.writing.specs.Written.{Readable}
 use Rattle.replace.specs.Replace.{Replace}
 use Rattle.pieces.specs.declared.Walk.{Walk}
 use Rattle.pieces.specs.Pieces.{Piece, runs, pieceTokens}
@@ -16,7 +19,7 @@ use Rattle.pieces.specs.Walks.{ahead, leftOf, pastField}
 use Rattle.pieces.specs.WithTypes.{pieceWith}
 use Rattle.rebuild.specs.declared.Rebuilt.{Rebuilt}
 use Rattle.rebuild.specs.declared.Rebuilt.the-variants.{Done, Full}
-use Rattle.rebuild.specs.Laid.{Grown, Rebuilds}
+use Rattle.rebuild.specs.Laid.{Grown, Rebuilds, Ruled}
 use Rattle.rebuild_declaration.specs.declared.Advance.{Advance}
 use Rattle.rebuild_declaration.specs.declared.Advance.the-variants.{Further, Finished, NoSpace}
 use Rattle.rebuild_declaration.specs.Laying.{deepestPiece, topPieces}
@@ -41,12 +44,33 @@ leftIn ws pairs w = leftOf (nameCount pairs) ws (λ x. x) (treeAt ws pairs) w
 abbrev pub PiecesRebuild : (Ty ℕ → Ty ℕ) → ℕ → List ℕ → ℕ → Reading (List (Piece ℕ)) → List ℕ → Rebuilt → Type 0
 PiecesRebuild m limit o p x o′ r = Rebuilds (λ ps. rebuiltWords m ps) (λ ps. topPieces m ps) (λ ps. rebuiltDepth m ps) limit o p x o′ r
 
--- one piece or some own words were laid down, and the walk goes on; or nothing was left; or more words would lie there than the limit
+-- what is left to a walk can be rebuilt: the tables hold, the rules are read, and words may be laid down from p on up to the limit
+pub record Ready (ws pairs : List ℕ) (text : Bytes) (rules table : List ℕ) (k : ℕ) (w : Walk) (o : List ℕ) (p limit : ℕ) : Type 0 where
+  pub good : Good pairs text
+  pub ruled : Ruled rules pairs text table k
+  pub readable : Readable (leftIn ws pairs w)
+  pub inside : w .place ≤ length ws
+  pub within : p ≤ limit
+  pub room : limit ≤ length o
+
+-- pieces were laid down from p on, their types rebuilt
+pub record PiecesLaid (m : Ty ℕ → Ty ℕ) (limit : ℕ) (o : List ℕ) (p : ℕ) (ps : List (Piece ℕ)) (o′ : List ℕ) (q d : ℕ) : Type 0 where
+  pub fits : p + topPieces m ps ≤ limit
+  pub within : q ≤ limit
+  pub grown : Grown o p (rebuiltWords m ps) o′ q
+  pub deeps : d ≡ rebuiltDepth m ps
+
+-- more words would lie there than the limit
+pub record PiecesOver (m : Ty ℕ → Ty ℕ) (limit : ℕ) (o : List ℕ) (p : ℕ) (ps : List (Piece ℕ)) (o′ : List ℕ) : Type 0 where
+  pub over : limit < p + topPieces m ps
+  pub kept : length o′ ≡ length o
+
+-- pieces were laid down, and the walk goes on; or nothing was left; or more words would lie there than the limit
 pub data Advanced (m : Ty ℕ → Ty ℕ) (ws pairs : List ℕ) (w : Walk) (limit : ℕ) (o : List ℕ) (p : ℕ) (o′ : List ℕ) : Advance → Type 0 where
-  further : {w′ : Walk} {q d : ℕ} (ps : List (Piece ℕ)) → leftIn ws pairs w ≡ ahead ps (leftIn ws pairs w′) → w .place < w′ .place → w′ .place ≤ length ws → q ≤ limit
-      → p + topPieces m ps ≤ limit → Grown o p (rebuiltWords m ps) o′ q → d ≡ rebuiltDepth m ps → Advanced m ws pairs w limit o p o′ (Further w′ q d)
+  further : {w′ : Walk} {q d : ℕ} (ps : List (Piece ℕ)) → leftIn ws pairs w ≡ ahead ps (leftIn ws pairs w′) → w .place < w′ .place → w′ .place ≤ length ws
+      → PiecesLaid m limit o p ps o′ q d → Advanced m ws pairs w limit o p o′ (Further w′ q d)
   finished : leftIn ws pairs w ≡ got [] (w .place) → o′ ≡ o → Advanced m ws pairs w limit o p o′ Finished
-  noSpace : {ps : List (Piece ℕ)} {n : ℕ} → leftIn ws pairs w ≡ got ps n → limit < p + topPieces m ps → length o′ ≡ length o → Advanced m ws pairs w limit o p o′ NoSpace
+  noSpace : {ps : List (Piece ℕ)} {n : ℕ} → leftIn ws pairs w ≡ got ps n → PiecesOver m limit o p ps o′ → Advanced m ws pairs w limit o p o′ NoSpace
 
 -- what a field that was rebuilt, or was not, makes of a walk before it
 unfoldable pub fieldAdvance : Walk → Rebuilt → Advance

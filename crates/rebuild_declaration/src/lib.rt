@@ -5,7 +5,7 @@ ghost use Rattle.encoding.specs.Tested.{Good};
 ghost use Rattle.writing.specs.Written.{Readable};
 ghost use Rattle.pieces.specs.Walks.{FieldNext};
 ghost use Rattle.rebuild.specs.Laid.{Ruled, mapping};
-ghost use Rattle.rebuild_declaration.specs.Steps.{leftIn, Advanced, fieldAdvance, PiecesRebuild, DeclarationRebuilds};
+ghost use Rattle.rebuild_declaration.specs.Steps.{leftIn, Ready, Advanced, fieldAdvance, PiecesRebuild, DeclarationRebuilds};
 ghost use Rattle.rebuild_declaration.specs.Calls.{declarationIn};
 use pieces::Next;
 use pieces::Start;
@@ -38,8 +38,7 @@ fn lay_next(
     pos: usize,
     limit: usize,
 ) -> Advance
-    requires { ⌜ Good (now pairs) (now text) × Ruled (now rules) (now pairs) (now text) (now table) k × Readable (leftIn (now words) (now pairs) walk)
-        × (walk .place ≤ length (now words)) × (pos ≤ limit) × (limit ≤ length (now out)) ⌝ }
+    requires { ⌜ Ready (now words) (now pairs) (now text) (now rules) (now table) k walk (now out) pos limit ⌝ }
     ensures { λ r. ⌜ Advanced (mapping (now (rules .entry)) (now (pairs .entry)) (now (text .entry))) (now (words .entry)) (now (pairs .entry)) walk limit
         (now (out .entry)) pos (now (out .exit)) r ⌝ }
 {
@@ -97,8 +96,7 @@ fn lay_field(
     pos: usize,
     limit: usize,
 ) -> Rebuilt
-    requires { ⌜ Good (now pairs) (now text) × Ruled (now rules) (now pairs) (now text) (now table) k × Readable (leftIn (now words) (now pairs) walk)
-        × (walk .place ≤ length (now words)) × (pos ≤ limit) × (limit ≤ length (now out)) × FieldNext walk ⌝ }
+    requires { ⌜ Ready (now words) (now pairs) (now text) (now rules) (now table) k walk (now out) pos limit × FieldNext walk ⌝ }
     ensures { λ r. ⌜ Advanced (mapping (now (rules .entry)) (now (pairs .entry)) (now (text .entry))) (now (words .entry)) (now (pairs .entry)) walk limit
         (now (out .entry)) pos (now (out .exit)) (fieldAdvance walk r) ⌝ }
 {
@@ -123,8 +121,7 @@ fn lay_fields(
     pos: usize,
     limit: usize,
 ) -> Advance
-    requires { ⌜ Good (now pairs) (now text) × Ruled (now rules) (now pairs) (now text) (now table) k × Readable (leftIn (now words) (now pairs) walk)
-        × (walk .place ≤ length (now words)) × (pos ≤ limit) × (limit ≤ length (now out)) × FieldNext walk ⌝ }
+    requires { ⌜ Ready (now words) (now pairs) (now text) (now rules) (now table) k walk (now out) pos limit × FieldNext walk ⌝ }
     ensures { λ r. ⌜ Advanced (mapping (now (rules .entry)) (now (pairs .entry)) (now (text .entry))) (now (words .entry)) (now (pairs .entry)) walk limit
         (now (out .entry)) pos (now (out .exit)) r ⌝ }
 {
@@ -169,8 +166,7 @@ fn lay_piece(
     pos: usize,
     limit: usize,
 ) -> Advance
-    requires { ⌜ Good (now pairs) (now text) × Ruled (now rules) (now pairs) (now text) (now table) k × Readable (leftIn (now words) (now pairs) walk)
-        × (walk .place ≤ length (now words)) × (pos ≤ limit) × (limit ≤ length (now out)) ⌝ }
+    requires { ⌜ Ready (now words) (now pairs) (now text) (now rules) (now table) k walk (now out) pos limit ⌝ }
     ensures { λ r. ⌜ Advanced (mapping (now (rules .entry)) (now (pairs .entry)) (now (text .entry))) (now (words .entry)) (now (pairs .entry)) walk limit
         (now (out .entry)) pos (now (out .exit)) r ⌝ }
 {
@@ -193,8 +189,7 @@ fn rebuild_rest(
     pos: usize,
     limit: usize,
 ) -> Rebuilt
-    requires { ⌜ Good (now pairs) (now text) × Ruled (now rules) (now pairs) (now text) (now table) k × Readable (leftIn (now words) (now pairs) walk)
-        × (walk .place ≤ length (now words)) × (pos ≤ limit) × (limit ≤ length (now out)) ⌝ }
+    requires { ⌜ Ready (now words) (now pairs) (now text) (now rules) (now table) k walk (now out) pos limit ⌝ }
     ensures { λ r. ⌜ PiecesRebuild (mapping (now (rules .entry)) (now (pairs .entry)) (now (text .entry))) limit (now (out .entry)) pos
         (leftIn (now (words .entry)) (now (pairs .entry)) walk) (now (out .exit)) r ⌝ }
 {

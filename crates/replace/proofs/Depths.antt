@@ -1,34 +1,30 @@
 -- A type that was read is not too deep.
 use Prim.Native.Nat.{ℕ, zero, suc, _-_, _≤_}
-use mathlib.Core.Path.{_≡_, ap, _∙_}
+use mathlib.Core.Path.{_≡_}
 use mathlib.Core.List.{List}
 use native.Mathlib.Omega.{arith}
-use Rattle.rast.specs.Tree.{Ty, Tys, nil, cons, count}
+use Rattle.rast.specs.Tree.{Ty, Tys, nil, cons}
 use Rattle.encoding.specs.Reading.{Reading, got}
 use Rattle.encoding.specs.Tables.{nameCount}
 use Rattle.encoding.specs.Heads.{readHead}
 use Rattle.encoding.specs.HeadWords.{kids}
 use Rattle.encoding.specs.Types.{readTypes, readNode, readType}
 use Rattle.encoding.proofs.Tables.{impossible}
-use Rattle.encoding.proofs.Types.{bind-got, types-count}
+use Rattle.encoding.proofs.Types.{bind-got}
 use Rattle.trees.specs.Numbered.{treeAt}
-use Rattle.trees.proofs.Nodes.{node-below, first-type}
+use Rattle.trees.proofs.Nodes.{node-below}
 use Rattle.replace.specs.Laying.{depth, deepest}
-use Rattle.replace.proofs.Nodes.{depth-node}
+use Rattle.replace.proofs.Nodes.{first-of, depth-node}
 
 module _ (b : ℕ) (ws : List ℕ) where
   all-within : (again : ℕ → Reading (Ty ℕ)) (most : ℕ) → ((p : ℕ) (t : Ty ℕ) (n : ℕ) → again p ≡ got t n → depth t ≤ most) → (k p : ℕ) (ts : Tys ℕ) (n : ℕ) → readTypes again k p ≡ got ts n → deepest ts ≤ most
-  unfolding deepest count
+  unfolding deepest
   all-within again most h k p nil n e = omega arith
   all-within again most h k p (cons t ts) n e =
-      let c = types-count again k p e in
-      let f = first-type again k p (omega (arith, c)) e in
-      let m = f .made in
-      let i : f .type ≡ t = cc in
-      let j : f .more ≡ ts = cc in
-      let d = h p (f .type) (f .middle) (f .first) in
-      let ds = all-within again most h (k - 1) (f .middle) ts n (f .others ∙ ap (λ v. got v n) j) in
-      omega (arith, ds, d, ap depth i)
+      let f = first-of again k p e in
+      let d = h p t (f .middle) (f .first) in
+      let ds = all-within again most h (k - 1) (f .middle) ts n (f .others) in
+      omega (arith, ds, d)
 
   pub within : (deep at : ℕ) (t : Ty ℕ) (n : ℕ) → readType b ws (λ x. x) deep at ≡ got t n → depth t ≤ deep
   unfolding readType

@@ -1,5 +1,5 @@
 -- Replacement, peaks and depths of a head's type, from the types below it.
-use Prim.Native.Nat.{ℕ, suc, _+_, _%_, _≤_, max}
+use Prim.Native.Nat.{ℕ, suc, _+_, _-_, _%_, _≤_, max}
 use mathlib.Core.Path.{_≡_, refl, ap, sym, _∙_}
 use mathlib.Core.List.{List}
 use native.Mathlib.Omega.{arith}
@@ -8,12 +8,13 @@ use lib.ListN.{length-append}
 use Rattle.rast.specs.Bytes.{Bytes}
 use Rattle.rast.specs.Tree.{Ty, Tys, Primitive, TIdentifier, TypeFromPath, TypeApp, Borrowed, BorrowedMut, ImplType, DynType, TupleType, FnType, IntersectionType, Array, TSynonym, TMetaData, nil, cons, count}
 use Rattle.encoding.specs.declared.Head.{Head}
+use Rattle.encoding.specs.Reading.{Reading, got}
 use Rattle.encoding.specs.Tables.{nameBytes}
-use Rattle.encoding.specs.Types.{sizeOf}
+use Rattle.encoding.specs.Types.{sizeOf, readTypes}
 use Rattle.encoding.proofs.Tables.{impossible}
-use Rattle.encoding.proofs.Types.{snoc, count-snoc}
+use Rattle.encoding.proofs.Types.{snoc, count-snoc, types-count}
 use Rattle.trees.specs.Encode.{tokens, tokensAll, words, wordsAll}
-use Rattle.trees.proofs.Nodes.{Node, plain, ident, path, apply, ref, refMut, impl, dyn, tuple, function, both, array, synonym, meta, words-nil, words-cons, words-one, words-snoc}
+use Rattle.trees.proofs.Nodes.{first-type, Node, plain, ident, path, apply, ref, refMut, impl, dyn, tuple, function, both, array, synonym, meta, words-nil, words-cons, words-one, words-snoc}
 use Rattle.replace.specs.Replace.{Replace, Replaces, ReplaceMap}
 use Rattle.replace.specs.Laying.{depth, deepest, peak, peaks}
 use Rattle.replace.specs.Same.{sameBy}
@@ -29,6 +30,22 @@ snoc-parts (cons v ts) (cons w us) {t} {u} e =
     let j : snoc ts t ≡ snoc us u = cc in
     let k = snoc-parts ts us j in
     (ap (λ x. cons x ts) i ∙ ap (cons w) (k .0), k .1)
+
+-- the first of types that were read, and those behind it
+pub record FirstOf {N : Type 0} (again : ℕ → Reading (Ty N)) (k p : ℕ) (t : Ty N) (ts : Tys N) (n : ℕ) : Type 0 where
+  pub middle : ℕ
+  pub first : again p ≡ got t middle
+  pub others : readTypes again (k - 1) middle ≡ got ts n
+
+pub first-of : {N : Type 0} (again : ℕ → Reading (Ty N)) (k p : ℕ) {t : Ty N} {ts : Tys N} {n : ℕ} → readTypes again k p ≡ got (cons t ts) n → FirstOf again k p t ts n
+unfolding count
+first-of again k p {t} {ts} {n} e =
+    let c = types-count again k p e in
+    let f = first-type again k p (omega (arith, c)) e in
+    let m = f .made in
+    let i : f .type ≡ t = cc in
+    let j : f .more ≡ ts = cc in
+    record { middle = f .middle; first = f .first ∙ ap (λ v. got v (f .middle)) i; others = f .others ∙ ap (λ v. got v n) j }
 
 module _ {N : Type 0} (m : Ty N → Ty N) where
   replaces-snoc : (ts : Tys N) (t : Ty N) → Replaces m (snoc ts t) ≡ snoc (Replaces m ts) (Replace m t)

@@ -4,7 +4,7 @@ use mathlib.Core.Path.{_≡_, refl, ap, _∙_}
 use mathlib.Core.List.{List}
 use native.Mathlib.Omega.{arith}
 use lib.ListN.{length, take, drop, length-append}
-use Rattle.rast.specs.Tree.{Ty, Tys, nil, cons, count}
+use Rattle.rast.specs.Tree.{Ty, Tys, nil, cons}
 use Rattle.encoding.specs.declared.Head.{Head}
 use Rattle.encoding.specs.Reading.{Reading, got}
 use Rattle.encoding.specs.Tables.{nameCount}
@@ -18,12 +18,12 @@ use Rattle.trees.specs.Encode.{encode, words, wordsAll}
 use Rattle.trees.specs.Tokens.{encodeAll}
 use Rattle.trees.specs.Runs.{Run}
 use Rattle.trees.specs.Numbered.{treeAt}
-use Rattle.trees.proofs.Nodes.{Node, node-below, first-type, words-nil, words-cons}
+use Rattle.trees.proofs.Nodes.{Node, node-below, words-nil, words-cons}
 use Rattle.trees.proofs.Spans.{type-stands, node-spells}
 use Rattle.trees.proofs.Renaming.{encode-words, encode-all}
 use Rattle.replace.specs.Replace.{Replace, Replaces}
 use Rattle.replace.specs.Laying.{peak, peaks}
-use Rattle.replace.proofs.Nodes.{replace-same, peak-node}
+use Rattle.replace.proofs.Nodes.{first-of, replace-same, peak-node}
 
 -- a type that comes back as it was
 pub record Kept (m : Ty ℕ → Ty ℕ) (t : Ty ℕ) : Type 0 where
@@ -53,15 +53,10 @@ module _ (m : Ty ℕ → Ty ℕ) where
 
 module _ (b : ℕ) (ws : List ℕ) (m : Ty ℕ → Ty ℕ) (stays : (q : ℕ) (t : Ty ℕ) → Run ws q (encode t) → m t ≡ t) where
   all-kept : (again : ℕ → Reading (Ty ℕ)) → ((p : ℕ) (t : Ty ℕ) (n : ℕ) → again p ≡ got t n → Kept m t) → (k p : ℕ) (ts : Tys ℕ) (n : ℕ) → readTypes again k p ≡ got ts n → AllKept m ts
-  unfolding count
   all-kept again h k p nil n e = none-kept m
   all-kept again h k p (cons t ts) n e =
-      let c = types-count again k p e in
-      let f = first-type again k p (omega (arith, c)) e in
-      let g = f .made in
-      let i : f .type ≡ t = cc in
-      let j : f .more ≡ ts = cc in
-      more-kept m (h p t (f .middle) (f .first ∙ ap (λ v. got v (f .middle)) i)) (all-kept again h (k - 1) (f .middle) ts n (f .others ∙ ap (λ v. got v n) j))
+      let f = first-of again k p e in
+      more-kept m (h p t (f .middle) (f .first)) (all-kept again h (k - 1) (f .middle) ts n (f .others))
 
   kept : (deep at : ℕ) (t : Ty ℕ) (n : ℕ) → readType b ws (λ x. x) deep at ≡ got t n → Kept m t
   unfolding readType

@@ -1,5 +1,5 @@
 -- Where a mapping leaves every type alone that stands in the words of an encoding, as one by no rules does, these come back unaltered.
-use Prim.Native.Nat.{ℕ, _+_, _≤_}
+use Prim.Native.Nat.{ℕ}
 use mathlib.Core.Path.{_≡_, refl, ap, sym, _∙_, subst}
 use mathlib.Core.List.{List, [], _∷_, map}
 use native.Mathlib.Omega.{arith}
@@ -7,14 +7,14 @@ use borrow.Author.Tests.{eqb-true}
 use mathlib.Core.Bool.{true}
 use lib.Dec.{eqb}
 use lib.ListN.{length, getD}
-use lib.Seq.{take-all}
 use Rattle.rast.specs.Bytes.{Bytes}
 use Rattle.rast.specs.Tree.{Ty}
 use Rattle.rast.specs.Declaration.{Declaration}
+use Rattle.encoding.specs.declared.Scan.{Scan}
 use Rattle.encoding.specs.declared.Scan.the-variants.{At}
 use Rattle.encoding.specs.Refusals.{given, unless}
 use Rattle.encoding.specs.Reading.{Reading, got, readBelow, readWord, whole}
-use Rattle.encoding.specs.Scans.{ended, mapReading}
+use Rattle.encoding.specs.Scans.{ended}
 use Rattle.encoding.specs.Tables.{checkTables, nameBytes}
 use Rattle.encoding.specs.Declarations.{readList}
 use Rattle.encoding.proofs.Tables.{impossible}
@@ -25,7 +25,7 @@ use Rattle.trees.specs.Numbered.{treeAt, treeOf}
 use Rattle.trees.proofs.Renaming.{tree-run, encode-words}
 use Rattle.replace.specs.Replace.{Replace, ruled}
 use Rattle.replace.specs.Laying.{depth}
-use Rattle.replace.specs.Rules.{readRules, repeated, distinct, rulesOf, mappingOf}
+use Rattle.replace.specs.Rules.{readRules, repeated, distinct, checkAll, rulesOf, mappingOf}
 use Rattle.replace.proofs.Depths.{tree-deep}
 use Rattle.replace.proofs.Still.{Kept, still}
 use Rattle.rules.specs.Table.{noneStands}
@@ -33,9 +33,10 @@ use Rattle.rules.proofs.Lists.{check-tables}
 use Rattle.rules.proofs.Nowhere.{none-gives-way}
 use Rattle.rebuild.specs.declared.RebuildAnswer.{RebuildAnswer}
 use Rattle.rebuild.specs.Laid.{ruleList, mapping, Ruled}
-use Rattle.rebuild.specs.Calls.{Laid, laidDown, laidType, typeRebuilt}
+use Rattle.rebuild.specs.Calls.{Laid, laidDown, laidType, ruledBy, typeRebuilt}
 use Rattle.rebuild.specs.Attempts.{sameWords, Fills}
-use Rattle.rebuild.proofs.Calls.{both-given, shallow}
+use Rattle.rebuild.proofs.Calls.{both-given, copied-fills, run-whole}
+use Rattle.pieces.specs.Ends.{heldAt}
 use Rattle.pieces.specs.Pieces.{Piece, own, type, pieces, declarationTokens, encodeDeclaration}
 use Rattle.pieces.specs.WithTypes.{pieceWith}
 use Rattle.pieces.proofs.Encoded.{declaration-run}
@@ -46,7 +47,7 @@ use Rattle.rebuild_declaration.proofs.Pieces.{encode-none, encode-own, encode-t
 use Rattle.pieces.specs.declared.Whole.{Whole}
 use Rattle.pieces.specs.declared.Whole.the-variants.{AType, ADeclaration}
 use Rattle.replacement.specs.Wholes.{laidBy, wholeRebuilt}
-use Rattle.replacement.proofs.Wholes.{tree-got, ends-alike, whole-answered}
+use Rattle.replacement.proofs.Wholes.{tree-got, laid-ends, whole-answered}
 use Rattle.replacement.proofs.EachType.{Every, each-type, declaration-deep}
 
 -- a list of no rules
@@ -59,10 +60,6 @@ pub none-listed : (rules : List ℕ) → length rules ≡ 1 → eqb (getD rules 
 none-listed [] l e = impossible (omega (arith, l))
 none-listed (x ∷ []) l e = ap (λ y. y ∷ []) (eqb-true x 0 e)
 none-listed (x ∷ y ∷ ys) l e = impossible (omega (arith, l))
-
--- words that fill others are these
-filled : (ws b : List ℕ) → Run ws 0 b → length ws ≡ 0 + length b → b ≡ ws
-filled ws b r e = let l : length ws ≤ length b = omega (arith, e) in sym (r .words) ∙ take-all (length b) ws l
 
 -- ---- types and declarations
 
@@ -91,29 +88,24 @@ module _ (ws pairs : List ℕ) (m : Ty ℕ → Ty ℕ) (stays : (q : ℕ) (t : T
   type-kept : {t : Ty ℕ} → treeAt ws pairs 0 ≡ got t (length ws) → laidType m t ≡ sameWords ws (depth t)
   type-kept {t} e =
       let r = tree-run ws pairs 0 (omega arith) e in
-      let w = filled ws (encode t) (r .0) (r .1 ∙ ap (λ i. 0 + i) (sym (encode-words t))) in
+      let w = run-whole (r .0) (omega (arith, r .1, encode-words t)) in
       let k = still ws pairs m stays 0 e in
       alike (ap encode (k .replaced) ∙ w) (k .peaked ∙ (let z : words t ≡ length ws = omega (arith, r .1) in z)) (ap depth (k .replaced))
 
   declaration-kept : {d : Declaration ℕ} → declarationIn ws pairs ≡ got d (length ws) → laidDeclaration m d ≡ sameWords ws (deepestPiece (pieces d))
   declaration-kept {d} e =
       let r = declaration-run ws pairs 0 e in
-      laid-kept m d (each-type ws pairs (Kept m) (λ p t n i. still ws pairs m stays p i) e) ∙ ap (λ l. sameWords l (deepestPiece (pieces d))) (filled ws (encodeDeclaration d) (r .0) (r .1))
+      laid-kept m d (each-type ws pairs (Kept m) (λ p t n i. still ws pairs m stays p i) e) ∙ ap (λ l. sameWords l (deepestPiece (pieces d))) (run-whole (r .0) (omega (arith, r .1)))
 
 -- ---- the calls
 
 -- so the words are copied
 module _ (ws pairs : List ℕ) (m : Ty ℕ → Ty ℕ) (stays : (q : ℕ) (t : Ty ℕ) → Run ws q (encode t) → m t ≡ t) where
-  fills : {A : Type 0} (lay : A → Laid) (deep : A → ℕ) (x : Reading A) {a : A} → x ≡ got a (length ws) → deep a ≤ 64 → lay a ≡ sameWords ws (deep a)
-      → {o o′ : List ℕ} {r : RebuildAnswer} → (r, o′) ≡ laidDown o (given (sameWords ws 0)) → Fills (mapReading lay x) o o′ r
-  unfolding mapReading
-  fills lay deep x {a} e l k {o} h = record { fills = λ b n i. let j : got (lay a) (length ws) ≡ got b n = rw e at i in let y : lay a ≡ b = cc in h ∙ shallow o ws (deep a) l ∙ ap (λ z. laidDown o (given z)) (sym k ∙ y) }
-
   pub unaltered-fills : (what : Whole) {o o′ : List ℕ} {r : RebuildAnswer} → ended (laidBy what ws pairs m) ≡ At (length ws) → (r, o′) ≡ laidDown o (given (sameWords ws 0)) → Fills (laidBy what ws pairs m) o o′ r
-  unaltered-fills AType e h = let t = tree-got AType ws pairs m e in fills (laidType m) depth (treeAt ws pairs 0) (t .reads) (tree-deep ws pairs 0 (t .reads)) (type-kept ws pairs m stays (t .reads)) h
+  unaltered-fills AType e h = let t = tree-got AType ws pairs m e in copied-fills (laidType m) depth (t .reads) (tree-deep ws pairs 0 (t .reads)) (type-kept ws pairs m stays (t .reads)) h
   unaltered-fills ADeclaration e h =
       let d = tree-got ADeclaration ws pairs m e in
-      fills (laidDeclaration m) (λ x. deepestPiece (pieces x)) (declarationIn ws pairs) (d .reads) (declaration-deep ws pairs (d .reads)) (declaration-kept ws pairs m stays (d .reads)) h
+      copied-fills (laidDeclaration m) (λ x. deepestPiece (pieces x)) (d .reads) (declaration-deep ws pairs (d .reads)) (declaration-kept ws pairs m stays (d .reads)) h
 
 -- ---- without rules
 
@@ -122,33 +114,33 @@ module _ (ws pairs : List ℕ) (text : Bytes) where
   unfolding mappingOf ruled
   none-given q t r = refl
 
-  type-given : {t : Ty ℕ} → treeAt ws pairs 0 ≡ got t (length ws) → wholeRebuilt AType ws pairs text (0 ∷ []) ≡ given (sameWords ws (depth t))
-  type-given e =
-      both-given (λ rs. laidType (mappingOf pairs text rs)) [] (length ws) (treeAt ws pairs 0) (rulesOf (0 ∷ []) pairs text) e refl (no-rules pairs text)
-      ∙ ap given (type-kept ws pairs (mappingOf pairs text []) none-given e)
-
-  declaration-given : {d : Declaration ℕ} → declarationIn ws pairs ≡ got d (length ws) → wholeRebuilt ADeclaration ws pairs text (0 ∷ []) ≡ given (sameWords ws (deepestPiece (pieces d)))
-  declaration-given e =
-      both-given (λ rs. laidDeclaration (mappingOf pairs text rs)) [] (length ws) (declarationIn ws pairs) (rulesOf (0 ∷ []) pairs text) e refl (no-rules pairs text)
-      ∙ ap given (declaration-kept ws pairs (mappingOf pairs text []) none-given e)
+  -- a tree that stays so is given by the words
+  same-given : {A : Type 0} (lay : (Ty ℕ → Ty ℕ) → A → Laid) (deep : A → ℕ) (x : Reading A) {a : A} → (x ≡ got a (length ws) → lay (mappingOf pairs text []) a ≡ sameWords ws (deep a))
+      → unless (checkTables ws pairs text) (whole (length ws) x) ≡ given a
+      → unless (checkAll ws (0 ∷ []) pairs text) (ruledBy (λ rs. lay (mappingOf pairs text rs)) (whole (length ws) x) (rulesOf (0 ∷ []) pairs text)) ≡ given (sameWords ws (deep a))
+  unfolding unless
+  same-given lay deep x k e =
+      let p = given-whole (checkTables ws pairs text) (length ws) x e in
+      rw (check-tables ws (0 ∷ []) pairs text (omega arith), p .0)
+      (both-given (λ rs. lay (mappingOf pairs text rs)) [] (length ws) x (rulesOf (0 ∷ []) pairs text) (p .1) refl (no-rules pairs text) ∙ ap given (k (p .1)))
 
   pub unaltered : {t : Ty ℕ} → treeOf ws pairs text ≡ given t → typeRebuilt ws pairs text (0 ∷ []) ≡ given (sameWords ws (depth t))
-  unfolding treeOf typeRebuilt unless
-  unaltered e = let p = given-whole (checkTables ws pairs text) (length ws) (treeAt ws pairs 0) e in rw (check-tables ws (0 ∷ []) pairs text (omega arith), p .0) (type-given (p .1))
+  unfolding treeOf typeRebuilt
+  unaltered e = same-given laidType depth (treeAt ws pairs 0) (type-kept ws pairs (mappingOf pairs text []) none-given) e
 
   pub unaltered-declaration : {d : Declaration ℕ} → unless (checkTables ws pairs text) (whole (length ws) (declarationIn ws pairs)) ≡ given d
       → declarationRebuilt ws pairs text (0 ∷ []) ≡ given (sameWords ws (deepestPiece (pieces d)))
-  unfolding declarationRebuilt unless
-  unaltered-declaration e = let p = given-whole (checkTables ws pairs text) (length ws) (declarationIn ws pairs) e in rw (check-tables ws (0 ∷ []) pairs text (omega arith), p .0) (declaration-given (p .1))
+  unfolding declarationRebuilt
+  unaltered-declaration e = same-given laidDeclaration (λ x. deepestPiece (pieces x)) (declarationIn ws pairs) (declaration-kept ws pairs (mappingOf pairs text []) none-given) e
 
-  pub copied : (what : Whole) (m : Ty ℕ → Ty ℕ) (o : List ℕ) {rules o′ : List ℕ} {r : RebuildAnswer} {n : ℕ} → ended (laidBy what ws pairs m) ≡ At n → n ≡ length ws → rules ≡ 0 ∷ [] → (r, o′) ≡ laidDown o (given (sameWords ws 0))
-      → (r, o′) ≡ laidDown o (wholeRebuilt what ws pairs text rules)
+  pub copied : (what : Whole) {s : Scan} → s ≡ ended (heldAt what ws pairs text) → (o : List ℕ) {rules o′ : List ℕ} {r : RebuildAnswer} {n : ℕ} → s ≡ At n → n ≡ length ws → rules ≡ 0 ∷ []
+      → (r, o′) ≡ laidDown o (given (sameWords ws 0)) → (r, o′) ≡ laidDown o (wholeRebuilt what ws pairs text rules)
   unfolding mapping ruleList
-  copied what m o {o′ = o′} {r = r} e i k h =
+  copied what a o {o′ = o′} {r = r} e i k h =
       let g : rulesOf (0 ∷ []) pairs text ≡ given (ruleList (rulesOf (0 ∷ []) pairs text)) = rw (no-rules pairs text) refl in
       let s : (q : ℕ) (t : Ty ℕ) → Run ws q (encode t) → mapping (0 ∷ []) pairs text t ≡ t = λ q t x. rw (no-rules pairs text) (none-given q t x) in
-      let f = unaltered-fills ws pairs (mapping (0 ∷ []) pairs text) s what (ends-alike what ws pairs (mapping (0 ∷ []) pairs text) m ∙ e ∙ ap At i) h in
-      subst (λ rs. (r, o′) ≡ laidDown o (wholeRebuilt what ws pairs text rs)) (sym k) (whole-answered ws pairs text (0 ∷ []) o what m e i g f)
+      let f = unaltered-fills ws pairs (mapping (0 ∷ []) pairs text) s what (laid-ends what ws pairs text a (mapping (0 ∷ []) pairs text) e i) h in
+      subst (λ rs. (r, o′) ≡ laidDown o (wholeRebuilt what ws pairs text rs)) (sym k) (whole-answered what ws pairs text a (0 ∷ []) o e i g f)
 
 -- ---- with rules that match nowhere
 

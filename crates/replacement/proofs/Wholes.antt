@@ -8,6 +8,7 @@ use Rattle.rast.specs.Tree.{Ty}
 use Rattle.rast.specs.Declaration.{Declaration}
 use Rattle.encoding.specs.declared.Refusal.{Refusal}
 use Rattle.encoding.specs.declared.Refusal.the-variants.{LeftOver}
+use Rattle.encoding.specs.declared.Scan.{Scan}
 use Rattle.encoding.specs.declared.Scan.the-variants.{At, Refused as Halted}
 use Rattle.encoding.specs.Refusals.{given, refused}
 use Rattle.encoding.specs.Reading.{Reading, whole}
@@ -15,18 +16,19 @@ use Rattle.encoding.specs.Scans.{ended, mapReading}
 use Rattle.encoding.proofs.Reading.{scan-stop}
 use Rattle.trees.specs.Numbered.{treeAt}
 use Rattle.writing.specs.Written.{Readable, EndsAt}
-use Rattle.replace.specs.Rules.{rulesOf, mappingOf}
+use Rattle.replace.specs.Rules.{Rule, rulesOf, mappingOf}
 use Rattle.trees.proofs.Renaming.{spelled}
 use Rattle.pieces.specs.Ends.{heldAt}
 use Rattle.pieces.proofs.RenamedReading.{declaration-spelled}
 use Rattle.pieces.proofs.Scans.{ended-map, end-got}
 use Rattle.rebuild.specs.declared.Attempt.{Attempt}
+use Rattle.rebuild.specs.declared.Rebuilt.{Rebuilt}
 use Rattle.rebuild.specs.declared.RebuildAnswer.{RebuildAnswer}
 use Rattle.rebuild.specs.declared.RebuildAnswer.the-variants.{Refused}
-use Rattle.rebuild.specs.Laid.{ruleList, mapping}
+use Rattle.rebuild.specs.Laid.{Rebuilds, ruleList, mapping}
 use Rattle.rebuild.specs.Calls.{Laid, laidDown, laidType, ruledBy}
-use Rattle.rebuild.specs.Attempts.{Attempted, Fills}
-use Rattle.rebuild.proofs.Calls.{tree-stops, tree-over, rules-stop-it, whole-filled}
+use Rattle.rebuild.specs.Attempts.{LaidRebuilds, Attempted, Fills}
+use Rattle.rebuild.proofs.Calls.{laid-mapped, mapped-reads, tree-stops, tree-over, rules-stop-it, whole-filled}
 use Rattle.rebuild_declaration.specs.Calls.{declarationIn, laidDeclaration}
 use Rattle.pieces.specs.declared.Whole.{Whole}
 use Rattle.pieces.specs.declared.Whole.the-variants.{AType, ADeclaration}
@@ -55,6 +57,18 @@ rebuilt-tree : (what : Whole) (ws pairs : List ℕ) (text : Bytes) (rules : List
 rebuilt-tree AType ws pairs text rules = refl
 rebuilt-tree ADeclaration ws pairs text rules = refl
 
+-- what was read and laid down, once it is known which of the two it is
+module _ {what kind : Whole} (e : what ≡ kind) (ws pairs : List ℕ) (m : Ty ℕ → Ty ℕ) where
+  laid-kind : laidBy what ws pairs m ≡ mapReading (laidTree kind m) (treeIn kind ws pairs)
+  laid-kind = ap (λ w. laidBy w ws pairs m) e ∙ laid-tree kind ws pairs m
+
+  pub tree-readable : Readable (laidBy what ws pairs m) → Readable (treeIn kind ws pairs)
+  tree-readable r = mapped-reads (laidTree kind m) (treeIn kind ws pairs) (subst Readable laid-kind r)
+
+  pub tree-laid : {limit : ℕ} {s s′ : List ℕ} {r : Rebuilt}
+      → Rebuilds (λ a. laidTree kind m a .words) (λ a. laidTree kind m a .top) (λ a. laidTree kind m a .deep) limit s 0 (treeIn kind ws pairs) s′ r → LaidRebuilds limit s (laidBy what ws pairs m) s′ r
+  tree-laid {limit} {s} {s′} {r} k = subst (λ x. LaidRebuilds limit s x s′ r) (sym laid-kind) (laid-mapped (laidTree kind m) (treeIn kind ws pairs) k)
+
 -- ---- where it ends
 
 -- what is laid down ends where the tree does
@@ -64,49 +78,50 @@ tree-ends what ws pairs m = ap ended (laid-tree what ws pairs m) ∙ ended-map (
 pub tree-got : (what : Whole) (ws pairs : List ℕ) (m : Ty ℕ → Ty ℕ) {n : ℕ} → ended (laidBy what ws pairs m) ≡ At n → EndsAt (treeIn what ws pairs) n
 tree-got what ws pairs m e = end-got (treeIn what ws pairs) (tree-ends what ws pairs m) e
 
--- it does not depend on the mapping
-pub ends-alike : (what : Whole) (ws pairs : List ℕ) (m m′ : Ty ℕ → Ty ℕ) → ended (laidBy what ws pairs m) ≡ ended (laidBy what ws pairs m′)
-ends-alike what ws pairs m m′ = tree-ends what ws pairs m ∙ sym (tree-ends what ws pairs m′)
-
 pub ended-readable : {A : Type 0} (x : Reading A) {n : ℕ} → ended x ≡ At n → Readable x
 ended-readable x {n} e = let t = end-got x refl e in record { value = t .value; end = n; reads = t .reads }
-
--- ---- the answers of acceptance
 
 held-tree : (what : Whole) (ws pairs : List ℕ) (text : Bytes) → ended (heldAt what ws pairs text) ≡ ended (treeIn what ws pairs)
 held-tree AType ws pairs text = ap ended (spelled ws pairs text 0) ∙ ended-map _ (treeAt ws pairs 0)
 held-tree ADeclaration ws pairs text = ap ended (declaration-spelled ws pairs text 0) ∙ ended-map _ (declarationIn ws pairs)
-
-pub held-ends : (what : Whole) (ws pairs : List ℕ) (text : Bytes) (m : Ty ℕ → Ty ℕ) → ended (laidBy what ws pairs m) ≡ ended (heldAt what ws pairs text)
-held-ends what ws pairs text m = tree-ends what ws pairs m ∙ sym (held-tree what ws pairs text)
 
 -- ---- the answer of an attempt
 
 pub limit-is : {i j : ℕ} {x : Reading Laid} {o o′ : List ℕ} {a : Attempt} → i ≡ j → Attempted i x o o′ a → Attempted j x o o′ a
 limit-is {x = x} {o = o} {o′ = o′} {a = a} e k = subst (λ l. Attempted l x o o′ a) e k
 
--- ---- the answers of the call
+-- ---- the answers of the call, by what acceptance said
 
-module _ (ws pairs : List ℕ) (text : Bytes) (rules : List ℕ) (o : List ℕ) where
-  pub whole-stops : (what : Whole) (m : Ty ℕ → Ty ℕ) {k : Refusal} → ended (laidBy what ws pairs m) ≡ Halted k → _≡_ {A = RebuildAnswer × List ℕ} (Refused k, o) (laidDown o (wholeRebuilt what ws pairs text rules))
-  whole-stops what m e =
-      tree-stops (λ rs. laidTree what (mappingOf pairs text rs)) o (length ws) (treeIn what ws pairs) (rulesOf rules pairs text) (scan-stop (treeIn what ws pairs) (tree-ends what ws pairs m) e)
-      ∙ ap (laidDown o) (rebuilt-tree what ws pairs text rules)
+module _ (what : Whole) (ws pairs : List ℕ) (text : Bytes) {s : Scan} (a : s ≡ ended (heldAt what ws pairs text)) where
+  accepts : s ≡ ended (treeIn what ws pairs)
+  accepts = a ∙ held-tree what ws pairs text
 
-  pub whole-over : (what : Whole) (m : Ty ℕ → Ty ℕ) {n : ℕ} → ended (laidBy what ws pairs m) ≡ At n → (n ≡ length ws → ⊥) → _≡_ {A = RebuildAnswer × List ℕ} (Refused LeftOver, o) (laidDown o (wholeRebuilt what ws pairs text rules))
-  whole-over what m e d =
-      tree-over (λ rs. laidTree what (mappingOf pairs text rs)) o (length ws) (treeIn what ws pairs) (rulesOf rules pairs text) (tree-got what ws pairs m e .reads) d
-      ∙ ap (laidDown o) (rebuilt-tree what ws pairs text rules)
+  pub laid-ends : (m : Ty ℕ → Ty ℕ) {n : ℕ} → s ≡ At n → n ≡ length ws → ended (laidBy what ws pairs m) ≡ At (length ws)
+  laid-ends m e d = tree-ends what ws pairs m ∙ sym accepts ∙ e ∙ ap At d
 
-  pub whole-refused : (what : Whole) (m : Ty ℕ → Ty ℕ) {n : ℕ} {k : Refusal} → ended (laidBy what ws pairs m) ≡ At n → n ≡ length ws → rulesOf rules pairs text ≡ refused k
-      → _≡_ {A = RebuildAnswer × List ℕ} (Refused k, o) (laidDown o (wholeRebuilt what ws pairs text rules))
-  whole-refused what m e d c =
-      rules-stop-it (λ rs. laidTree what (mappingOf pairs text rs)) o (length ws) (treeIn what ws pairs) (rulesOf rules pairs text) (tree-got what ws pairs m e .reads) d c
-      ∙ ap (laidDown o) (rebuilt-tree what ws pairs text rules)
+  module _ (rules o : List ℕ) where
+    abbrev lay : List Rule → Tree what → Laid
+    lay rs = laidTree what (mappingOf pairs text rs)
 
-  pub whole-answered : (what : Whole) (m : Ty ℕ → Ty ℕ) {n : ℕ} {o′ : List ℕ} {r : RebuildAnswer} → ended (laidBy what ws pairs m) ≡ At n → n ≡ length ws → rulesOf rules pairs text ≡ given (ruleList (rulesOf rules pairs text))
-      → Fills (laidBy what ws pairs (mapping rules pairs text)) o o′ r → (r, o′) ≡ laidDown o (wholeRebuilt what ws pairs text rules)
-  unfolding mapping
-  whole-answered what m {o′ = o′} {r = r} e d c f =
-      whole-filled (λ rs. laidTree what (mappingOf pairs text rs)) (length ws) (treeIn what ws pairs) (rulesOf rules pairs text) (tree-got what ws pairs m e .reads) d c (subst (λ x. Fills x o o′ r) (laid-tree what ws pairs (mapping rules pairs text)) f)
-      ∙ ap (laidDown o) (rebuilt-tree what ws pairs text rules)
+    asked : {p : RebuildAnswer × List ℕ} → p ≡ laidDown o (ruledBy lay (whole (length ws) (treeIn what ws pairs)) (rulesOf rules pairs text)) → p ≡ laidDown o (wholeRebuilt what ws pairs text rules)
+    asked e = e ∙ ap (laidDown o) (rebuilt-tree what ws pairs text rules)
+
+    pub whole-stops : {k : Refusal} → s ≡ Halted k → _≡_ {A = RebuildAnswer × List ℕ} (Refused k, o) (laidDown o (wholeRebuilt what ws pairs text rules))
+    whole-stops e = asked (tree-stops lay o (length ws) (treeIn what ws pairs) (rulesOf rules pairs text) (scan-stop (treeIn what ws pairs) accepts e))
+
+    module _ {n : ℕ} (e : s ≡ At n) where
+      reads : EndsAt (treeIn what ws pairs) n
+      reads = end-got (treeIn what ws pairs) accepts e
+
+      pub whole-over : (n ≡ length ws → ⊥) → _≡_ {A = RebuildAnswer × List ℕ} (Refused LeftOver, o) (laidDown o (wholeRebuilt what ws pairs text rules))
+      whole-over d = asked (tree-over lay o (length ws) (treeIn what ws pairs) (rulesOf rules pairs text) (reads .reads) d)
+
+      pub whole-refused : {k : Refusal} → n ≡ length ws → rulesOf rules pairs text ≡ refused k → _≡_ {A = RebuildAnswer × List ℕ} (Refused k, o) (laidDown o (wholeRebuilt what ws pairs text rules))
+      whole-refused d c = asked (rules-stop-it lay o (length ws) (treeIn what ws pairs) (rulesOf rules pairs text) (reads .reads) d c)
+
+      pub whole-answered : {o′ : List ℕ} {r : RebuildAnswer} → n ≡ length ws → rulesOf rules pairs text ≡ given (ruleList (rulesOf rules pairs text))
+          → Fills (laidBy what ws pairs (mapping rules pairs text)) o o′ r → (r, o′) ≡ laidDown o (wholeRebuilt what ws pairs text rules)
+      unfolding mapping
+      whole-answered {o′} {r} d c f =
+          asked (whole-filled lay (length ws) (treeIn what ws pairs) (rulesOf rules pairs text) (reads .reads) d c
+          (subst (λ x. Fills x o o′ r) (laid-tree what ws pairs (mapping rules pairs text)) f))

@@ -54,11 +54,11 @@ unfolding unless
 unless-passed Passed a e = refl
 unless-passed (Failed k) a e = impossible (cc)
 
-answer-given : {A : Type 0} (a : Answer A) {c : Check} → c ≡ acceptance a → c ≡ Passed → (B : Type 0) → ((t : A) → a ≡ given t → B) → B
+pub answer-given : {A : Type 0} (a : Answer A) {c : Check} → c ≡ acceptance a → c ≡ Passed → (B : Type 0) → ((t : A) → a ≡ given t → B) → B
 answer-given (given t) e d B k = k t refl
 answer-given (refused r) e d B k = impossible (cc)
 
-answer-refused : {A : Type 0} (a : Answer A) {c : Check} {r : Refusal} → c ≡ acceptance a → c ≡ Failed r → a ≡ refused r
+pub answer-refused : {A : Type 0} (a : Answer A) {c : Check} {r : Refusal} → c ≡ acceptance a → c ≡ Failed r → a ≡ refused r
 answer-refused (given t) e d = impossible (cc)
 answer-refused (refused r) e d = cc
 

@@ -25,7 +25,7 @@ use Rattle.shapes.specs.Parts.{isMap, GetBuiltinCollectionElement, expan
 use Rattle.shapes.specs.Shapes.{IsBuiltinCollection}
 use Rattle.classes.proofs.Applying.{applied-cases, first-found}
 use Rattle.classes.proofs.Children.{some-same}
-use Rattle.shapes.proofs.Pointers.{expanded-tree}
+use Rattle.shapes.proofs.Pointers.{or-true, or-false, expanded-tree}
 
 -- no name is that of a set and of a map
 no-map : (x : Bytes) → isSet x ≡ true → same x (ascii "Map") ≡ true → ⊥
@@ -151,14 +151,6 @@ element-found : (q : Place Bytes) → isFound (found (element q)) ≡ (isOf Coll
 unfolding first found
 element-found q = go (first MapClass q) refl
   where
-    or-true : (b : Bool) → (b or true) ≡ true
-    or-true true = refl
-    or-true false = refl
-
-    or-false : (b : Bool) → (b or false) ≡ b
-    or-false true = refl
-    or-false false = refl
-
     go : (x : Option (Place Bytes)) → first MapClass q ≡ x → isFound (found (element q)) ≡ (isOf Collection (q .tpe) or isOf MapClass (q .tpe))
     go none e =
         let f : found (first MapClass q) ≡ NoPart = ap found e in

@@ -31,6 +31,7 @@ use Rattle.shapes.specs.Parts.{removedAt, ownedAt, ObjectOrPointerUnderl
 use Rattle.shapes.specs.Shapes.{isFixedNumber, isNumber, isBool, EndsWithNameThatCanAcceptGenerics, IsAutoSize, CanReadWithoutClone, IsRcOrBorrowedRc, IsUninitArray, IsBox, NeedsAsRefForBorrow, IsPointer, IsRc}
 use Rattle.classes.proofs.Children.{ref-below, mut-below, impl-below, dyn-below, display-below, meta-below}
 use Rattle.classes.proofs.Finding.{located, nowhere, first-keeps}
+use Rattle.shapes.proofs.Pointers.{or-true, or-false}
 use Rattle.shapes.proofs.Elements.{holdsUninit, holds-unsized, holds-sized, holds-first, holds-none, uninit-array-is, uninit-array-none}
 use Rattle.wrappers.proofs.Going.{Going, going-to, going-meta, arrived, arrived-by}
 use Rattle.shapes.proofs.Parts.{pointer-keeps}
@@ -125,14 +126,6 @@ rc-here (TMetaData d c o) h k = refl
 
 -- ---- `CanReadWithoutClone`
 
-or-true : (a : Bool) → (a or false or true) ≡ true
-or-true true = refl
-or-true false = refl
-
-or-drop : (a c : Bool) → (a or false or c) ≡ (a or c)
-or-drop true c = refl
-or-drop false c = refl
-
 or-three : (a b c : Bool) → (a or (a or b or c)) ≡ (a or b or c)
 or-three true b c = refl
 or-three false b c = refl
@@ -157,15 +150,15 @@ auto-can (TMetaData d c o) = or-three (IsAutoSize d) (IsPointer (TMetaData d c o
 
 pub can-base : (d b : Ty Bytes) → CanReadWithoutClone (TSynonym d b) ≡ CanReadWithoutClone b
 unfolding CanReadWithoutClone IsAutoSize IsPointer applied
-can-base d b = or-drop (IsAutoSize b) (CanReadWithoutClone b) ∙ auto-can b
+can-base d b = ap (λ x. x or CanReadWithoutClone b) (or-false (IsAutoSize b)) ∙ auto-can b
 
 pub can-copy : (d : Ty Bytes) (c o : Bool) → c ≡ true → true ≡ CanReadWithoutClone (TMetaData d c o)
 unfolding CanReadWithoutClone IsAutoSize IsPointer applied
-can-copy d c o h = rw h (sym (or-true (IsAutoSize d)))
+can-copy d c o h = rw h (sym (or-true (IsAutoSize d or false)))
 
 pub can-display : (d : Ty Bytes) (c o : Bool) → c ≡ false → CanReadWithoutClone (TMetaData d c o) ≡ CanReadWithoutClone d
 unfolding CanReadWithoutClone IsAutoSize IsPointer applied
-can-display d c o h = rw h (or-drop (IsAutoSize d) (CanReadWithoutClone d) ∙ auto-can d)
+can-display d c o h = rw h (ap (λ x. x or CanReadWithoutClone d) (or-false (IsAutoSize d)) ∙ auto-can d)
 
 can-number : (p : PrimitiveTy) → true ≡ CanReadWithoutClone (Primitive p)
 unfolding CanReadWithoutClone IsAutoSize isNumber isBool

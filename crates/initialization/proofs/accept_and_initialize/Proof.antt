@@ -1,7 +1,13 @@
+use mathlib.Core.Bool.{false}
+use Rattle.initialization.specs.Initialized.{Whole}
 use Rattle.initialization.proofs.Filling.{lower-whole, whole-filled}
 use borrow.Author.Needs.{needs}
 use Rattle.initialization.proofs.accept_and_initialize.Statement.{statement}
 use Rattle.initialization.proofs.accept_and_initialize.Tie as tie
+
+-- a type fills the words
+whole : (c : tie.After-enum-told) → Whole (c .before .before .before .before .before .before .before .args .words .now) (c .before .before .before .before .before .before .before .args .pairs .now) false
+whole c = let a = c .before .before .before .before .before .before .before .args in lower-whole (a .words .now) (a .pairs .now) (a .text .now) (c .before .before .accept-within .ensures) (c .enum-told .given .1)
 
 accept-within-requires : tie.Need-accept-within-requires
 accept-within-requires c κs = search needs
@@ -10,9 +16,7 @@ enum-told : tie.Need-enum-told
 enum-told c = search needs
 
 initialize-requires : tie.Need-initialize-requires
-initialize-requires c κs =
-    let s = c .before .before .before .before .before .before .before .before in let a = s .args in
-    (s .pre .0, s .pre .1, lower-whole (a .words .now) (a .pairs .now) (a .text .now) (c .before .before .before .accept-within .ensures) (c .before .enum-told .given .1))
+initialize-requires c κs = let s = c .before .before .before .before .before .before .before .before .pre in (s .0, s .1, whole (c .before))
 
 enum-told-2 : tie.Need-enum-told-2
 enum-told-2 c = search needs
@@ -24,9 +28,7 @@ same-length : tie.Need-same-length
 same-length c = search needs
 
 returns : tie.Need-returns
-returns c =
-    let a = c .before .before .before .before .before .before .before .before .before .before .before .args in
-    whole-filled (a .words .now) (a .pairs .now) (a .text .now) (lower-whole (a .words .now) (a .pairs .now) (a .text .now) (c .before .before .before .before .before .before .accept-within .ensures) (c .before .before .before .before .enum-told .given .1)) (c .before .before .initialize .ensures)
+returns c = let a = c .before .before .before .before .before .before .before .before .before .before .before .args in whole-filled (a .words .now) (a .pairs .now) (a .text .now) (whole (c .before .before .before .before)) (c .before .before .initialize .ensures)
 
 same-length-2 : tie.Need-same-length-2
 same-length-2 c = search needs

@@ -1,11 +1,16 @@
 use mathlib.Core.Path.{refl}
 use Rattle.trees.proofs.Heads.{tree-here}
 use Rattle.classes.proofs.Worded.{word-here}
-use Rattle.wrappers.proofs.Expanding.{expands-readable}
-use Rattle.initialization.proofs.Changes.{new-no-part, new-part, new-sized, new-unsized, no-application, size-here, type-readable}
+use Rattle.encoding.specs.Types.{typeAt}
+use Rattle.writing.specs.Written.{Readable}
+use Rattle.initialization.proofs.Changes.{expanded-readable, new-no-part, new-part, new-sized, new-unsized, no-application, size-here, type-readable}
 use borrow.Author.Needs.{needs}
 use Rattle.initialization.proofs.array_at.Statement.{statement}
 use Rattle.initialization.proofs.array_at.Tie as tie
+
+-- what stands behind the wrappers
+behind : (c : tie.After-expand) → Readable (typeAt (c .before .before .before .before .before .before .args .words .now) (c .before .before .before .before .before .before .args .pairs .now) (c .before .before .before .before .before .before .args .text .now) (c .expand .result))
+behind c = let s = c .before .before .before .before .before .before in let a = s .args in expanded-readable (a .words .now) (a .pairs .now) (a .text .now) (a .at) (s .pre .1) (c .expand .ensures)
 
 mul-if1 : tie.Need-mul-if1
 mul-if1 c = let s = c .before .before .before in let a = s .args in let h = tree-here (a .words .now) (a .pairs .now) (a .at) (s .pre .1 .reads) in search needs
@@ -35,16 +40,10 @@ expand-requires : tie.Need-expand-requires
 expand-requires c κs = let s = c .before .before .before .before .before in let a = s .args in type-readable (a .words .now) (a .pairs .now) (a .text .now) (a .at) (s .pre .1)
 
 mul-if3 : tie.Need-mul-if3
-mul-if3 c =
-    let s = c .before .before .before .before .before .before in let a = s .args in
-    let r = expands-readable (a .words .now) (a .pairs .now) (a .text .now) (a .at) _ (c .expand .ensures) (type-readable (a .words .now) (a .pairs .now) (a .text .now) (a .at) (s .pre .1)) in
-    let h = word-here (a .words .now) (a .pairs .now) (a .text .now) _ r in search needs
+mul-if3 c = let a = c .before .before .before .before .before .before .args in let h = word-here (a .words .now) (a .pairs .now) (a .text .now) _ (behind c) in search needs
 
 shared-slice-read-if3 : tie.Need-shared-slice-read-if3
-shared-slice-read-if3 c =
-    let s = c .before .before .before .before .before .before .before in let a = s .args in
-    let r = expands-readable (a .words .now) (a .pairs .now) (a .text .now) (a .at) _ (c .before .expand .ensures) (type-readable (a .words .now) (a .pairs .now) (a .text .now) (a .at) (s .pre .1)) in
-    word-here (a .words .now) (a .pairs .now) (a .text .now) _ r
+shared-slice-read-if3 c = let a = c .before .before .before .before .before .before .before .args in word-here (a .words .now) (a .pairs .now) (a .text .now) _ (behind (c .before))
 
 returns-3 : tie.Need-returns-3
 returns-3 c =
@@ -52,9 +51,7 @@ returns-3 c =
     new-no-part (a .words .now) (a .pairs .now) (a .text .now) (a .at) (s .pre .1) (c .before .before .before .if1 .left) _ (c .before .before .expand .ensures) (no-application (a .words .now) (a .pairs .now) (a .text .now) _ (c .if3 .taken)) refl
 
 first-argument-requires : tie.Need-first-argument-requires
-first-argument-requires c κs =
-    let s = c .before .before .before .before .before .before .before .before in let a = s .args in
-    (s .pre .0, expands-readable (a .words .now) (a .pairs .now) (a .text .now) (a .at) _ (c .before .before .expand .ensures) (type-readable (a .words .now) (a .pairs .now) (a .text .now) (a .at) (s .pre .1)))
+first-argument-requires c κs = (c .before .before .before .before .before .before .before .before .pre .0, behind (c .before .before))
 
 enum-known-element : tie.Need-enum-known-element
 enum-known-element c = search needs

@@ -3,9 +3,8 @@ use mathlib.Core.Path.{_∙_, refl, sym}
 use Rattle.rast.specs.Bytes.{ascii}
 use Rattle.encoding.specs.Tables.{fixedNames}
 use borrow.Author.Tests.{not-false, not-true}
-use Rattle.wrappers.proofs.Expanding.{expands-readable}
 use Rattle.initialization.proofs.Pointers.{neither-here, none-here, object-here, pointer-here}
-use Rattle.initialization.proofs.Changes.{type-readable}
+use Rattle.initialization.proofs.Changes.{expanded-readable, type-readable}
 use borrow.Author.Needs.{needs}
 use Rattle.initialization.proofs.find_pointer.Statement.{statement}
 use Rattle.initialization.proofs.find_pointer.Tie as tie
@@ -16,8 +15,7 @@ expand-requires c κs =
 
 is-of-runtime-requires : tie.Need-is-of-runtime-requires
 is-of-runtime-requires c κs =
-    let s = c .before .before .before .before in let a = s .args in
-    (s .pre .0, expands-readable (a .words .now) (a .pairs .now) (a .text .now) 0 _ (c .expand .ensures) (type-readable (a .words .now) (a .pairs .now) (a .text .now) 0 (s .pre .1)))
+    let s = c .before .before .before .before in let a = s .args in (s .pre .0, expanded-readable (a .words .now) (a .pairs .now) (a .text .now) 0 (s .pre .1) (c .expand .ensures))
 
 returns : tie.Need-returns
 returns c =

@@ -1,7 +1,13 @@
+use mathlib.Core.Bool.{true}
+use Rattle.initialization.specs.Initialized.{Whole}
 use Rattle.initialization.proofs.Filling.{deepest-whole, not-whole, whole-filled}
 use borrow.Author.Needs.{needs}
 use Rattle.initialization.proofs.initialize_deepest.Statement.{statement}
 use Rattle.initialization.proofs.initialize_deepest.Tie as tie
+
+-- a type fills the words
+whole : (c : tie.After-enum-told) → Whole (c .before .before .before .before .before .before .before .args .words .now) (c .before .before .before .before .before .before .before .args .pairs .now) true
+whole c = let a = c .before .before .before .before .before .before .before .args in deepest-whole (a .words .now) (a .pairs .now) (a .text .now) (c .before .before .accept-within .ensures) (c .enum-told .given .1)
 
 accept-within-requires : tie.Need-accept-within-requires
 accept-within-requires c κs = search needs
@@ -10,9 +16,7 @@ enum-told : tie.Need-enum-told
 enum-told c = search needs
 
 initialize-requires : tie.Need-initialize-requires
-initialize-requires c κs =
-    let s = c .before .before .before .before .before .before .before .before in let a = s .args in
-    (s .pre .0, s .pre .1, deepest-whole (a .words .now) (a .pairs .now) (a .text .now) (c .before .before .before .accept-within .ensures) (c .before .enum-told .given .1))
+initialize-requires c κs = let s = c .before .before .before .before .before .before .before .before .pre in (s .0, s .1, whole (c .before))
 
 enum-known-r : tie.Need-enum-known-r
 enum-known-r c = search needs
@@ -21,9 +25,7 @@ same-length : tie.Need-same-length
 same-length c = search needs
 
 returns : tie.Need-returns
-returns c =
-    let a = c .before .before .before .before .before .before .before .before .before .before .before .args in
-    whole-filled (a .words .now) (a .pairs .now) (a .text .now) (deepest-whole (a .words .now) (a .pairs .now) (a .text .now) (c .before .before .before .before .before .before .accept-within .ensures) (c .before .before .before .before .enum-told .given .1)) (c .before .before .initialize .ensures)
+returns c = let a = c .before .before .before .before .before .before .before .before .before .before .before .args in whole-filled (a .words .now) (a .pairs .now) (a .text .now) (whole (c .before .before .before .before)) (c .before .before .initialize .ensures)
 
 returns-2 : tie.Need-returns-2
 returns-2 c =

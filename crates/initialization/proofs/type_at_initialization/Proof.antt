@@ -1,6 +1,9 @@
-use mathlib.Core.Path.{_∙_, sym}
+use mathlib.Core.Path.{_∙_, ap, sym}
 use Rattle.encoding.proofs.Tables.{tables-passed}
-use Rattle.initialization.proofs.Filling.{tables-filled, tables-leave}
+use Rattle.rebuild.specs.Calls.{laidDown}
+use Rattle.rebuild.proofs.Calls.{down-failed, down-passed}
+use Rattle.initialization.specs.Initialized.{wholeInitialized}
+use Rattle.initialization.proofs.Filling.{tables-tested}
 use borrow.Author.Needs.{needs}
 use Rattle.initialization.proofs.type_at_initialization.Statement.{statement}
 use Rattle.initialization.proofs.type_at_initialization.Tie as tie
@@ -23,13 +26,10 @@ same-length : tie.Need-same-length
 same-length c = search needs
 
 returns : tie.Need-returns
-returns c =
-    let a = c .before .before .before .before .before .before .before .before .before .before .before .args in
-    tables-filled (a .words .now) (a .pairs .now) (a .text .now) (a .out .now) (c .before .before .before .before .before .before .check-tables .ensures) (c .before .before .before .before .enum-told .given .1) (c .before .before .accept-and-initialize .ensures)
+returns c = down-passed (c .before .before .before .before .before .before .before .before .before .before .before .args .out .now) (wholeInitialized (c .before .before .before .before .before .before .before .before .before .before .before .args .words .now) (c .before .before .before .before .before .before .before .before .before .before .before .args .pairs .now) (c .before .before .before .before .before .before .before .before .before .before .before .args .text .now)) (c .before .before .before .before .before .before .check-tables .ensures) (c .before .before .before .before .enum-told .given .1) (c .before .before .accept-and-initialize .ensures) ∙ ap (laidDown (c .before .before .before .before .before .before .before .before .before .before .before .args .out .now)) (tables-tested (c .before .before .before .before .before .before .before .before .before .before .before .args .words .now) (c .before .before .before .before .before .before .before .before .before .before .before .args .pairs .now) (c .before .before .before .before .before .before .before .before .before .before .before .args .text .now))
 
 returns-2 : tie.Need-returns-2
-returns-2 c =
-    let a = c .before .before .before .before .before .before .before .before .args in tables-leave (a .words .now) (a .pairs .now) (a .text .now) (c .before .before .before .check-tables .ensures) (c .before .r .given .1)
+returns-2 c = down-failed (c .before .before .before .before .before .before .before .before .args .out .now) (wholeInitialized (c .before .before .before .before .before .before .before .before .args .words .now) (c .before .before .before .before .before .before .before .before .args .pairs .now) (c .before .before .before .before .before .before .before .before .args .text .now)) (c .before .before .before .check-tables .ensures) (c .before .r .given .1) ∙ ap (laidDown (c .before .before .before .before .before .before .before .before .args .out .now)) (tables-tested (c .before .before .before .before .before .before .before .before .args .words .now) (c .before .before .before .before .before .before .before .before .args .pairs .now) (c .before .before .before .before .before .before .before .before .args .text .now))
 
 pub type-at-initialization-spec : {M : Type 1} → statement M
 type-at-initialization-spec =

@@ -1,5 +1,4 @@
 use Prim.Native.Nat.{_-_}
-use Rattle.rebuild.specs.Laid.{mapping}
 use Rattle.rebuild_declaration.proofs.Steps.{Among, among-ahead, among-ends, among-full, among-next, going-starts}
 use lib.ListN.{length}
 use native.Mathlib.Omega.{arith}
@@ -8,20 +7,16 @@ use Rattle.rebuild_declaration.proofs.lay_fields.Statement.{statement}
 use Rattle.rebuild_declaration.proofs.lay_fields.Tie as tie
 
 abbrev Inv-loop : tie.InvT-loop
-Inv-loop words pairs text rules table k out₀ pos limit w₀ p₀ deepest₀ out w p deepest = Among (mapping rules pairs text) words pairs w₀ limit out₀ pos out w p deepest
+Inv-loop words pairs text rules table k out₀ pos limit w₀ p₀ deepest₀ out w p deepest = Among words pairs text rules table k w₀ limit out₀ pos out w p deepest
 
 abbrev μ-loop : tie.MeasureT-loop
 μ-loop words pairs text rules table k out₀ pos limit w₀ p₀ deepest₀ out w p deepest = length words - w .place
 
 loop-holds : tie.Need-loop-holds Inv-loop μ-loop
-loop-holds c =
-    let s = c .before .before .before .before .before in let a = s .args in
-    record { going = going-starts (mapping (a .rules .now) (a .pairs .now) (a .text .now)) (a .words .now) (a .pairs .now) (a .walk) (a .limit) (a .out .now) (a .pos) (s .pre .2) (s .pre .3) (s .pre .4) (s .pre .5); behind = omega arith; due = s .pre .6 }
+loop-holds c = let s = c .before .before .before .before .before .pre in record { going = going-starts (s .0); behind = omega arith; due = s .1 }
 
 lay-field-requires : tie.Need-lay-field-requires Inv-loop μ-loop
-lay-field-requires c κs =
-    let s = c .before .before .before .before .before .before .before in let i = c .before .loop .inv in let g = i .going in
-    (s .pre .0, s .pre .1, g .readable, g .inside, g .within, omega (arith, g .grown .kept, s .pre .5), i .due)
+lay-field-requires c κs = let i = c .before .loop .inv in (i .going .ready, i .due)
 
 enum-known-next : tie.Need-enum-known-next Inv-loop μ-loop
 enum-known-next c = search needs
@@ -39,22 +34,19 @@ same-length : tie.Need-same-length Inv-loop μ-loop
 same-length c = search needs
 
 returns : tie.Need-returns Inv-loop μ-loop
-returns c = let a = c .before .before .before .before .before .before .before .before .before .before .before .before .args in among-full (mapping (a .rules .now) (a .pairs .now) (a .text .now)) (a .words .now) (a .pairs .now) (a .walk) (a .limit) (a .out .now) (a .pos) (c .before .before .before .before .before .before .loop .inv) (c .before .before .before .before .lay-field .ensures) (c .enum-told .given .1)
+returns c = among-full (c .before .before .before .before .before .before .loop .inv) (c .before .before .before .before .lay-field .ensures) (c .enum-told .given .1)
 
 same-length-2 : tie.Need-same-length-2 Inv-loop μ-loop
 same-length-2 c = search needs
 
 returns-2 : tie.Need-returns-2 Inv-loop μ-loop
-returns-2 c = let a = c .before .before .before .before .before .before .before .before .before .before .before .before .before .before .before .before .before .args in among-ends (mapping (a .rules .now) (a .pairs .now) (a .text .now)) (a .words .now) (a .pairs .now) (a .walk) (a .limit) (a .out .now) (a .pos) (c .before .before .before .before .before .before .before .before .before .before .before .loop .inv) (c .before .before .before .before .before .before .before .before .before .lay-field .ensures) (c .before .before .before .before .before .next .given .1) (c .before .before .before .past-field .ensures) (c .before .before .larger .ensures)
+returns-2 c = among-ends (c .before .before .before .before .before .before .before .before .before .before .before .loop .inv) (c .before .before .before .before .before .before .before .before .before .lay-field .ensures) (c .before .before .before .before .before .next .given .1) (c .before .before .before .past-field .ensures) (c .before .before .larger .ensures)
 
 loop-less : tie.Need-loop-less Inv-loop μ-loop
-loop-less c =
-    let a = c .before .before .before .before .before .before .before .before .before .before .before .before .before .before .before .before .before .args in
-    let h = among-ahead (mapping (a .rules .now) (a .pairs .now) (a .text .now)) (a .words .now) (a .pairs .now) (a .walk) (a .limit) (a .out .now) (a .pos) (c .before .before .before .before .before .before .before .before .before .before .before .loop .inv) (c .before .before .before .before .before .before .before .before .before .lay-field .ensures) (c .before .before .before .before .before .next .given .1) (c .before .before .before .past-field .ensures) (c .before .before .larger .ensures) in
-    omega (arith, h .0, h .1)
+loop-less c = let h = among-ahead (c .before .before .before .before .before .before .before .before .before .before .before .loop .inv) (c .before .before .before .before .before .before .before .before .before .lay-field .ensures) (c .before .before .before .before .before .next .given .1) (c .before .before .before .past-field .ensures) (c .before .before .larger .ensures) in omega (arith, h .0, h .1)
 
 loop-again : tie.Need-loop-again Inv-loop μ-loop
-loop-again c = let a = c .before .before .before .before .before .before .before .before .before .before .before .before .before .before .before .before .before .args in among-next (mapping (a .rules .now) (a .pairs .now) (a .text .now)) (a .words .now) (a .pairs .now) (a .walk) (a .limit) (a .out .now) (a .pos) (c .before .before .before .before .before .before .before .before .before .before .before .loop .inv) (c .before .before .before .before .before .before .before .before .before .lay-field .ensures) (c .before .before .before .before .before .next .given .1) (c .before .before .before .past-field .ensures) (c .before .before .larger .ensures) (c .if1 .left)
+loop-again c = among-next (c .before .before .before .before .before .before .before .before .before .before .before .loop .inv) (c .before .before .before .before .before .before .before .before .before .lay-field .ensures) (c .before .before .before .before .before .next .given .1) (c .before .before .before .past-field .ensures) (c .before .before .larger .ensures) (c .if1 .left)
 
 pub lay-fields-spec : {M : Type 1} → statement M
 lay-fields-spec =

@@ -6,9 +6,7 @@ is-field-next-requires : tie.Need-is-field-next-requires
 is-field-next-requires c κs = search needs
 
 lay-fields-requires : tie.Need-lay-fields-requires
-lay-fields-requires c κs =
-    let s = c .before .before .before .before .before .before .before .before in
-    (s .pre .0, s .pre .1, s .pre .2, s .pre .3, s .pre .4, s .pre .5, c .before .before .is-field-next .ensures (c .before .if1 .taken))
+lay-fields-requires c κs = (c .before .before .before .before .before .before .before .before .pre, c .before .before .is-field-next .ensures (c .before .if1 .taken))
 
 same-length : tie.Need-same-length
 same-length c = search needs

@@ -1,8 +1,7 @@
-use Rattle.encoding.specs.Refusals.{unless}
-use Rattle.rebuild.specs.Calls.{laidDown}
+use Rattle.rebuild.proofs.Calls.{down-failed, down-passed}
 use Rattle.replacement.specs.Wholes.{wholeRebuilt}
 use Rattle.rules.proofs.Lists.{all-passed}
-use mathlib.Core.Path.{_∙_, ap, sym}
+use mathlib.Core.Path.{_∙_, sym}
 use borrow.Author.Needs.{needs}
 use Rattle.replacement.proofs.rebuild_by.Statement.{statement}
 use Rattle.replacement.proofs.rebuild_by.Tie as tie
@@ -26,16 +25,10 @@ same-length : tie.Need-same-length
 same-length c = search needs
 
 returns : tie.Need-returns
-unfolding unless
-returns c =
-    let a = c .before .before .before .before .before .before .before .before .before .before .before .before .args in
-    c .before .before .read-and-fill .ensures ∙ ap (λ c. laidDown (a .out .now) (unless c (wholeRebuilt (a .what) (a .words .now) (a .pairs .now) (a .text .now) (a .rules .now)))) (sym (c .before .before .before .before .enum-told .given .1) ∙ c .before .before .before .before .before .before .check-all .ensures)
+returns c = down-passed (c .before .before .before .before .before .before .before .before .before .before .before .before .args .out .now) (wholeRebuilt (c .before .before .before .before .before .before .before .before .before .before .before .before .args .what) (c .before .before .before .before .before .before .before .before .before .before .before .before .args .words .now) (c .before .before .before .before .before .before .before .before .before .before .before .before .args .pairs .now) (c .before .before .before .before .before .before .before .before .before .before .before .before .args .text .now) (c .before .before .before .before .before .before .before .before .before .before .before .before .args .rules .now)) (c .before .before .before .before .before .before .check-all .ensures) (c .before .before .before .before .enum-told .given .1) (c .before .before .read-and-fill .ensures)
 
 returns-2 : tie.Need-returns-2
-unfolding unless laidDown
-returns-2 c =
-    let a = c .before .before .before .before .before .before .before .before .before .args in
-    ap (λ c. laidDown (a .out .now) (unless c (wholeRebuilt (a .what) (a .words .now) (a .pairs .now) (a .text .now) (a .rules .now)))) (sym (c .before .r .given .1) ∙ c .before .before .before .check-all .ensures)
+returns-2 c = down-failed (c .before .before .before .before .before .before .before .before .before .args .out .now) (wholeRebuilt (c .before .before .before .before .before .before .before .before .before .args .what) (c .before .before .before .before .before .before .before .before .before .args .words .now) (c .before .before .before .before .before .before .before .before .before .args .pairs .now) (c .before .before .before .before .before .before .before .before .before .args .text .now) (c .before .before .before .before .before .before .before .before .before .args .rules .now)) (c .before .before .before .check-all .ensures) (c .before .r .given .1)
 
 pub rebuild-by-spec : {M : Type 1} → statement M
 rebuild-by-spec =
