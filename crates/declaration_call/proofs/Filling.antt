@@ -13,14 +13,14 @@ use Rattle.rast.proofs.BytesLaws.{never}
 use Rattle.output.specs.Laid.{clamp}
 use Rattle.output.proofs.Passes.{Clamped, small, large, clamped}
 use Rattle.encoding.specs.declared.Refusal.{Refusal}
-use Rattle.encoding.specs.declared.Refusal.the-variants.{BadLevel}
+use Rattle.encoding.specs.declared.Refusal.the-variants.{BadLevel, BufferTooShort, LeftOver}
 use Rattle.encoding.specs.declared.Check.the-variants.{Passed, Failed}
 use Rattle.encoding.specs.Refusals.{mapAnswer, pick}
 use Rattle.encoding.specs.Tables.{checkLevel}
 use Rattle.encoding.specs.Reading.{Reading, got, stop, whole}
 use Rattle.encoding.specs.Scans.{mapReading}
 use Rattle.encoding.proofs.Tables.{impossible}
-use Rattle.encoding.proofs.Answers.{filled-done}
+use Rattle.encoding.proofs.Answers.{filled-done, filled-left, filled-short, filled-stop}
 use Rattle.text.specs.declared.TextAnswer.{TextAnswer}
 use Rattle.text.specs.declared.TextAnswer.the-variants.{Length, Refused}
 use Rattle.text.specs.Calls.{filled}
@@ -55,7 +55,7 @@ pub record Counts {A : Type 0} (f : A → Bytes) (x : Reading A) (o o′ : List 
   pub size : clamp bytes ≡ clamp (length (f value))
 
 module _ {A : Type 0} (f : A → Bytes) (x : Reading A) {o o′ : List ℕ} {r : Place} where
-  pub counted : {n bytes : ℕ} → Went false o 0 (mapReading f x) o′ r → r ≡ At n bytes → Counts f x o o′ n bytes
+  counted : {n bytes : ℕ} → Went false o 0 (mapReading f x) o′ r → r ≡ At n bytes → Counts f x o o′ n bytes
   unfolding mapReading
   counted {n} {bytes} w e = go x (came-to w e)
     where
@@ -68,7 +68,7 @@ module _ {A : Type 0} (f : A → Bytes) (x : Reading A) {o o′ : List ℕ} {r :
           record { value = a; reads = ap (got a) q; kept = k .kept; size = k .next ∙ ap clamp z }
       go (stop k) c = impossible (let d = c .reads in cc)
 
-  pub not-counted : {k : Refusal} → Went false o 0 (mapReading f x) o′ r → r ≡ Stopped k → (x ≡ stop k) × (o′ ≡ o)
+  not-counted : {k : Refusal} → Went false o 0 (mapReading f x) o′ r → r ≡ Stopped k → (x ≡ stop k) × (o′ ≡ o)
   unfolding mapReading
   not-counted {k} w e = go x (was-stopped w e)
     where
@@ -76,14 +76,11 @@ module _ {A : Type 0} (f : A → Bytes) (x : Reading A) {o o′ : List ℕ} {r :
       go (got a m) c = impossible (let d = c .0 in cc)
       go (stop j) c = let q : j ≡ k = cc (c .0) in (ap stop q, c .1 refl)
 
-module _ {A : Type 0} (f : A → Bytes) (x : Reading A) {o o′ : List ℕ} {n bytes : ℕ} (c : Counts f x o o′ n bytes) where
-  pub too-long : length o < 2 ^ 63 → length o < bytes → length o < length (f (c .value))
-  too-long h l = clamped-above bytes (length (f (c .value))) (length o) h l (c .size)
-
-  pub same-size : length o < 2 ^ 63 → bytes ≤ length o → bytes ≡ length (f (c .value))
+module _ {A : Type 0} {f : A → Bytes} {x : Reading A} {o o′ : List ℕ} {n bytes : ℕ} (c : Counts f x o o′ n bytes) where
+  same-size : length o < 2 ^ 63 → bytes ≤ length o → bytes ≡ length (f (c .value))
   same-size h l = clamped-same bytes (length (f (c .value))) (omega (arith, h, l)) (c .size)
 
-  pub ready : length o < 2 ^ 63 → bytes ≤ length o → Ready true o′ 0 (mapReading f x)
+  ready : length o < 2 ^ 63 → bytes ≤ length o → Ready true o′ 0 (mapReading f x)
   unfolding mapReading
   ready h l = record {
     room = λ e. record {
@@ -94,24 +91,13 @@ module _ {A : Type 0} (f : A → Bytes) (x : Reading A) {o o′ : List ℕ} {n b
     };
   }
 
-  pub wrote-size : {o″ : List ℕ} {r : Place} {m p : ℕ} → Went true o′ 0 (mapReading f x) o″ r → r ≡ At m p → p ≡ length (f (c .value))
+  written : {o″ : List ℕ} {r : Place} {m p : ℕ} → Went true o′ 0 (mapReading f x) o″ r → r ≡ At m p → (p ≡ length (f (c .value))) × (o″ ≡ sets o 0 (f (c .value)))
   unfolding mapReading
-  wrote-size w e =
+  written w e =
       let d = came-to w e in
       let v : d .bytes ≡ f (c .value) = cc (d .reads, ap (mapReading f) (c .reads)) in
       let l = ap length v in
-      omega (arith, d .laid .wrote refl .next, l)
-
-  pub written : {o″ : List ℕ} {r : Place} → Went true o′ 0 (mapReading f x) o″ r → o″ ≡ sets o 0 (f (c .value))
-  unfolding mapReading
-  written {o″} {r} w = go r w
-    where
-      go : (r : Place) → Went true o′ 0 (mapReading f x) o″ r → o″ ≡ sets o 0 (f (c .value))
-      go (At m p) w =
-          let d = came-to w refl in
-          let v : d .bytes ≡ f (c .value) = cc (d .reads, ap (mapReading f) (c .reads)) in
-          d .laid .wrote refl .bytes ∙ ap (λ (s : List ℕ). sets s 0 (d .bytes)) (c .kept) ∙ ap (sets o 0) v
-      go (Stopped k) w = impossible (let d = was-stopped w refl .0 in let e = ap (mapReading f) (c .reads) in cc)
+      (omega (arith, d .laid .wrote refl .next, l), d .laid .wrote refl .bytes ∙ ap (λ (s : List ℕ). sets s 0 (d .bytes)) (c .kept) ∙ ap (sets o 0) v)
 
 -- ---- the two turns: one counts, and if all is well the next one writes
 
@@ -126,18 +112,19 @@ turns-less write e = rw e (omega arith)
 
 -- before a turn that counts nothing has happened; before one that writes, the text was counted, and there is room for it
 pub record Turn {A : Type 0} (f : A → Bytes) (x : Reading A) (size : ℕ) (o : List ℕ) (write : Bool) (o′ : List ℕ) : Type 0 where
+  pub small : length o < 2 ^ 63
   pub kept : write ≡ false → o′ ≡ o
   pub bytes : ℕ
   pub counts : write ≡ true → Counts f x o o′ size bytes
   pub fits : write ≡ true → bytes ≤ length o
 
-module _ {A : Type 0} (f : A → Bytes) (x : Reading A) (size : ℕ) (o : List ℕ) where
-  pub turn-start : Turn f x size o false o
-  turn-start = record { kept = λ e. refl; bytes = 0; counts = λ e. never (sym e); fits = λ e. never (sym e) }
+module _ {A : Type 0} {f : A → Bytes} {x : Reading A} {size : ℕ} {o : List ℕ} where
+  pub turn-start : length o < 2 ^ 63 → Turn f x size o false o
+  turn-start h = record { small = h; kept = λ e. refl; bytes = 0; counts = λ e. never (sym e); fits = λ e. never (sym e) }
 
-  module _ (small : length o < 2 ^ 63) {write : Bool} {o′ : List ℕ} (t : Turn f x size o write o′) where
+  module _ {write : Bool} {o′ : List ℕ} (t : Turn f x size o write o′) where
     pub turn-ready : Ready write o′ 0 (mapReading f x)
-    turn-ready = record { room = λ e. ready f x (t .counts e) small (t .fits e) .room refl }
+    turn-ready = record { room = λ e. ready (t .counts e) (t .small) (t .fits e) .room refl }
 
     module _ {o″ : List ℕ} {r : Place} (w : Went write o′ 0 (mapReading f x) o″ r) where
       as-counted : write ≡ false → Went false o 0 (mapReading f x) o″ r
@@ -147,26 +134,40 @@ module _ {A : Type 0} (f : A → Bytes) (x : Reading A) (size : ℕ) (o : List �
       as-written : write ≡ true → Went true o′ 0 (mapReading f x) o″ r
       as-written e = subst (λ (b : Bool). Went b o′ 0 (mapReading f x) o″ r) e w
 
-      pub turn-counted : {n bytes : ℕ} → write ≡ false → r ≡ At n bytes → Counts f x o o″ n bytes
-      turn-counted e d = counted f x (as-counted e) d
+      -- the answer, by how the turn ended
+      abbrev Answered : TextAnswer → Type 0
+      Answered a = _≡_ {A = TextAnswer × List ℕ} (a, o″) (filled o (mapAnswer f (whole size x)))
 
-      pub turn-next : {n bytes : ℕ} → write ≡ false → r ≡ At n bytes → n ≡ size → bytes ≤ length o → Turn f x size o true o″
-      turn-next {n} {bytes} e d q l = record {
-        kept = λ k. never k;
-        bytes = bytes;
-        counts = λ k. subst (λ (m : ℕ). Counts f x o o″ m bytes) q (turn-counted e d);
-        fits = λ k. l;
-      }
+      module _ {n bytes : ℕ} (d : r ≡ At n bytes) where
+        pub turn-done : write ≡ true → Answered (Length bytes)
+        turn-done e =
+            let k = t .counts e in
+            let s = same-size k (t .small) (t .fits e) in
+            let v = written k (as-written e) d in
+            filled-done Length Refused o f size x bytes (k .reads) refl (omega (arith, s, t .fits e)) (v .0) (v .1)
 
-      pub turn-done : {n bytes : ℕ} → write ≡ true → r ≡ At n bytes → _≡_ {A = TextAnswer × List ℕ} (Length bytes, o″) (filled o (mapAnswer f (whole size x)))
-      turn-done {n} {bytes} e d =
-          let k = t .counts e in
-          let s = same-size f x k small (t .fits e) in
-          filled-done Length Refused o f size x bytes (k .reads) refl (omega (arith, s, t .fits e)) (wrote-size f x k (as-written e) d) (written f x k (as-written e))
+        pub turn-left : write ≡ false → (n ≡ size → ⊥) → Answered (Refused LeftOver)
+        turn-left e h = let k = counted f x (as-counted e) d in rw (k .kept) (filled-left Length Refused o f size x (k .reads) h)
 
-      pub turn-stopped : {k : Refusal} → r ≡ Stopped k → (x ≡ stop k) × (o″ ≡ o)
+        pub turn-short : write ≡ false → n ≡ size → length o″ < bytes → Answered (Refused BufferTooShort)
+        turn-short e q h =
+            let k = counted f x (as-counted e) d in
+            let l = clamped-above bytes (length (f (k .value))) (length o) (t .small) (omega (arith, ap length (k .kept))) (k .size) in
+            rw (k .kept) (filled-short Length Refused o f size x (k .reads) q l)
+
+        pub turn-next : write ≡ false → n ≡ size → bytes ≤ length o″ → Turn f x size o true o″
+        turn-next e q h =
+            let k = counted f x (as-counted e) d in record {
+              small = t .small;
+              kept = λ i. never i;
+              bytes = bytes;
+              counts = λ i. subst (λ (m : ℕ). Counts f x o o″ m bytes) q k;
+              fits = λ i. omega (arith, ap length (k .kept));
+            }
+
+      pub turn-stopped : {k : Refusal} → r ≡ Stopped k → Answered (Refused k)
       unfolding mapReading
-      turn-stopped {k} d = go write refl
+      turn-stopped {k} d = let s = go write refl in rw (s .1) (filled-stop Length Refused o f size x (s .0))
         where
           go : (b : Bool) → write ≡ b → (x ≡ stop k) × (o″ ≡ o)
           go true e = impossible (let s = was-stopped (as-written e) d .0 in let m = ap (mapReading f) (t .counts e .reads) in cc)

@@ -2,14 +2,15 @@
 use Prim.Native.Nat.{ℕ, _+_, _*_, _≤_, _<_}
 use mathlib.Core.Path.{_≡_, refl, ap, sym, _∙_}
 use mathlib.Core.Bool.{Bool, true, false}
-use mathlib.Core.List.{List, [], _++_, append-nil}
+use mathlib.Core.List.{List, _++_}
 use native.Mathlib.Omega.{arith}
 use borrow.Author.Tests.{lt-ltb, le-ltb, eq-eqb, ne-eqb, ltb-false, leb-true, leb-false}
 use lib.Dec.{leb, ltb, eqb}
-use lib.ListN.{length, take, drop, length-drop, drop-of-length-le}
-use lib.Seq.{sets, sets-eq, length-take-le, getD-take, take-all}
+use lib.ListN.{length, take, drop, length-drop}
+use lib.Seq.{length-take-le, getD-take, take-all}
 use Rattle.rast.specs.Bytes.{Bytes, _or_}
 use Rattle.output.specs.Wrote.{Wrote}
+use Rattle.output.proofs.Laws.{wrote-front}
 use Rattle.encoding.specs.declared.Refusal.the-variants.{Overlong, BadFileLength}
 use Rattle.encoding.specs.Refusals.{pick, refused}
 use Rattle.numbers.specs.Numbers.{numberAt, numbersAt}
@@ -26,16 +27,14 @@ pub numbers-lent : (file d e : List ℕ) (at n : ℕ) → n ≤ length d → len
     → take n (e ++ drop n d) ≡ numbersAt n file at
 numbers-lent file d e at n h l k = front-back d e n h l ∙ k ∙ rw (length-take-le n d h)
 
-sets-whole : (v o : List ℕ) → length v ≡ length o → sets o 0 v ≡ v
-sets-whole v o e = sets-eq v o 0 (omega arith) ∙ rw (drop-of-length-le o {i = 0 + length v} (omega arith)) (append-nil v)
-
 pub text-lent : (file d e : List ℕ) (at n r : ℕ) → n ≤ length d → length e ≡ length (take n d) → length file ≡ at + n
     → Wrote (take n d) 0 (take n (drop at file)) e r → take n (e ++ drop n d) ≡ drop at file
 text-lent file d e at n r h l size w =
     let s : length (drop at file) ≡ n = simp length-drop (omega arith) in
     let k : length (take n d) ≡ n = length-take-le n d h in
     let t : take n (drop at file) ≡ drop at file = take-all n (drop at file) (omega arith) in
-    front-back d e n h l ∙ w .bytes ∙ rw t (sets-whole (drop at file) (take n d) (s ∙ sym k))
+    let v = rw t at w in
+    front-back d e n h l ∙ sym (take-all r e (omega (arith, v .next))) ∙ wrote-front (omega arith) v
 
 pub call-of : {words words′ pairs pairs′ text text′ : List ℕ} → words ≡ words′ → pairs ≡ pairs′ → text ≡ text′
     → declarationText words pairs text 0 ≡ declarationText words′ pairs′ text′ 0
@@ -43,36 +42,38 @@ call-of p q r = cc
 
 -- ---- the refusals in their order
 
-module _ (file o : List ℕ) where
-  pub header-short : length file < 12 → (Refused BadFileLength, o) ≡ filled o (fileText file)
-  unfolding filledBy fileText
-  header-short h = rw (lt-ltb (length file) 12 h)
+pub described : (file : List ℕ) {pairs words size : ℕ} → 12 ≤ length file → pairs ≡ numberAt file 0 → words ≡ numberAt file 4 → size ≡ numberAt file 8 → fileText file ≡ describedText pairs words size file
+unfolding fileText
+described file h p w t = rw (le-ltb (length file) 12 h, p, w, t)
 
-module _ (file o : List ℕ) {pairs words size : ℕ} (h : 12 ≤ length file) (p : pairs ≡ numberAt file 0) (w : words ≡ numberAt file 4) (t : size ≡ numberAt file 8) where
-  pub described : fileText file ≡ describedText pairs words size file
-  unfolding fileText
-  described = rw (le-ltb (length file) 12 h, p, w, t)
+pub header-short : (file o : List ℕ) → length file < 12 → (Refused BadFileLength, o) ≡ filled o (fileText file)
+unfolding filledBy fileText
+header-short file o h = rw (lt-ltb (length file) 12 h)
 
-  pub pairs-over : 1024 < pairs → (Refused Overlong, o) ≡ filled o (fileText file)
+module _ (file : List ℕ) (pairs words size : ℕ) (d : fileText file ≡ describedText pairs words size file) where
+  pub pairs-over : (o : List ℕ) → 1024 < pairs → (Refused Overlong, o) ≡ filled o (fileText file)
   unfolding filledBy describedText
-  pairs-over a = rw (described, lt-ltb 1024 pairs a)
+  pairs-over o a = rw (d, lt-ltb 1024 pairs a)
 
-  pub words-over : pairs ≤ 1024 → 8192 < words → (Refused Overlong, o) ≡ filled o (fileText file)
+  pub words-over : (o : List ℕ) → pairs ≤ 1024 → 8192 < words → (Refused Overlong, o) ≡ filled o (fileText file)
   unfolding filledBy describedText
-  words-over a b = rw (described, le-ltb 1024 pairs a, lt-ltb 8192 words b)
+  words-over o a b = rw (d, le-ltb 1024 pairs a, lt-ltb 8192 words b)
 
-  pub text-over : pairs ≤ 1024 → words ≤ 8192 → 16384 < size → (Refused Overlong, o) ≡ filled o (fileText file)
+  pub text-over : (o : List ℕ) → pairs ≤ 1024 → words ≤ 8192 → 16384 < size → (Refused Overlong, o) ≡ filled o (fileText file)
   unfolding filledBy describedText
-  text-over a b c = rw (described, le-ltb 1024 pairs a, le-ltb 8192 words b, lt-ltb 16384 size c)
+  text-over o a b c = rw (d, le-ltb 1024 pairs a, le-ltb 8192 words b, lt-ltb 16384 size c)
 
   module _ (a : pairs ≤ 1024) (b : words ≤ 8192) (c : size ≤ 16384) where
-    pub length-wrong : (length file ≡ 12 + 8 * pairs + 4 * words + size → ⊥) → (Refused BadFileLength, o) ≡ filled o (fileText file)
-    unfolding filledBy describedText
-    length-wrong d = rw (described, le-ltb 1024 pairs a, le-ltb 8192 words b, le-ltb 16384 size c, ne-eqb (length file) (12 + 8 * pairs + 4 * words + size) d)
+    limits-kept : fileText file ≡ pick (eqb (length file) (12 + 8 * pairs + 4 * words + size)) (encodedText pairs words file) (refused BadFileLength)
+    unfolding describedText
+    limits-kept = rw (d, le-ltb 1024 pairs a, le-ltb 8192 words b, le-ltb 16384 size c)
+
+    pub length-wrong : (o : List ℕ) → (length file ≡ 12 + 8 * pairs + 4 * words + size → ⊥) → (Refused BadFileLength, o) ≡ filled o (fileText file)
+    unfolding filledBy
+    length-wrong o n = rw (limits-kept, ne-eqb (length file) (12 + 8 * pairs + 4 * words + size) n)
 
     pub length-right : length file ≡ 12 + 8 * pairs + 4 * words + size → encodedText pairs words file ≡ fileText file
-    unfolding describedText
-    length-right d = rw (described, le-ltb 1024 pairs a, le-ltb 8192 words b, le-ltb 16384 size c, eq-eqb (length file) (12 + 8 * pairs + 4 * words + size) d)
+    length-right n = rw (limits-kept, eq-eqb (length file) (12 + 8 * pairs + 4 * words + size) n)
 
 -- ---- no header describes more than 57,356 bytes: of a longer file, the first 57,357 say what is printed
 
@@ -112,7 +113,7 @@ long-file file = go (leb (length file) 57357) refl
         let q = number-kept 57357 file 4 (omega arith) in
         let r = number-kept 57357 file 8 (omega arith) in
         ap printed
-        (described front [] (omega arith) (sym p) (sym q) (sym r)
+        (described front (omega arith) (sym p) (sym q) (sym r)
         ∙ too-long (numberAt file 0) (numberAt file 4) (numberAt file 8) front (omega arith)
         ∙ sym (too-long (numberAt file 0) (numberAt file 4) (numberAt file 8) file (omega arith))
-        ∙ sym (described file [] (omega arith) refl refl refl))
+        ∙ sym (described file (omega arith) refl refl refl))

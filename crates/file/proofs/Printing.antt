@@ -1,26 +1,24 @@
 -- Laws of printing: numbers and refusals, and from a call's answer to what the buffer holds.
-use Prim.Native.Nat.{ℕ, suc, _+_, _/_, _%_, _≤_, _<_}
-use mathlib.Core.Path.{_≡_, refl, ap, sym, _∙_, subst}
+use Prim.Native.Nat.{ℕ, _+_, _/_, _%_, _≤_, _<_}
+use mathlib.Core.Path.{_≡_, ap, sym, _∙_, fst-path, snd-path}
 use mathlib.Core.Bool.{Bool, true, false}
 use mathlib.Core.List.{List, [], _∷_, _++_, append-assoc}
 use native.Mathlib.Omega.{arith}
 use native.Mathlib.Numerals.{add-one}
-use borrow.Author.Tests.{lt-ltb, le-ltb, leb-true}
-use lib.Dec.{leb, ltb}
+use borrow.Author.Tests.{lt-ltb, le-ltb, le-leb, lt-leb}
+use lib.Dec.{ltb}
 use lib.ListN.{length, set, take, drop, length-append, take-append-drop}
-use lib.Seq.{sets-eq, set-append-seam, append-snoc, drop-cons, drop-append-le, length-take-le}
+use lib.Seq.{drop-append-le, length-take-le}
 use Rattle.rast.specs.Bytes.{Bytes, ascii}
 use Rattle.output.specs.Wrote.{Wrote}
-use Rattle.output.proofs.Laws.{wrote-then, wrote-as}
+use Rattle.output.proofs.Laws.{wrote-then, wrote-as, sets-front}
 use Rattle.encoding.specs.declared.Refusal.{Refusal}
 use Rattle.encoding.specs.declared.Refusal.the-variants.{Overlong, BadPair, EndsEarly, UnknownWord, TooDeep, LeftOver, NoSuchPart, BufferTooShort, BadFileLength, RepeatedRule, BadLevel}
-use Rattle.encoding.specs.Refusals.{pick, number, Answer, given, refused}
-use Rattle.encoding.proofs.Tables.{impossible}
+use Rattle.encoding.specs.Refusals.{pick, number, Answer}
 use Rattle.text.specs.declared.TextAnswer.{TextAnswer}
 use Rattle.text.specs.declared.TextAnswer.the-variants.{Length, Refused}
 use Rattle.text.specs.Calls.{filled}
-use Rattle.encoding.specs.Filled.{filledBy}
-use Rattle.text.proofs.Calls.{answer-of, buffer-of}
+use Rattle.text.proofs.Calls.{Unfilled, no-text, no-room, length-filled, refusal-unfilled}
 use Rattle.file.specs.File.{decimal, refusalLine, printed, atFront}
 
 -- ---- numbers and refusals
@@ -54,7 +52,7 @@ decimal-short n = go (ltb n 10)
     go true = omega arith
     go false = omega arith
 
-pub line-short : (r : Refusal) → length (refusalLine r) ≤ 11
+line-short : (r : Refusal) → length (refusalLine r) ≤ 11
 unfolding refusalLine ascii
 line-short r =
     let d = decimal-short (number r) in
@@ -63,8 +61,7 @@ line-short r =
 pub line-written : {o o₁ o₂ o₃ : List ℕ} {p₁ p₂ p₃ n : ℕ} (r : Refusal) → n ≡ number r
     → Wrote o 0 (ascii "refused ") o₁ p₁ → Wrote o₁ p₁ (decimal n) o₂ p₂ → Wrote o₂ p₂ (ascii "\n") o₃ p₃ → Wrote o 0 (refusalLine r) o₃ p₃
 unfolding refusalLine
-line-written r e k l m =
-    wrote-then (wrote-then k (wrote-as (ap decimal e) l)) m
+line-written r e k l m = wrote-then (wrote-then k (wrote-as (ap decimal e) l)) m
 
 -- ---- from a call's answer to what the buffer holds
 
@@ -72,7 +69,7 @@ line-written r e k l m =
 front-written : (o b : List ℕ) {o′ : List ℕ} {n : ℕ} → length b ≤ length o → Wrote o 0 b o′ n → (n, o′) ≡ atFront b o
 front-written o b h w =
     let e : 0 + length b ≡ length b = omega arith in
-    rw (w .next, w .bytes, sets-eq b o 0 (omega arith), e)
+    rw (w .next, w .bytes, sets-front b o h, e)
 
 -- a text in the front of a front
 fronts : (o b : List ℕ) (k : ℕ) → length b ≤ k → k ≤ length o → b ++ drop (length b) (take k o) ++ drop k o ≡ b ++ drop (length b) o
@@ -86,67 +83,33 @@ newline-written : (o b : List ℕ) {o′ : List ℕ} {m : ℕ} → length b < le
     → (m, o′) ≡ atFront (b ++ ascii "\n") o
 unfolding ascii
 newline-written o b h w =
-    let e : length (b ++ (10 ∷ [])) ≡ suc (length b) = simp length-append (omega arith) in
-    let f : length b + 1 ≡ suc (length b) = omega arith in
-    rw (w .next, w .bytes, e, f, drop-cons o (length b) 0 h, set-append-seam, append-snoc)
+    let text : Wrote o 0 b (b ++ drop (length b) o) (length b) = record { bytes = sym (sets-front b o (omega arith)); next = omega arith } in
+    front-written o (b ++ ascii "\n") (simp length-append (omega arith)) (wrote-then text w)
 
-module _ (o after : List ℕ) (r : TextAnswer) (full : 65537 ≡ length o) where
-  answered : (fits : Bool) (b : Bytes) → leb (length b) (length (take 65536 o)) ≡ fits
-      → _≡_ {A = TextAnswer × List ℕ} (r, after) (pick fits (Length (length b), b ++ drop (length b) (take 65536 o)) (Refused BufferTooShort, take 65536 o))
-      → {n m : ℕ} {o′ : List ℕ} → r ≡ Length n → Wrote (after ++ drop 65536 o) n (ascii "\n") o′ m → (m, o′) ≡ atFront (printed (given b)) o
-  unfolding answer-of buffer-of printed
-  answered true b t e {n} {m} {o′} q w =
-      let l : length (take 65536 o) ≡ 65536 = length-take-le 65536 o (omega arith) in
-      let h = leb-true (length b) (length (take 65536 o)) t in
-      let t′ : leb (length b) 65536 ≡ true = rw l at t in
-      let p : r ≡ Length (length b) = ap answer-of e in
-      let s : n ≡ length b = cc in
-      let k : after ++ drop 65536 o ≡ b ++ drop (length b) o = rw (ap buffer-of e) (fronts o b 65536 (omega arith) (omega arith)) in
-      rw t′ (newline-written o b (omega arith) (subst (λ (x : ℕ). Wrote (b ++ drop (length b) o) x (ascii "\n") o′ m) s (subst (λ (x : List ℕ). Wrote x n (ascii "\n") o′ m) k w)))
-  answered false b t e q w =
-      let p : r ≡ Refused BufferTooShort = ap answer-of e in
-      impossible (cc)
+-- the refusal where there is no text
+unfilled-line : (o : List ℕ) (a : Answer Bytes) (k : Refusal) → 65536 ≡ length o → Unfilled o a k → printed a ≡ refusalLine k
+unfolding printed
+unfilled-line o a k l (no-text e) = rw e
+unfilled-line o a k l (no-room b e h r) = rw (e, lt-leb (length b) 65536 (omega arith), r)
 
-  pub text-printed : (a : Answer Bytes) → _≡_ {A = TextAnswer × List ℕ} (r, after) (filled (take 65536 o) a)
-      → {n m : ℕ} {o′ : List ℕ} → r ≡ Length n → Wrote (after ++ drop 65536 o) n (ascii "\n") o′ m → (m, o′) ≡ atFront (printed a) o
-  unfolding filledBy answer-of
-  text-printed (given b) e q w = answered (leb (length b) (length (take 65536 o))) b refl e q w
-  text-printed (refused k) e q w =
-      let p : r ≡ Refused k = ap answer-of e in
-      impossible (cc)
+module _ (o after : List ℕ) {r : TextAnswer} (full : 65537 ≡ length o) (a : Answer Bytes) (e : _≡_ {A = TextAnswer × List ℕ} (r, after) (filled (take 65536 o) a)) {m : ℕ} {o′ : List ℕ} where
+  pub text-printed : {n : ℕ} → r ≡ Length n → Wrote (after ++ drop 65536 o) n (ascii "\n") o′ m → (m, o′) ≡ atFront (printed a) o
+  unfolding printed
+  text-printed q w =
+      let f = length-filled (take 65536 o) after a e q in
+      let l = length-take-le 65536 o (omega arith) in
+      let k : after ++ drop 65536 o ≡ f .bytes ++ drop (length (f .bytes)) o = ap (λ (x : List ℕ). x ++ drop 65536 o) (f .front) ∙ fronts o (f .bytes) 65536 (omega arith) (omega arith) in
+      rw (f .gives, le-leb (length (f .bytes)) 65536 (omega arith)) (newline-written o (f .bytes) (omega arith) (rw (f .size, k) at w))
 
-  line-printed : (k : Refusal) → after ≡ take 65536 o → {m : ℕ} {o′ : List ℕ} → Wrote (after ++ drop 65536 o) 0 (refusalLine k) o′ m → (m, o′) ≡ atFront (refusalLine k) o
-  line-printed k e {m} {o′} w =
+  pub refusal-printed : {k : Refusal} → r ≡ Refused k → Wrote (after ++ drop 65536 o) 0 (refusalLine k) o′ m → (m, o′) ≡ atFront (printed a) o
+  refusal-printed {k} q w =
+      let u = refusal-unfilled (take 65536 o) after a e q in
       let h = line-short k in
-      let s : after ++ drop 65536 o ≡ o = rw e (take-append-drop 65536 o) in
-      front-written o (refusalLine k) (omega arith) (subst (λ (x : List ℕ). Wrote x 0 (refusalLine k) o′ m) s w)
-
-  overfull : (fits : Bool) (b : Bytes) → leb (length b) (length (take 65536 o)) ≡ fits
-      → _≡_ {A = TextAnswer × List ℕ} (r, after) (pick fits (Length (length b), b ++ drop (length b) (take 65536 o)) (Refused BufferTooShort, take 65536 o))
-      → {k : Refusal} {m : ℕ} {o′ : List ℕ} → r ≡ Refused k → Wrote (after ++ drop 65536 o) 0 (refusalLine k) o′ m → (m, o′) ≡ atFront (printed (given b)) o
-  unfolding answer-of buffer-of printed
-  overfull true b t e q w =
-      let p : r ≡ Length (length b) = ap answer-of e in
-      impossible (cc)
-  overfull false b t e {k} {m} {o′} q w =
-      let l : length (take 65536 o) ≡ 65536 = length-take-le 65536 o (omega arith) in
-      let t′ : leb (length b) 65536 ≡ false = rw l at t in
-      let p : r ≡ Refused BufferTooShort = ap answer-of e in
-      let s : k ≡ BufferTooShort = cc in
-      rw (t′, ← s) (line-printed k (ap buffer-of e) w)
-
-  pub refusal-printed : (a : Answer Bytes) → _≡_ {A = TextAnswer × List ℕ} (r, after) (filled (take 65536 o) a)
-      → {k : Refusal} {m : ℕ} {o′ : List ℕ} → r ≡ Refused k → Wrote (after ++ drop 65536 o) 0 (refusalLine k) o′ m → (m, o′) ≡ atFront (printed a) o
-  unfolding filledBy answer-of buffer-of printed
-  refusal-printed (given b) e q w = overfull (leb (length b) (length (take 65536 o))) b refl e q w
-  refusal-printed (refused x) e {k} q w =
-      let p : r ≡ Refused x = ap answer-of e in
-      let s : k ≡ x = cc in
-      rw (← s) (line-printed k (ap buffer-of e) w)
+      let s : after ++ drop 65536 o ≡ o = rw (u .1) (take-append-drop 65536 o) in
+      rw (unfilled-line (take 65536 o) a k (sym (length-take-le 65536 o (omega arith))) (u .0)) (front-written o (refusalLine k) (omega arith) (rw s at w))
 
 -- what fills a front lies within the buffer
 pub front-within : (b o : List ℕ) {o′ : List ℕ} {n : ℕ} → (n, o′) ≡ atFront b o → n ≤ length o′
-front-within b o {o′} {n} e =
-    let p : n ≡ length b = ap (λ (x : ℕ × List ℕ). x .0) e in
-    let q : o′ ≡ b ++ drop (length b) o = ap (λ (x : ℕ × List ℕ). x .1) e in
-    rw q (simp length-append (omega arith))
+front-within b o e =
+    let p = fst-path e in
+    rw (snd-path e) (simp length-append (omega arith))

@@ -6,14 +6,12 @@ use native.Mathlib.Omega.{arith}
 use lib.ListN.{length, take, drop}
 use lib.Seq.{length-take-le, length-front, take-at}
 
-pub front-lent : (d : List ℕ) (n : ℕ) → n ≤ length d → n ≡ length (take n d)
-front-lent d n h = sym (length-take-le n d h)
-
 pub back-fits : (d e : List ℕ) (n : ℕ) → n ≤ length d → length e ≡ length (take n d) → n ≤ length (e ++ drop n d)
 back-fits d e n h l = omega (arith, length-front d e n l)
 
 pub front-back : (d e : List ℕ) (n : ℕ) → n ≤ length d → length e ≡ length (take n d) → take n (e ++ drop n d) ≡ e
 front-back d e n h l = take-at e (drop n d) n (l ∙ length-take-le n d h)
 
+-- as `length-front`; what was lent says which list and which length
 pub back-length : (d e : List ℕ) (n : ℕ) → n ≤ length d → length e ≡ length (take n d) → length d ≡ length (e ++ drop n d)
 back-length d e n h l = sym (length-front d e n l)

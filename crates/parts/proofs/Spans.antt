@@ -140,27 +140,33 @@ module _ (ws pairs : List ℕ) (text : Bytes) (f : Place Bytes → Option (Place
       let j : a .type ≡ t = cc (a .is) in
       k .keeps (place 0 t) q (record { end = length ws; reads = a .reads ∙ ap (λ y. got y (length ws)) j }) o
 
+  -- where there is a part, there is a type
+  typed : {p : Span} → partOf f ws pairs text ≡ given p → Accepted ws pairs text
+  unfolding partOf spanIn
+  typed {p} e = go (typeOf ws pairs text) refl e
+    where
+      go : (x : Answer (Ty Bytes)) → typeOf ws pairs text ≡ x → spanIn f x ≡ given p → Accepted ws pairs text
+      go (given t) i d = accepted ws pairs text {c = Passed} (rw i refl) refl
+      go (refused r) i d = impossible (cc)
+
   -- a part's words lie within the words
   within : {p : Span} → partOf f ws pairs text ≡ given p → p .start + p .length ≤ length ws
   unfolding partOf spanIn
-  within {p} e = go (typeOf ws pairs text) refl e
-    where
-      lies : (t : Ty Bytes) → typeOf ws pairs text ≡ given t → spanOf (f (place 0 t)) ≡ given p → p .start + p .length ≤ length ws
-      lies t i d =
-          span-some (f (place 0 t)) d (p .start + p .length ≤ length ws) λ q o u v.
-          let s = part-stands q i o in
-          let h = type-here ws pairs text (q .at) (s .reads) in
-          let l = type-lies ws pairs text (q .at) (omega (arith, h)) (s .reads) in
-          omega (arith, l .ends, type-words ws pairs text (q .at) (s .reads), u, v)
-
-      go : (x : Answer (Ty Bytes)) → typeOf ws pairs text ≡ x → spanIn f x ≡ given p → p .start + p .length ≤ length ws
-      go (given t) i d = lies t i d
-      go (refused r) i d = impossible (cc)
+  within {p} e =
+      let a = typed e in
+      span-some (f (place 0 (a .type))) (rw (a .is) at e) (p .start + p .length ≤ length ws) λ q o u v.
+      let s = part-stands q (a .is) o in
+      let h = type-here ws pairs text (q .at) (s .reads) in
+      let l = type-lies ws pairs text (q .at) (omega (arith, h)) (s .reads) in
+      omega (arith, l .ends, type-words ws pairs text (q .at) (s .reads), u, v)
 
   module _ {r : PartAnswer} (e : r ≡ partAnswer (partOf f ws pairs text)) where
     pub part-within : {s n : ℕ} → r ≡ Part s n → s + n ≤ length ws
     part-within {s} {n} d =
         answer-part (partOf f ws pairs text) e d (s + n ≤ length ws) λ p i u v. omega (arith, within i, u, v)
+
+    pub part-few : {s n : ℕ} → r ≡ Part s n → length ws ≤ 8192
+    part-few d = answer-part (partOf f ws pairs text) e d (length ws ≤ 8192) λ p i u v. typed i .few
 
     pub words-given : {s n : ℕ} → r ≡ Part s n → take (s + n - s) (drop s ws) ≡ partWords ws (partOf f ws pairs text)
     unfolding partWords

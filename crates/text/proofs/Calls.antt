@@ -1,9 +1,10 @@
--- What a text call gives behind the tests, and that an answered length lies within the buffer.
-use Prim.Native.Nat.{ℕ, _≤_}
-use mathlib.Core.Path.{_≡_, ap, sym, _∙_}
+-- What a text call gives behind the tests, and what its answer says of the text and the buffer.
+use Prim.Native.Nat.{ℕ, _≤_, _<_}
+use mathlib.Core.Path.{_≡_, refl, sym, _∙_, fst-path, snd-path}
 use mathlib.Core.Bool.{Bool, true, false}
 use mathlib.Core.List.{List, _++_}
 use native.Mathlib.Omega.{arith}
+use borrow.Author.Tests.{leb-true, leb-false}
 use lib.Dec.{leb}
 use lib.ListN.{length, drop, length-append}
 use Rattle.rast.specs.Bytes.{Bytes}
@@ -38,31 +39,43 @@ module _ (ws pairs : List ℕ) (text : Bytes) (level : ℕ) {s : Check} (e : s �
     pub text-refused : {k : Refusal} → s ≡ Failed k → _≡_ {A = TextAnswer × List ℕ} (Refused k, o) (filled o (unless (checkLevel level) (mapAnswer f (unless (checkTables ws pairs text) x))))
     text-refused d = rw map-unless (call-refused Length Refused o ws pairs text level (mapAnswer f x) (sym e ∙ d))
 
--- ---- an answered length
+-- ---- from the answer back to the text
 
-unfoldable pub answer-of : TextAnswer × List ℕ → TextAnswer
-answer-of p = p .0
+-- a length: the text fills the front of the buffer
+pub record Filled (o : List ℕ) (a : Answer Bytes) (n : ℕ) (o′ : List ℕ) : Type 0 where
+  pub bytes : Bytes
+  pub gives : a ≡ given bytes
+  pub size : n ≡ length bytes
+  pub room : length bytes ≤ length o
+  pub front : o′ ≡ bytes ++ drop (length bytes) o
 
-unfoldable pub buffer-of : TextAnswer × List ℕ → List ℕ
-buffer-of p = p .1
+-- a refusal: there is no text, or no room for it
+pub data Unfilled (o : List ℕ) (a : Answer Bytes) (k : Refusal) : Type 0 where
+  no-text : a ≡ refused k → Unfilled o a k
+  no-room : (bytes : Bytes) → a ≡ given bytes → length o < length bytes → k ≡ BufferTooShort → Unfilled o a k
 
-module _ (o after : List ℕ) (r : TextAnswer) (n : ℕ) (q : r ≡ Length n) where
-  within-picked : (fits : Bool) (b : Bytes)
-      → _≡_ {A = TextAnswer × List ℕ} (r, after) (pick fits (Length (length b), b ++ drop (length b) o) (Refused BufferTooShort, o))
-      → n ≤ length after
-  unfolding answer-of buffer-of
-  within-picked true b e =
-      let p : r ≡ Length (length b) = ap answer-of e in
-      let m : n ≡ length b = cc in
-      let l : after ≡ b ++ drop (length b) o = ap buffer-of e in
-      rw l (simp length-append (omega arith))
-  within-picked false b e =
-      let p : r ≡ Refused BufferTooShort = ap answer-of e in
-      impossible (cc)
+module _ (o o′ : List ℕ) {r : TextAnswer} where
+  pub length-filled : (a : Answer Bytes) {n : ℕ} → _≡_ {A = TextAnswer × List ℕ} (r, o′) (filled o a) → r ≡ Length n → Filled o a n o′
+  unfolding filledBy
+  length-filled (given b) {n} e d = go (leb (length b) (length o)) refl e
+    where
+      go : (fits : Bool) → leb (length b) (length o) ≡ fits
+          → _≡_ {A = TextAnswer × List ℕ} (r, o′) (pick fits (Length (length b), b ++ drop (length b) o) (Refused BufferTooShort, o)) → Filled o (given b) n o′
+      go true t e = let i = fst-path e in record { bytes = b; gives = refl; size = cc; room = leb-true (length b) (length o) t; front = snd-path e }
+      go false t e = let i = fst-path e in impossible (cc)
+  length-filled (refused k) e d = let i = fst-path e in impossible (cc)
 
-  pub within : (a : Answer Bytes) → _≡_ {A = TextAnswer × List ℕ} (r, after) (filled o a) → n ≤ length after
-  unfolding filledBy answer-of
-  within (given b) e = within-picked (leb (length b) (length o)) b e
-  within (refused x) e =
-      let p : r ≡ Refused x = ap answer-of e in
-      impossible (cc)
+  pub refusal-unfilled : (a : Answer Bytes) {k : Refusal} → _≡_ {A = TextAnswer × List ℕ} (r, o′) (filled o a) → r ≡ Refused k → Unfilled o a k × (o′ ≡ o)
+  unfolding filledBy
+  refusal-unfilled (given b) {k} e d = go (leb (length b) (length o)) refl e
+    where
+      go : (fits : Bool) → leb (length b) (length o) ≡ fits
+          → _≡_ {A = TextAnswer × List ℕ} (r, o′) (pick fits (Length (length b), b ++ drop (length b) o) (Refused BufferTooShort, o)) → Unfilled o (given b) k × (o′ ≡ o)
+      go true t e = let i = fst-path e in impossible (cc)
+      go false t e = let i = fst-path e in (no-room b refl (leb-false (length b) (length o) t) (cc), snd-path e)
+  refusal-unfilled (refused j) e d = let i = fst-path e in (no-text (cc), snd-path e)
+
+  pub within : (a : Answer Bytes) {n : ℕ} → _≡_ {A = TextAnswer × List ℕ} (r, o′) (filled o a) → r ≡ Length n → n ≤ length o′
+  within a e d =
+      let f = length-filled a e d in
+      rw (f .front) (simp length-append (omega arith))

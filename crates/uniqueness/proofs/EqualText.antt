@@ -1,7 +1,7 @@
 -- Equal text, equal tree: what the calls give is the text and the soundness of one tree each, so the theorem over trees speaks of them.
 use Prim.Native.Nat.{ℕ}
-use mathlib.Core.Path.{_≡_, refl, ap, sym, _∙_, subst}
-use mathlib.Core.Bool.{Bool, true}
+use mathlib.Core.Path.{_≡_, refl, ap, sym, _∙_}
+use mathlib.Core.Bool.{true}
 use lib.Dec.{T}
 use Rattle.rast.specs.Bytes.{Bytes}
 use Rattle.rast.specs.Tree.{Ty}
@@ -25,13 +25,10 @@ record Holds (e : Encoding) (text : Bytes) : Type 0 where
   prints : Type·ToString tree ≡ text
   sounds : T (sound tree)
 
-true-is : {b : Bool} → b ≡ true → T b
-true-is e = subst T (sym e) tt
-
 behind : (e : Encoding) (text : Bytes) (level : Check) (x : Answer (Ty Bytes)) → x ≡ typeOf (e .words) (e .pairs) (e .text)
     → unless level (mapAnswer Type·ToString x) ≡ given text → mapAnswer sound x ≡ given true → Holds e text
 unfolding unless mapAnswer bareTypeOf
-behind e text Passed (given t) h p s = record { tree = t; bares = ap (mapAnswer bare) (sym h); prints = cc; sounds = true-is {b = sound t} (cc) }
+behind e text Passed (given t) h p s = record { tree = t; bares = ap (mapAnswer bare) (sym h); prints = cc; sounds = let k : sound t ≡ true = cc in rw k tt }
 behind e text Passed (refused r) h p s = impossible (cc)
 behind e text (Failed r) x h p s = impossible (cc)
 
@@ -39,14 +36,11 @@ holds : (e : Encoding) (level : ℕ) (text : Bytes) → textOf e level ≡ given
 unfolding typeText typeIsSound
 holds e level text p s = behind e text (checkLevel level) (typeOf (e .words) (e .pairs) (e .text)) refl p s
 
-given-same : {t u : Ty Bytes} → given t ≡ given u → t ≡ u
-given-same e = cc
-
 pub equal-text-equal-tree : EqualTextEqualTree
 equal-text-equal-tree e₁ e₂ l₁ l₂ b₁ b₂ p₁ p₂ s₁ s₂ =
     let h₁ = holds e₁ l₁ b₁ p₁ s₁ in
     let h₂ = holds e₂ l₂ b₂ p₂ s₂ in
     let u = unique (h₁ .tree) (h₂ .tree) (h₁ .sounds) (h₂ .sounds) in (
       λ e. h₁ .bares ∙ ap given (u .0 (h₁ .prints ∙ e ∙ sym (h₂ .prints))) ∙ sym (h₂ .bares),
-      λ e. sym (h₁ .prints) ∙ u .1 (given-same (sym (h₁ .bares) ∙ e ∙ h₂ .bares)) ∙ h₂ .prints,
+      λ e. sym (h₁ .prints) ∙ u .1 (cc) ∙ h₂ .prints,
     )

@@ -1,5 +1,3 @@
-use Rattle.answer_numbers.specs.Numbers.{partNumber}
-use mathlib.Core.Path.{_∙_, ap, sym}
 use native.Mathlib.Omega.{arith}
 use borrow.Author.Needs.{needs}
 use Rattle.answer_numbers.proofs.part_number.Statement.{statement}
@@ -21,10 +19,10 @@ refused-requires : tie.Need-refused-requires
 refused-requires c κs = search needs
 
 returns : tie.Need-returns
-returns c = ap partNumber (sym (c .before .answer .given .1))
+returns c = cc
 
 returns-2 : tie.Need-returns-2
-returns-2 c = c .refused .ensures ∙ ap partNumber (sym (c .before .before .answer2 .given .1))
+returns-2 c = cc
 
 pub part-number-spec : {M : Type 1} → statement M
 part-number-spec =

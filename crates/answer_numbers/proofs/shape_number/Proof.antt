@@ -1,5 +1,3 @@
-use Rattle.answer_numbers.specs.Numbers.{shapeNumber}
-use mathlib.Core.Path.{_∙_, ap, sym}
 use borrow.Author.Needs.{needs}
 use Rattle.answer_numbers.proofs.shape_number.Statement.{statement}
 use Rattle.answer_numbers.proofs.shape_number.Tie as tie
@@ -23,7 +21,7 @@ returns-2 : tie.Need-returns-2
 returns-2 c = search needs
 
 returns-3 : tie.Need-returns-3
-returns-3 c = c .refused .ensures ∙ ap shapeNumber (sym (c .before .before .answer .given .1))
+returns-3 c = cc
 
 pub shape-number-spec : {M : Type 1} → statement M
 shape-number-spec =

@@ -1,5 +1,3 @@
-use mathlib.Core.Path.{ap, sym, _∙_}
-use Rattle.answer_numbers.specs.Numbers.{soundNumber}
 use borrow.Author.Needs.{needs}
 use Rattle.answer_numbers.proofs.sound_number.Statement.{statement}
 use Rattle.answer_numbers.proofs.sound_number.Tie as tie
@@ -23,7 +21,7 @@ returns-2 : tie.Need-returns-2
 returns-2 c = search needs
 
 returns-3 : tie.Need-returns-3
-returns-3 c = c .refused .ensures ∙ ap soundNumber (sym (c .before .before .answer .given .1))
+returns-3 c = cc
 
 pub sound-number-spec : {M : Type 1} → statement M
 sound-number-spec =

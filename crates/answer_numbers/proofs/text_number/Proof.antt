@@ -1,5 +1,3 @@
-use mathlib.Core.Path.{ap, sym, _∙_}
-use Rattle.answer_numbers.specs.Numbers.{textNumber}
 use borrow.Author.Needs.{needs}
 use Rattle.answer_numbers.proofs.text_number.Statement.{statement}
 use Rattle.answer_numbers.proofs.text_number.Tie as tie
@@ -17,7 +15,7 @@ returns : tie.Need-returns
 returns c = search needs
 
 returns-2 : tie.Need-returns-2
-returns-2 c = c .refused .ensures ∙ ap textNumber (sym (c .before .before .answer2 .given .1))
+returns-2 c = cc
 
 pub text-number-spec : {M : Type 1} → statement M
 text-number-spec =

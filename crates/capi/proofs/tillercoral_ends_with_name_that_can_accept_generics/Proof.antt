@@ -1,5 +1,3 @@
-use Rattle.answer_numbers.specs.Numbers.{shapeNumber}
-use mathlib.Core.Path.{_∙_, ap}
 use borrow.Author.Needs.{needs}
 use Rattle.capi.proofs.tillercoral_ends_with_name_that_can_accept_generics.Statement.{statement}
 use Rattle.capi.proofs.tillercoral_ends_with_name_that_can_accept_generics.Tie as tie
@@ -11,7 +9,7 @@ shape-number-requires : tie.Need-shape-number-requires
 shape-number-requires c κs = search needs
 
 returns : tie.Need-returns
-returns c = c .shape-number .ensures ∙ ap shapeNumber (c .before .ends-with-name-that-can-accept-generics .ensures)
+returns c = rw (c .before .ends-with-name-that-can-accept-generics .ensures) at (c .shape-number .ensures)
 
 pub tillercoral-ends-with-name-that-can-accept-generics-spec : {M : Type 1} → statement M
 tillercoral-ends-with-name-that-can-accept-generics-spec =

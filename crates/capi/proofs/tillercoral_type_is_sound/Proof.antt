@@ -1,5 +1,3 @@
-use mathlib.Core.Path.{ap, _∙_}
-use Rattle.answer_numbers.specs.Numbers.{soundNumber}
 use borrow.Author.Needs.{needs}
 use Rattle.capi.proofs.tillercoral_type_is_sound.Statement.{statement}
 use Rattle.capi.proofs.tillercoral_type_is_sound.Tie as tie
@@ -11,7 +9,7 @@ sound-number-requires : tie.Need-sound-number-requires
 sound-number-requires c κs = search needs
 
 returns : tie.Need-returns
-returns c = c .sound-number .ensures ∙ ap soundNumber (c .before .type-is-sound .ensures)
+returns c = rw (c .before .type-is-sound .ensures) at (c .sound-number .ensures)
 
 pub tillercoral-type-is-sound-spec : {M : Type 1} → statement M
 tillercoral-type-is-sound-spec =

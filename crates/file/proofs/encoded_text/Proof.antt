@@ -1,9 +1,9 @@
-use Prim.Native.Nat.{_*_, _+_}
 use Rattle.file.proofs.Files.{call-of, numbers-lent, text-lent}
-use Rattle.numbers.proofs.Fronts.{back-fits, front-lent}
+use Rattle.numbers.proofs.Fronts.{back-fits}
 use Rattle.text.specs.Calls.{filled}
-use mathlib.Core.Path.{_∙_, ap}
+use mathlib.Core.Path.{_∙_, ap, sym}
 use native.Mathlib.Omega.{arith}
+use lib.Seq.{length-take-le}
 use borrow.Author.Needs.{needs}
 use Rattle.file.proofs.encoded_text.Statement.{statement}
 use Rattle.file.proofs.encoded_text.Tie as tie
@@ -27,7 +27,7 @@ array-borrow-prefix-pair-array : tie.Need-array-borrow-prefix-pair-array
 array-borrow-prefix-pair-array c = search needs
 
 slice-aggregate-read-numbers : tie.Need-slice-aggregate-read-numbers
-slice-aggregate-read-numbers c = front-lent _ _ (array-borrow-prefix-pair-array (c .before))
+slice-aggregate-read-numbers c = sym (length-take-le _ _ (array-borrow-prefix-pair-array (c .before)))
 
 read-numbers-requires : tie.Need-read-numbers-requires
 read-numbers-requires c κs = omega (arith, slice-aggregate-read-numbers c)
@@ -36,7 +36,7 @@ array-borrow-prefix-word-array : tie.Need-array-borrow-prefix-word-array
 array-borrow-prefix-word-array c = search needs
 
 slice-aggregate-read-numbers-2 : tie.Need-slice-aggregate-read-numbers-2
-slice-aggregate-read-numbers-2 c = front-lent _ _ (array-borrow-prefix-word-array (c .before))
+slice-aggregate-read-numbers-2 c = sym (length-take-le _ _ (array-borrow-prefix-word-array (c .before)))
 
 read-numbers-requires-2 : tie.Need-read-numbers-requires-2
 read-numbers-requires-2 c κs = omega (arith, slice-aggregate-read-numbers-2 c)
@@ -45,28 +45,34 @@ array-borrow-prefix-text-array : tie.Need-array-borrow-prefix-text-array
 array-borrow-prefix-text-array c = search needs
 
 slice-aggregate-put-part : tie.Need-slice-aggregate-put-part
-slice-aggregate-put-part c = front-lent _ _ (array-borrow-prefix-text-array (c .before))
+slice-aggregate-put-part c = sym (length-take-le _ _ (array-borrow-prefix-text-array (c .before)))
 
 put-part-requires : tie.Need-put-part-requires
 put-part-requires c κs = (omega arith, omega (arith, slice-aggregate-put-part c))
 
 array-share-prefix-word-array : tie.Need-array-share-prefix-word-array
-array-share-prefix-word-array c = back-fits _ (c .before .before .before .before .read-numbers2 .last .1 .1 .0) _ (array-borrow-prefix-word-array (c .before .before .before .before .before .before)) (c .before .before .before .before .read-numbers2 .kept .1 .1 .0)
+array-share-prefix-word-array c =
+    let b = c .before .before .before .before in
+    back-fits _ (b .read-numbers2 .last .1 .1 .0) _ (array-borrow-prefix-word-array (b .before .before)) (b .read-numbers2 .kept .1 .1 .0)
 
 slice-aggregate-declaration-text : tie.Need-slice-aggregate-declaration-text
-slice-aggregate-declaration-text c = front-lent _ _ (array-share-prefix-word-array (c .before))
+slice-aggregate-declaration-text c = sym (length-take-le _ _ (array-share-prefix-word-array (c .before)))
 
 array-share-prefix-pair-array : tie.Need-array-share-prefix-pair-array
-array-share-prefix-pair-array c = back-fits _ (c .before .before .before .before .before .before .before .before .read-numbers .last .1 .1 .0) _ (array-borrow-prefix-pair-array (c .before .before .before .before .before .before .before .before .before .before)) (c .before .before .before .before .before .before .before .before .read-numbers .kept .1 .1 .0)
+array-share-prefix-pair-array c =
+    let b = c .before .before .before .before .before .before .before .before in
+    back-fits _ (b .read-numbers .last .1 .1 .0) _ (array-borrow-prefix-pair-array (b .before .before)) (b .read-numbers .kept .1 .1 .0)
 
 slice-aggregate-declaration-text-2 : tie.Need-slice-aggregate-declaration-text-2
-slice-aggregate-declaration-text-2 c = front-lent _ _ (array-share-prefix-pair-array (c .before))
+slice-aggregate-declaration-text-2 c = sym (length-take-le _ _ (array-share-prefix-pair-array (c .before)))
 
 array-share-prefix-text-array : tie.Need-array-share-prefix-text-array
-array-share-prefix-text-array c = back-fits _ (c .before .before .before .put-part .last .1 .1 .1 .0) _ (array-borrow-prefix-text-array (c .before .before .before .before .before)) (c .before .before .before .put-part .kept .1 .1 .1 .0)
+array-share-prefix-text-array c =
+    let b = c .before .before .before in
+    back-fits _ (b .put-part .last .1 .1 .1 .0) _ (array-borrow-prefix-text-array (b .before .before)) (b .put-part .kept .1 .1 .1 .0)
 
 slice-aggregate-declaration-text-3 : tie.Need-slice-aggregate-declaration-text-3
-slice-aggregate-declaration-text-3 c = front-lent _ _ (array-share-prefix-text-array (c .before))
+slice-aggregate-declaration-text-3 c = sym (length-take-le _ _ (array-share-prefix-text-array (c .before)))
 
 declaration-text-requires : tie.Need-declaration-text-requires
 declaration-text-requires c κs = search needs
@@ -76,12 +82,15 @@ same-length c = search needs
 
 returns : tie.Need-returns
 returns c =
-    let a = c .before .before .before .before .before .before .before .before .before .before .before .before .before .before .before .before .before .before .args in
-    c .before .before .declaration-text .ensures ∙ ap (filled (a .out .now))
+    let t = c .before .before .before .before .before .before .before .before in
+    let w = t .before .before .before in
+    let p = w .before .before .before in
+    let start = p .before .before .before .before in
+    c .before .before .declaration-text .ensures ∙ ap (filled (start .args .out .now))
     (call-of
-    (numbers-lent (a .file .now) _ (c .before .before .before .before .before .before .before .before .before .before .before .read-numbers2 .last .1 .1 .0) (12 + 8 * a .pairs) (a .words) (array-borrow-prefix-word-array (c .before .before .before .before .before .before .before .before .before .before .before .before .before)) (c .before .before .before .before .before .before .before .before .before .before .before .read-numbers2 .kept .1 .1 .0) (c .before .before .before .before .before .before .before .before .before .before .before .read-numbers2 .ensures))
-    (numbers-lent (a .file .now) _ (c .before .before .before .before .before .before .before .before .before .before .before .before .before .before .read-numbers .last .1 .1 .0) 12 (2 * a .pairs) (array-borrow-prefix-pair-array (c .before .before .before .before .before .before .before .before .before .before .before .before .before .before .before .before)) (c .before .before .before .before .before .before .before .before .before .before .before .before .before .before .read-numbers .kept .1 .1 .0) (c .before .before .before .before .before .before .before .before .before .before .before .before .before .before .read-numbers .ensures))
-    (text-lent (a .file .now) _ (c .before .before .before .before .before .before .before .before .put-part .last .1 .1 .1 .0) (12 + 8 * a .pairs + 4 * a .words) (a .size) _ (array-borrow-prefix-text-array (c .before .before .before .before .before .before .before .before .before .before)) (c .before .before .before .before .before .before .before .before .put-part .kept .1 .1 .1 .0) (c .before .before .before .before .before .before .before .before .before .before .before .before .before .before .before .before .before .before .pre .3) (c .before .before .before .before .before .before .before .before .put-part .ensures)))
+    (numbers-lent _ _ _ _ _ (array-borrow-prefix-word-array (w .before .before)) (w .read-numbers2 .kept .1 .1 .0) (w .read-numbers2 .ensures))
+    (numbers-lent _ _ _ _ _ (array-borrow-prefix-pair-array (p .before .before)) (p .read-numbers .kept .1 .1 .0) (p .read-numbers .ensures))
+    (text-lent _ _ _ _ _ _ (array-borrow-prefix-text-array (t .before .before)) (t .put-part .kept .1 .1 .1 .0) (start .pre .3) (t .put-part .ensures)))
 
 pub encoded-text-spec : {M : Type 1} → statement M
 encoded-text-spec =

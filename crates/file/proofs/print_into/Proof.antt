@@ -1,9 +1,10 @@
 use Rattle.file.proofs.Printing.{refusal-printed, text-printed}
 use Rattle.file.specs.File.{fileText, printedFile}
-use Rattle.numbers.proofs.Fronts.{back-length, front-lent}
 use Rattle.rast.specs.Bytes.{ascii}
 use Rattle.text.proofs.Calls.{within}
 use native.Mathlib.Omega.{arith}
+use lib.Seq.{length-front, length-take-le}
+use mathlib.Core.Path.{sym}
 use borrow.Author.Needs.{needs}
 use Rattle.file.proofs.print_into.Statement.{statement}
 use Rattle.file.proofs.print_into.Tie as tie
@@ -12,7 +13,7 @@ slice-relend-prefix-file-text : tie.Need-slice-relend-prefix-file-text
 slice-relend-prefix-file-text c = search needs
 
 slice-aggregate-file-text : tie.Need-slice-aggregate-file-text
-slice-aggregate-file-text c = front-lent (c .before .before .before .args .out .now) _ (slice-relend-prefix-file-text (c .before))
+slice-aggregate-file-text c = sym (length-take-le _ (c .before .before .before .args .out .now) (slice-relend-prefix-file-text (c .before)))
 
 file-text-requires : tie.Need-file-text-requires
 file-text-requires c κs = search needs
@@ -25,10 +26,10 @@ slice-aggregate-put c = search needs
 
 put-requires : tie.Need-put-requires
 put-requires c κs =
-    let a = c .before .before .before .before .before .before .before .before .before .before .before .args in
-    let f = c .before .before .before .before .before .before .before .file-text in
-    let w = within _ (f .last .1 .0) (f .result) (c .before .before .before .n .given .0 .0) (c .before .before .before .n .given .1) (fileText (a .file .now)) (f .ensures) in
-    omega (arith, c .before .before .before .before .before .before .before .before .before .before .before .pre, f .kept .1 .0, w, slice-aggregate-file-text (c .before .before .before .before .before .before .before .before), back-length (a .out .now) (f .last .1 .0) _ (slice-relend-prefix-file-text (c .before .before .before .before .before .before .before .before .before)) (f .kept .1 .0))
+    let b = c .before .before .before .before .before .before .before in
+    let start = b .before .before .before .before in
+    let w = within _ (b .file-text .last .1 .0) (fileText (start .args .file .now)) (b .file-text .ensures) (c .before .before .before .n .given .1) in
+    omega (arith, start .pre, b .file-text .kept .1 .0, w, slice-aggregate-file-text (b .before), length-front (start .args .out .now) (b .file-text .last .1 .0) 65536 (b .file-text .kept .1 .0))
 
 enum-known-r : tie.Need-enum-known-r
 enum-known-r c = search needs
@@ -42,9 +43,9 @@ same-length c = search needs
 returns : tie.Need-returns
 unfolding ascii printedFile
 returns c =
-    let a = c .before .before .before .before .before .before .before .before .before .before .before .before .before .before .args in
-    let f = c .before .before .before .before .before .before .before .before .before .before .file-text in
-    text-printed (a .out .now) (f .last .1 .0) (f .result) (c .before .before .before .before .before .before .before .before .before .before .before .before .before .before .pre) (fileText (a .file .now)) (f .ensures) (c .before .before .before .before .before .before .n .given .1) (c .before .before .put .ensures)
+    let b = c .before .before .before .before .before .before .before .before .before .before in
+    let start = b .before .before .before .before in
+    text-printed (start .args .out .now) (b .file-text .last .1 .0) (start .pre) (fileText (start .args .file .now)) (b .file-text .ensures) (c .before .before .before .before .before .before .n .given .1) (c .before .before .put .ensures)
 
 same-length-2 : tie.Need-same-length-2
 same-length-2 c = search needs
@@ -52,9 +53,9 @@ same-length-2 c = search needs
 returns-2 : tie.Need-returns-2
 unfolding printedFile
 returns-2 c =
-    let a = c .before .before .before .before .before .before .before .before .before .before .before .before .before .args in
-    let f = c .before .before .before .before .before .before .before .before .before .file-text in
-    refusal-printed (a .out .now) (f .last .1 .0) (f .result) (c .before .before .before .before .before .before .before .before .before .before .before .before .before .pre) (fileText (a .file .now)) (f .ensures) (c .before .before .before .before .before .r .given .1) (c .before .before .put-refusal .ensures)
+    let b = c .before .before .before .before .before .before .before .before .before in
+    let start = b .before .before .before .before in
+    refusal-printed (start .args .out .now) (b .file-text .last .1 .0) (start .pre) (fileText (start .args .file .now)) (b .file-text .ensures) (c .before .before .before .before .before .r .given .1) (c .before .before .put-refusal .ensures)
 
 pub print-into-spec : {M : Type 1} → statement M
 print-into-spec =

@@ -21,26 +21,22 @@ returns c =
     let a = c .before .before .before .before .before .before .before .args in
     words-refused (a .words .now) (a .pairs .now) (a .text .now) (partFor (a .wanted)) (part-keeps (a .words .now) (a .pairs .now) (a .text .now) (a .wanted)) (c .before .before .before .part-in .ensures) (c .before .enum-told .given .1)
 
-add-result : tie.Need-add-result
-add-result c =
+part-result-end : tie.Need-part-result-end
+part-result-end c =
     let a = c .before .before .before .before .before .before .before .args in
-    let h = part-within (a .words .now) (a .pairs .now) (a .text .now) (partFor (a .wanted)) (part-keeps (a .words .now) (a .pairs .now) (a .text .now) (a .wanted)) (c .before .before .before .part-in .ensures) (c .before .start .given .1) in search needs
+    part-within (a .words .now) (a .pairs .now) (a .text .now) (partFor (a .wanted)) (part-keeps (a .words .now) (a .pairs .now) (a .text .now) (a .wanted)) (c .before .before .before .part-in .ensures) (c .before .start .given .1)
+
+add-result : tie.Need-add-result
+add-result c = let h = part-result-end c in search needs
 
 mul-result : tie.Need-mul-result
-mul-result c =
-    let a = c .before .before .before .before .before .before .before .args in
-    let h = part-within (a .words .now) (a .pairs .now) (a .text .now) (partFor (a .wanted)) (part-keeps (a .words .now) (a .pairs .now) (a .text .now) (a .wanted)) (c .before .before .before .part-in .ensures) (c .before .start .given .1) in search needs
+mul-result c = let h = part-result-end c in search needs
 
 sub-result : tie.Need-sub-result
 sub-result c = search needs
 
 part-result-start : tie.Need-part-result-start
 part-result-start c = search needs
-
-part-result-end : tie.Need-part-result-end
-part-result-end c =
-    let a = c .before .before .before .before .before .before .before .args in
-    part-within (a .words .now) (a .pairs .now) (a .text .now) (partFor (a .wanted)) (part-keeps (a .words .now) (a .pairs .now) (a .text .now) (a .wanted)) (c .before .before .before .part-in .ensures) (c .before .start .given .1)
 
 returns-2 : tie.Need-returns-2
 returns-2 c =

@@ -1,6 +1,7 @@
 use Rattle.file.proofs.Printing.{front-within}
 use Rattle.file.specs.File.{printedFile}
-use Rattle.numbers.proofs.Fronts.{front-lent}
+use lib.Seq.{length-take-le}
+use mathlib.Core.Path.{sym}
 use borrow.Author.Needs.{needs}
 use Rattle.printdecl.proofs.answer.Statement.{statement}
 use Rattle.printdecl.proofs.answer.Tie as tie
@@ -12,7 +13,7 @@ array-share-prefix-out : tie.Need-array-share-prefix-out
 array-share-prefix-out c = front-within (printedFile (c .before .before .before .args .file .now)) _ (c .print-file .ensures)
 
 slice-aggregate-write-all : tie.Need-slice-aggregate-write-all
-slice-aggregate-write-all c = front-lent (c .before .print-file .last .1 .0) (c .before .print-file .result) (array-share-prefix-out (c .before))
+slice-aggregate-write-all c = sym (length-take-le _ _ (array-share-prefix-out (c .before)))
 
 write-all-requires : tie.Need-write-all-requires
 write-all-requires c κs = search needs

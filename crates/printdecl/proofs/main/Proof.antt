@@ -1,5 +1,6 @@
-use Rattle.numbers.proofs.Fronts.{front-lent}
 use Rattle.printdecl.proofs.Reading.{read-within}
+use lib.Seq.{length-take-le}
+use mathlib.Core.Path.{sym}
 use borrow.Author.Needs.{needs}
 use Rattle.printdecl.proofs.main.Statement.{statement}
 use Rattle.printdecl.proofs.main.Tie as tie
@@ -17,7 +18,7 @@ array-share-prefix-bytes : tie.Need-array-share-prefix-bytes
 array-share-prefix-bytes c = read-within (c .before .before .before .before .read-input .last .0) (c .before .before .before .before .read-input .result) (c .before .before .before .before .read-input .ensures) (c .before .n .given .1)
 
 slice-aggregate-answer : tie.Need-slice-aggregate-answer
-slice-aggregate-answer c = front-lent (c .before .before .before .before .before .read-input .last .0) (c .before .before .n .given .0 .0) (array-share-prefix-bytes (c .before))
+slice-aggregate-answer c = sym (length-take-le _ _ (array-share-prefix-bytes (c .before)))
 
 answer-requires : tie.Need-answer-requires
 answer-requires c κs = search needs

@@ -27,7 +27,7 @@ enum-known-n : tie.Need-enum-known-n
 enum-known-n c = search needs
 
 array-share-prefix-buffer : tie.Need-array-share-prefix-buffer
-array-share-prefix-buffer c = within _ _ _ _ (c .before .n .given .1) _ (c .before .before .before .before .type-text .ensures)
+array-share-prefix-buffer c = within _ _ _ (c .before .before .before .before .type-text .ensures) (c .before .n .given .1)
 
 slice-aggregate-print-2 : tie.Need-slice-aggregate-print-2
 slice-aggregate-print-2 c = sym (length-take-le _ _ (array-share-prefix-buffer (c .before)))

@@ -1,6 +1,7 @@
 use Rattle.file.proofs.Printing.{front-within}
 use Rattle.file.specs.File.{printedFile}
-use Rattle.numbers.proofs.Fronts.{front-lent}
+use lib.Seq.{length-take-le}
+use mathlib.Core.Path.{sym}
 use borrow.Author.Needs.{needs}
 use Rattle.vectors.proofs.print_file.Statement.{statement}
 use Rattle.vectors.proofs.print_file.Tie as tie
@@ -12,7 +13,7 @@ array-share-prefix-out : tie.Need-array-share-prefix-out
 array-share-prefix-out c = front-within (printedFile (c .before .before .before .args .file .now)) _ (c .print-file .ensures)
 
 slice-aggregate-print : tie.Need-slice-aggregate-print
-slice-aggregate-print c = front-lent (c .before .print-file .last .1 .0) (c .before .print-file .result) (array-share-prefix-out (c .before))
+slice-aggregate-print c = sym (length-take-le _ _ (array-share-prefix-out (c .before)))
 
 print-requires : tie.Need-print-requires
 print-requires c κs = search needs

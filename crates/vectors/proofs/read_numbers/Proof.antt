@@ -1,6 +1,8 @@
 use native.Mathlib.Omega.{arith}
+use lib.Seq.{length-take-le}
+use mathlib.Core.Path.{sym}
 use borrow.Author.Needs.{needs}
-use Rattle.numbers.proofs.Fronts.{front-lent, back-fits, back-length}
+use Rattle.numbers.proofs.Fronts.{back-fits, back-length}
 use Rattle.vectors.proofs.read_numbers.Statement.{statement}
 use Rattle.vectors.proofs.read_numbers.Tie as tie
 
@@ -11,7 +13,7 @@ array-borrow-prefix-bytes : tie.Need-array-borrow-prefix-bytes
 array-borrow-prefix-bytes c = search needs
 
 slice-aggregate-read-full : tie.Need-slice-aggregate-read-full
-slice-aggregate-read-full c = front-lent _ _ (array-borrow-prefix-bytes (c .before))
+slice-aggregate-read-full c = sym (length-take-le _ _ (array-borrow-prefix-bytes (c .before)))
 
 read-full-requires : tie.Need-read-full-requires
 read-full-requires c κs = search needs

@@ -1,5 +1,7 @@
-use Rattle.numbers.proofs.Fronts.{back-fits, front-lent}
+use Rattle.numbers.proofs.Fronts.{back-fits}
 use native.Mathlib.Omega.{arith}
+use lib.Seq.{length-take-le}
+use mathlib.Core.Path.{sym}
 use borrow.Author.Needs.{needs}
 use Rattle.vectors.proofs.run_rebuild_call.Statement.{statement}
 use Rattle.vectors.proofs.run_rebuild_call.Tie as tie
@@ -14,7 +16,7 @@ array-borrow-prefix-rules : tie.Need-array-borrow-prefix-rules
 array-borrow-prefix-rules c = search needs
 
 slice-aggregate-read-numbers : tie.Need-slice-aggregate-read-numbers
-slice-aggregate-read-numbers c = front-lent _ _ (array-borrow-prefix-rules (c .before))
+slice-aggregate-read-numbers c = sym (length-take-le _ _ (array-borrow-prefix-rules (c .before)))
 
 read-numbers-requires : tie.Need-read-numbers-requires
 read-numbers-requires c κs = omega (arith, slice-aggregate-read-numbers c)
@@ -28,7 +30,7 @@ array-share-prefix-rules c =
     back-fits _ (b .read-numbers .last .0) _ (array-borrow-prefix-rules (b .before .before)) (b .read-numbers .kept .0)
 
 slice-aggregate-rebuild-by : tie.Need-slice-aggregate-rebuild-by
-slice-aggregate-rebuild-by c = front-lent _ _ (array-share-prefix-rules (c .before))
+slice-aggregate-rebuild-by c = sym (length-take-le _ _ (array-share-prefix-rules (c .before)))
 
 rebuild-by-requires : tie.Need-rebuild-by-requires
 rebuild-by-requires c κs = search needs

@@ -1,6 +1,8 @@
 use native.Mathlib.Omega.{arith}
+use lib.Seq.{length-take-le}
+use mathlib.Core.Path.{sym}
 use borrow.Author.Needs.{needs}
-use Rattle.numbers.proofs.Fronts.{front-lent, back-fits}
+use Rattle.numbers.proofs.Fronts.{back-fits}
 use Rattle.vectors.proofs.run_record.Statement.{statement}
 use Rattle.vectors.proofs.run_record.Tie as tie
 
@@ -20,7 +22,7 @@ array-borrow-prefix-words : tie.Need-array-borrow-prefix-words
 array-borrow-prefix-words c = search needs
 
 slice-aggregate-read-numbers : tie.Need-slice-aggregate-read-numbers
-slice-aggregate-read-numbers c = front-lent _ _ (array-borrow-prefix-words (c .before))
+slice-aggregate-read-numbers c = sym (length-take-le _ _ (array-borrow-prefix-words (c .before)))
 
 read-numbers-requires : tie.Need-read-numbers-requires
 read-numbers-requires c κs = omega (arith, slice-aggregate-read-numbers c)
@@ -32,7 +34,7 @@ array-borrow-prefix-pairs : tie.Need-array-borrow-prefix-pairs
 array-borrow-prefix-pairs c = search needs
 
 slice-aggregate-read-numbers-2 : tie.Need-slice-aggregate-read-numbers-2
-slice-aggregate-read-numbers-2 c = front-lent _ _ (array-borrow-prefix-pairs (c .before))
+slice-aggregate-read-numbers-2 c = sym (length-take-le _ _ (array-borrow-prefix-pairs (c .before)))
 
 read-numbers-requires-2 : tie.Need-read-numbers-requires-2
 read-numbers-requires-2 c κs = omega (arith, slice-aggregate-read-numbers-2 c)
@@ -44,7 +46,7 @@ array-borrow-prefix-text : tie.Need-array-borrow-prefix-text
 array-borrow-prefix-text c = search needs
 
 slice-aggregate-read-text : tie.Need-slice-aggregate-read-text
-slice-aggregate-read-text c = front-lent _ _ (array-borrow-prefix-text (c .before))
+slice-aggregate-read-text c = sym (length-take-le _ _ (array-borrow-prefix-text (c .before)))
 
 read-text-requires : tie.Need-read-text-requires
 read-text-requires c κs = search needs
@@ -58,7 +60,7 @@ array-share-prefix-words c =
     back-fits _ (b .read-numbers .last .0) _ (array-borrow-prefix-words (b .before .before)) (b .read-numbers .kept .0)
 
 slice-aggregate-run-call : tie.Need-slice-aggregate-run-call
-slice-aggregate-run-call c = front-lent _ _ (array-share-prefix-words (c .before))
+slice-aggregate-run-call c = sym (length-take-le _ _ (array-share-prefix-words (c .before)))
 
 array-share-prefix-pairs : tie.Need-array-share-prefix-pairs
 array-share-prefix-pairs c =
@@ -66,7 +68,7 @@ array-share-prefix-pairs c =
     back-fits _ (b .read-numbers2 .last .0) _ (array-borrow-prefix-pairs (b .before .before)) (b .read-numbers2 .kept .0)
 
 slice-aggregate-run-call-2 : tie.Need-slice-aggregate-run-call-2
-slice-aggregate-run-call-2 c = front-lent _ _ (array-share-prefix-pairs (c .before))
+slice-aggregate-run-call-2 c = sym (length-take-le _ _ (array-share-prefix-pairs (c .before)))
 
 array-share-prefix-text : tie.Need-array-share-prefix-text
 array-share-prefix-text c =
@@ -74,7 +76,7 @@ array-share-prefix-text c =
     back-fits _ (b .read-text .last .0) _ (array-borrow-prefix-text (b .before .before)) (b .read-text .kept .0)
 
 slice-aggregate-run-call-3 : tie.Need-slice-aggregate-run-call-3
-slice-aggregate-run-call-3 c = front-lent _ _ (array-share-prefix-text (c .before))
+slice-aggregate-run-call-3 c = sym (length-take-le _ _ (array-share-prefix-text (c .before)))
 
 run-call-requires : tie.Need-run-call-requires
 run-call-requires c κs = search needs

@@ -1,5 +1,7 @@
+use lib.Seq.{length-take-le}
+use mathlib.Core.Path.{sym}
 use borrow.Author.Needs.{needs}
-use Rattle.numbers.proofs.Fronts.{front-lent, back-fits}
+use Rattle.numbers.proofs.Fronts.{back-fits}
 use Rattle.vectors.proofs.run_text_call.Statement.{statement}
 use Rattle.vectors.proofs.run_text_call.Tie as tie
 
@@ -7,7 +9,7 @@ array-borrow-prefix-buffer : tie.Need-array-borrow-prefix-buffer
 array-borrow-prefix-buffer c = search needs
 
 slice-aggregate-call-text : tie.Need-slice-aggregate-call-text
-slice-aggregate-call-text c = front-lent _ _ (array-borrow-prefix-buffer (c .before))
+slice-aggregate-call-text c = sym (length-take-le _ _ (array-borrow-prefix-buffer (c .before)))
 
 call-text-requires : tie.Need-call-text-requires
 call-text-requires c κs = search needs
@@ -18,7 +20,7 @@ array-share-prefix-buffer c =
     back-fits _ (b .call-text .last .1 .1 .1 .1 .1 .0) _ (array-borrow-prefix-buffer (b .before .before)) (b .call-text .kept .1 .1 .1 .1 .1 .0)
 
 slice-aggregate-print-text-answer : tie.Need-slice-aggregate-print-text-answer
-slice-aggregate-print-text-answer c = front-lent _ _ (array-share-prefix-buffer (c .before))
+slice-aggregate-print-text-answer c = sym (length-take-le _ _ (array-share-prefix-buffer (c .before)))
 
 print-text-answer-requires : tie.Need-print-text-answer-requires
 print-text-answer-requires c κs = search needs

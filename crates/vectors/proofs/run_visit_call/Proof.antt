@@ -1,5 +1,7 @@
+use lib.Seq.{length-take-le}
+use mathlib.Core.Path.{sym}
 use borrow.Author.Needs.{needs}
-use Rattle.numbers.proofs.Fronts.{front-lent, back-fits}
+use Rattle.numbers.proofs.Fronts.{back-fits}
 use Rattle.vectors.proofs.run_visit_call.Statement.{statement}
 use Rattle.vectors.proofs.run_visit_call.Tie as tie
 
@@ -7,7 +9,7 @@ array-borrow-prefix-buffer : tie.Need-array-borrow-prefix-buffer
 array-borrow-prefix-buffer c = search needs
 
 slice-aggregate-call-visit : tie.Need-slice-aggregate-call-visit
-slice-aggregate-call-visit c = front-lent _ _ (array-borrow-prefix-buffer (c .before))
+slice-aggregate-call-visit c = sym (length-take-le _ _ (array-borrow-prefix-buffer (c .before)))
 
 call-visit-requires : tie.Need-call-visit-requires
 call-visit-requires c κs = search needs
@@ -18,7 +20,7 @@ array-share-prefix-buffer c =
     back-fits _ (b .call-visit .last .1 .1 .1 .1 .0) _ (array-borrow-prefix-buffer (b .before .before)) (b .call-visit .kept .1 .1 .1 .1 .0)
 
 slice-aggregate-print-visit-answer : tie.Need-slice-aggregate-print-visit-answer
-slice-aggregate-print-visit-answer c = front-lent _ _ (array-share-prefix-buffer (c .before))
+slice-aggregate-print-visit-answer c = sym (length-take-le _ _ (array-share-prefix-buffer (c .before)))
 
 print-visit-answer-requires : tie.Need-print-visit-answer-requires
 print-visit-answer-requires c κs = search needs
