@@ -1,6 +1,6 @@
 -- What a text call gives behind the tests, and that an answered length lies within the buffer.
 use Prim.Native.Nat.{ℕ, _≤_}
-use mathlib.Core.Path.{_≡_, ap, sym, _∙_}
+use mathlib.Core.Path.{_≡_, refl, ap, sym, _∙_}
 use mathlib.Core.Bool.{Bool, true, false}
 use mathlib.Core.List.{List, _++_}
 use native.Mathlib.Omega.{arith}
@@ -16,7 +16,7 @@ use Rattle.encoding.specs.Tables.{checkLevel, checkTables}
 use Rattle.encoding.specs.Tested.{Good, checkCall}
 use Rattle.encoding.specs.Filled.{filledBy}
 use Rattle.encoding.proofs.Answers.{call-filled, call-passed, call-refused, map-unless}
-use Rattle.encoding.proofs.Tables.{impossible, tables-passed}
+use Rattle.encoding.proofs.Tables.{impossible, tables-hold}
 use Rattle.text.specs.declared.TextAnswer.{TextAnswer}
 use Rattle.text.specs.declared.TextAnswer.the-variants.{Length, Refused}
 use Rattle.text.specs.Calls.{filled}
@@ -28,7 +28,7 @@ module _ (ws pairs : List ℕ) (text : Bytes) (level : ℕ) {s : Check} (e : s �
   level-tested d = call-passed ws pairs text level (sym e ∙ d) .0
 
   pub tables-tested : s ≡ Passed → Good pairs text × (length ws ≤ 8192)
-  tables-tested d = let t = tables-passed ws pairs text (call-passed ws pairs text level (sym e ∙ d) .1) in (t .good, t .few)
+  tables-tested d = tables-hold ws pairs text refl (call-passed ws pairs text level (sym e ∙ d) .1)
 
   -- the call's answer, where its text is f of x behind the tests
   module _ {A : Type 0} (o : List ℕ) (f : A → Bytes) (x : Answer A) where
