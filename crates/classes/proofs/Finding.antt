@@ -30,8 +30,7 @@ use Rattle.encoding.specs.Types.{pathOf, readTypes, readNode, readType, typeAt}
 use Rattle.encoding.proofs.Head.{the-type}
 use Rattle.encoding.proofs.Tables.{impossible}
 use Rattle.encoding.proofs.Reading.{head-got, head-stop}
-use Rattle.encoding.proofs.Heads.{head-at}
-use Rattle.encoding.proofs.Inside.{head-lies}
+use Rattle.encoding.proofs.Inside.{head-behind, head-lies}
 use Rattle.encoding.proofs.Types.{Made₂, made-got, made₂-got, node-of, types-count}
 use Rattle.encoding.proofs.TypeKinds.{kind, head-kind, node-kind}
 use Rattle.writing.specs.Written.{Readable}
@@ -99,10 +98,7 @@ module _ (b : ℕ) (ws : List ℕ) (at : ℕ) where
   apply-end : {k q : ℕ} → readHead b ws at ≡ got (Apply k) q → q ≡ at + 2
   unfolding headAfter
   apply-end {k} {q} d =
-      let l = head-lies b ws at d in
-      let a = sym (head-at b ws at (omega (arith, l .starts, l .ends))) ∙ d in
-      let w = head-kind b ws (getD ws at 0) (at + 1) (Apply k) q a in
-      let m = made-got (readWord ws (at + 1)) Apply (rw (← w) at a) in
+      let m = made-got (readWord ws (at + 1)) Apply (rw (← head-kind b ws at d) at (head-behind b ws at d)) in
       omega (arith, word-next ws (at + 1) (m .value) (m .reads))
 
 -- ---- the first argument of an application, by the heads

@@ -1,7 +1,7 @@
 -- A path by the words that stand there: equal paths have the same root and as many names.
 use Prim.Native.Nat.{ℕ, suc, _+_, _-_, _≤_, _<_}
 use mathlib.Core.Path.{_≡_, refl, ap, sym, _∙_}
-use mathlib.Core.Bool.{Bool, true, false, Bool·beq}
+use mathlib.Core.Bool.{Bool, true, false}
 use mathlib.Core.List.{List, [], _∷_}
 use native.Mathlib.Omega.{arith}
 use borrow.Author.Tests.{le-leb, lt-leb}
@@ -15,7 +15,7 @@ use Rattle.encoding.specs.Tables.{fixedNames, nameBytes, nameCount}
 use Rattle.encoding.specs.HeadWords.{InsidePath}
 use Rattle.encoding.specs.Types.{rootOf, pathOf}
 use Rattle.encoding.proofs.Tables.{impossible, same-eq, everyBelow, every-at, name-fixed}
-use Rattle.encoding.proofs.Names.{beq-eq}
+use Rattle.encoding.proofs.Names.{every-agree}
 use Rattle.trees.specs.Encode.{rootWord, names}
 use Rattle.trees.proofs.Spans.{root-known, path-names, path-root}
 use Rattle.classes.specs.declared.Class.{Class}
@@ -217,8 +217,7 @@ pub fixed-no-array : (pairs : List ℕ) (text : Bytes) (x : ℕ) → x < 16 → 
 unfolding everyBelow _and_ same fixedNames ascii begins
 fixed-no-array pairs text x h =
     rw (name-fixed pairs text x h)
-    (beq-eq (begins (ascii "Array") (getD fixedNames x [])) false
-    (every-at (λ j. Bool·beq (begins (ascii "Array") (getD fixedNames j [])) false) 16 refl x h))
+    (every-agree (λ j. begins (ascii "Array") (getD fixedNames j [])) (λ j. false) 16 refl x h)
 
 pub begins-short : (d : Bytes) → length d < 5 → begins (ascii "Array") d ≡ false
 unfolding begins ascii _and_

@@ -5,15 +5,15 @@ use mathlib.Core.Bool.{false, not}
 use mathlib.Core.List.{List, [], _∷_}
 use native.Mathlib.Omega.{arith}
 use native.Mathlib.Decide.{ℕ-discrete}
-use lib.Dec.{eqb, leb}
-use borrow.Author.Tests.{ne-eqb, leb-true, not-true, not-false}
+use lib.Dec.{eqb}
+use borrow.Author.Tests.{ne-eqb, not-true, not-false}
 use lib.ListN.{length, getD, take, drop}
-use Rattle.rast.specs.Bytes.{Bytes, ascii, same, _and_}
+use Rattle.rast.specs.Bytes.{Bytes, same, _and_}
 use Rattle.rast.proofs.BytesLaws.{and-false, and-no, and-yes}
 use Rattle.output.specs.Wrote.{Wrote}
 use Rattle.output.proofs.Laws.{wrote-front, part-more}
-use Rattle.encoding.specs.Tables.{fixedNames, nameBytes, nameCount, pairBytes}
-use Rattle.encoding.proofs.Tables.{name-fixed, name-pair, everyBelow, every-at}
+use Rattle.encoding.specs.Tables.{nameBytes, nameCount, pairBytes}
+use Rattle.encoding.proofs.Tables.{name-fixed, name-pair}
 use Rattle.encoding.proofs.Names.{fixed-same}
 use Rattle.comparison.specs.declared.Due.{Due}
 use Rattle.comparison.specs.Runs.{after, agrees, sameRuns}
@@ -37,12 +37,6 @@ same-swap (x ∷ a) (y ∷ b) = rw (eqb-swap x y, same-swap a b) refl
 pub fixed-apart : (pairs text : List ℕ) (x y : ℕ) → x < 16 → y < 16 → (x ≡ y → ⊥) → same (nameBytes pairs text x) (nameBytes pairs text y) ≡ false
 fixed-apart pairs text x y h k d =
     ap (same (nameBytes pairs text x)) (name-fixed pairs text y k) ∙ fixed-same pairs text x y h k ∙ ne-eqb x y d
-
--- no fixed name is longer than 13 bytes
-pub fixed-short : (pairs text : List ℕ) (k : ℕ) → k < 16 → length (nameBytes pairs text k) ≤ 13
-unfolding everyBelow _and_ fixedNames ascii
-fixed-short pairs text k h =
-    rw (name-fixed pairs text k h) (leb-true (length (getD fixedNames k [])) 13 (every-at (λ i. leb (length (getD fixedNames i [])) 13) 16 refl k h))
 
 -- a name that was written to the front stands there
 pub front-name : {o o′ b : List ℕ} {n : ℕ} → length b ≤ length o → Wrote o 0 b o′ n → take (n - 0) (drop 0 o′) ≡ b

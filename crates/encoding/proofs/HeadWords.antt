@@ -9,10 +9,10 @@ use lib.Dec.{ltb, eqb}
 use lib.ListN.{length, getD}
 use Rattle.encoding.specs.declared.Head.{Head}
 use Rattle.encoding.specs.declared.Head.the-variants.{Name, Apply, Tuple, Function, ArrayOf, Meta}
-use Rattle.encoding.specs.Reading.{got, _>>=_, readWord, readBelow, readNames}
+use Rattle.encoding.specs.Reading.{got, _>>=_, readWord, readBelow}
 use Rattle.encoding.specs.Heads.{readPath, pathHead, headAfter, readHead}
 use Rattle.encoding.specs.HeadWords.{kids, HeadHere, typesBelow, ownEnd}
-use Rattle.encoding.proofs.Inside.{Holds, holds-on, holds-pick, There, Next, Names, word-holds, below-holds, names-hold, head-lies}
+use Rattle.encoding.proofs.Inside.{Holds, holds-on, holds-pick, There, Next, word-holds, below-holds, path-by, head-lies, head-begins}
 
 -- ---- what the kind alone says
 
@@ -66,16 +66,13 @@ module _ (b : ℕ) (ws : List ℕ) (at : ℕ) where
 
   -- a path
   path-told : (ownEnd ws at ≡ at + 3 + getD ws (at + 2) 0) → typesBelow ws at ≡ 0 → Holds (Told ws at) (pathHead b ws (at + 1))
-  unfolding pathHead readPath
+  unfolding pathHead
   path-told e k =
       holds-on (λ p n. n ≡ at + 3 + getD ws (at + 2) 0) (Told ws at) (readPath b ws (at + 1)) _ ends
       (λ p n h. record { below = k; end = e ∙ sym h })
     where
       ends : Holds (λ p n. n ≡ at + 3 + getD ws (at + 2) 0) (readPath b ws (at + 1))
-      ends =
-          holds-on (Next 3 ws (at + 1)) (λ p n. n ≡ at + 3 + getD ws (at + 2) 0) (readBelow 3 ws (at + 1)) _ (below-holds 3 ws (at + 1)) λ root p h.
-          holds-on (There ws p) (λ p n. n ≡ at + 3 + getD ws (at + 2) 0) (readWord ws p) _ (word-holds ws p) λ n q k.
-          holds-on (Names b ws n q) (λ p n. n ≡ at + 3 + getD ws (at + 2) 0) (readNames b ws n q) _ (names-hold b ws n q (omega (arith, k .here, k .next))) λ u r m.
+      ends = path-by (λ p n. n ≡ at + 3 + getD ws (at + 2) 0) b ws (at + 1) λ root p n q u r h k m.
           let i : p ≡ at + 2 = omega (arith, h .next) in
           let j : n ≡ getD ws (at + 2) 0 = k .same ∙ ap (λ j. getD ws j 0) i in
           omega (arith, h .next, k .next, m .end)
@@ -118,4 +115,4 @@ pub end-inside : (ws : List ℕ) (at : ℕ) → HeadHere ws at → (at < length 
 end-inside ws at h =
     let l = head-lies (h .bound) ws at (h .reads) in
     let e = words-end (h .bound) ws at (h .reads) in
-    (omega (arith, l .starts, l .ends), omega (arith, e, l .ends))
+    (head-begins (h .bound) ws at (h .reads), omega (arith, e, l .ends))

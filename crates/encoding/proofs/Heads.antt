@@ -28,6 +28,10 @@ pub head-plain : (b : ℕ) (ws : List ℕ) (w p : ℕ) → w < 12 → headAfter 
 unfolding headAfter
 head-plain b ws w p h = rw (lt-ltb w 12 h)
 
+-- a plain type's head at a place
+pub plain-head : (b : ℕ) (ws : List ℕ) (at : ℕ) → at < length ws → getD ws at 0 < 12 → readHead b ws at ≡ got (Plain (getD ws at 0)) (at + 1)
+plain-head b ws at h k = head-at b ws at h ∙ head-plain b ws (getD ws at 0) (at + 1) k
+
 pub head-other : (b : ℕ) (ws : List ℕ) (w p : ℕ) → 24 < w → headAfter b ws w p ≡ stop UnknownWord
 unfolding headAfter
 head-other b ws w p h =

@@ -1,6 +1,6 @@
 -- What holds of a head or a type that was read: where it lies, and that its names are names.
 use Prim.Native.Nat.{ℕ, zero, suc, _+_, _≤_, _<_}
-use mathlib.Core.Path.{_≡_, refl, subst}
+use mathlib.Core.Path.{_≡_, refl, sym, _∙_, subst}
 use mathlib.Core.Bool.{Bool, true, false}
 use mathlib.Core.List.{List}
 use native.Mathlib.Omega.{arith}
@@ -10,11 +10,12 @@ use lib.Dec.{ltb, eqb}
 use lib.ListN.{length, getD}
 use Rattle.encoding.specs.declared.PathAt.{PathAt}
 use Rattle.encoding.specs.declared.Head.{Head}
-use Rattle.encoding.specs.declared.Head.the-variants.{Apply, Tuple, Function}
+use Rattle.encoding.specs.declared.Head.the-variants.{Name, Apply, Tuple, Function, ArrayOf, Meta}
 use Rattle.encoding.specs.Refusals.{pick}
 use Rattle.encoding.specs.Reading.{Reading, got, stop, _>>=_, readWord, readBelow, readNames}
 use Rattle.encoding.specs.Heads.{readPath, pathHead, headAfter, readHead}
 use Rattle.encoding.specs.HeadWords.{InsidePath, InsideHead}
+use Rattle.encoding.proofs.Heads.{head-at}
 
 -- P of what was read, if anything was
 abbrev pub Holds : {A : Type 0} → (A → ℕ → Type 0) → Reading A → Type 0
@@ -94,16 +95,22 @@ pub record Lies {A : Type 0} (P : A → Type 0) (ws : List ℕ) (at : ℕ) (x : 
   pub ends : n ≤ length ws
   pub own : P x
 
-path-holds : (b : ℕ) (ws : List ℕ) (at : ℕ) → Holds (Lies (InsidePath b ws) ws at) (readPath b ws at)
+-- P of a path, from what holds of its root, of its count and of its names
+pub path-by : (P : PathAt → ℕ → Type 0) (b : ℕ) (ws : List ℕ) (at : ℕ)
+    → ((root p n q : ℕ) (u : Unit {0}) (r : ℕ) → Next 3 ws at root p → There ws p n q → Names b ws n q u r → P (record { root = root; start = q; count = n }) r)
+    → Holds P (readPath b ws at)
 unfolding readPath
-path-holds b ws at =
-    holds-on (Next 3 ws at) (Lies (InsidePath b ws) ws at) (readBelow 3 ws at) _ (below-holds 3 ws at) λ root p h.
-    holds-on (There ws p) (Lies (InsidePath b ws) ws at) (readWord ws p) _ (word-holds ws p) λ n q k.
-    holds-on (Names b ws n q) (Lies (InsidePath b ws) ws at) (readNames b ws n q) _ (names-hold b ws n q (omega (arith, k .here, k .next))) λ u r m. record {
-      starts = omega (arith, h .next, k .next, m .end);
-      ends = omega (arith, m .end, m .inside);
-      own = record { root = h .below; inside = m .inside; below = m .below };
-    }
+path-by P b ws at f =
+    holds-on (Next 3 ws at) P (readBelow 3 ws at) _ (below-holds 3 ws at) λ root p h.
+    holds-on (There ws p) P (readWord ws p) _ (word-holds ws p) λ n q k.
+    holds-on (Names b ws n q) P (readNames b ws n q) _ (names-hold b ws n q (omega (arith, k .here, k .next))) λ u r m. f root p n q u r h k m
+
+path-holds : (b : ℕ) (ws : List ℕ) (at : ℕ) → Holds (Lies (InsidePath b ws) ws at) (readPath b ws at)
+path-holds b ws at = path-by (Lies (InsidePath b ws) ws at) b ws at λ root p n q u r h k m. record {
+  starts = omega (arith, h .next, k .next, m .end);
+  ends = omega (arith, m .end, m .inside);
+  own = record { root = h .below; inside = m .inside; below = m .below };
+}
 
 -- what follows the kind lies between the kind's end and the words' end
 abbrev After : ℕ → List ℕ → ℕ → Head → ℕ → Type 0
@@ -115,11 +122,17 @@ count-holds b ws p f k =
     holds-on (There ws p) (After b ws p) (readWord ws p) _ (word-holds ws p)
     (λ n q h. (omega (arith, h .next), omega (arith, h .here, h .next), k n))
 
+-- a word below c, by which the head is known
+bound-holds : (b : ℕ) (ws : List ℕ) (p c : ℕ) (f : ℕ → Head) → ((x : ℕ) → x < c → InsideHead b ws (f x)) → Holds (After b ws p) (readBelow c ws p >>= λ x q. got (f x) q)
+bound-holds b ws p c f k =
+    holds-on (Next c ws p) (After b ws p) (readBelow c ws p) _ (below-holds c ws p)
+    (λ x q h. (omega (arith, h .next), omega (arith, h .here, h .next), k x (h .below)))
+
 after-holds : (b : ℕ) (ws : List ℕ) (w p : ℕ) → p ≤ length ws → Holds (After b ws p) (headAfter b ws w p)
 unfolding headAfter pathHead
 after-holds b ws w p le =
     holds-pick (After b ws p) (ltb w 12) _ _ (λ t. (omega arith, le, ltb-true w 12 t))
-    (holds-pick (After b ws p) (eqb w 12) _ _ (λ t. holds-on (Next b ws p) (After b ws p) (readBelow b ws p) _ (below-holds b ws p) (λ x q h. (omega (arith, h .next), omega (arith, h .here, h .next), h .below)))
+    (holds-pick (After b ws p) (eqb w 12) _ _ (λ t. bound-holds b ws p b Name (λ x h. h))
     (holds-pick (After b ws p) (eqb w 13) _ _ (λ t. holds-on (Lies (InsidePath b ws) ws p) (After b ws p) (readPath b ws p) _ (path-holds b ws p) (λ x q h. (omega (arith, h .starts), h .ends, h .own)))
     (holds-pick (After b ws p) (eqb w 14) _ _ (λ t. count-holds b ws p Apply (λ n. tt))
     (holds-pick (After b ws p) (eqb w 15) _ _ (λ t. (omega arith, le, tt))
@@ -129,9 +142,9 @@ after-holds b ws w p le =
     (holds-pick (After b ws p) (eqb w 19) _ _ (λ t. count-holds b ws p Tuple (λ n. tt))
     (holds-pick (After b ws p) (eqb w 20) _ _ (λ t. count-holds b ws p Function (λ n. tt))
     (holds-pick (After b ws p) (eqb w 21) _ _ (λ t. (omega arith, le, tt))
-    (holds-pick (After b ws p) (eqb w 22) _ _ (λ t. holds-on (Next (b + 1) ws p) (After b ws p) (readBelow (b + 1) ws p) _ (below-holds (b + 1) ws p) (λ x q h. (omega (arith, h .next), omega (arith, h .here, h .next), h .below)))
+    (holds-pick (After b ws p) (eqb w 22) _ _ (λ t. bound-holds b ws p (b + 1) ArrayOf (λ s h. h))
     (holds-pick (After b ws p) (eqb w 23) _ _ (λ t. (omega arith, le, tt))
-    (holds-pick (After b ws p) (eqb w 24) _ _ (λ t. holds-on (Next 4 ws p) (After b ws p) (readBelow 4 ws p) _ (below-holds 4 ws p) (λ x q h. (omega (arith, h .next), omega (arith, h .here, h .next), tt)))
+    (holds-pick (After b ws p) (eqb w 24) _ _ (λ t. bound-holds b ws p 4 Meta (λ x h. tt))
     tt)))))))))))))
 
 head-holds : (b : ℕ) (ws : List ℕ) (at : ℕ) → Holds (Lies (InsideHead b ws) ws at) (readHead b ws at)
@@ -150,16 +163,16 @@ HeadLies b ws = Lies (InsideHead b ws) ws
 pub head-lies : (b : ℕ) (ws : List ℕ) (at : ℕ) {h : Head} {n : ℕ} → readHead b ws at ≡ got h n → HeadLies b ws at h n
 head-lies b ws at e = subst (Holds (HeadLies b ws at)) e (head-holds b ws at)
 
+-- it begins within the words, and what is read behind its kind is the rest of it
+pub head-begins : (b : ℕ) (ws : List ℕ) (at : ℕ) {h : Head} {n : ℕ} → readHead b ws at ≡ got h n → at < length ws
+head-begins b ws at e = let l = head-lies b ws at e in omega (arith, l .starts, l .ends)
+
+pub head-behind : (b : ℕ) (ws : List ℕ) (at : ℕ) {h : Head} {n : ℕ} → readHead b ws at ≡ got h n → headAfter b ws (getD ws at 0) (at + 1) ≡ got h n
+head-behind b ws at e = sym (head-at b ws at (head-begins b ws at e)) ∙ e
+
 pub path-lies : (b : ℕ) (ws : List ℕ) (at : ℕ) {p : PathAt} {n : ℕ} → readPath b ws at ≡ got p n → Lies (InsidePath b ws) ws at p n
 path-lies b ws at e = subst (Holds (Lies (InsidePath b ws) ws at)) e (path-holds b ws at)
 
-path-ends : (b : ℕ) (ws : List ℕ) (at : ℕ) → Holds (λ p n. n ≡ p .start + p .count) (readPath b ws at)
-unfolding readPath
-path-ends b ws at =
-    holds-on (Next 3 ws at) (λ p n. n ≡ p .start + p .count) (readBelow 3 ws at) _ (below-holds 3 ws at) λ root p h.
-    holds-on (There ws p) (λ p n. n ≡ p .start + p .count) (readWord ws p) _ (word-holds ws p) λ n q k.
-    holds-on (Names b ws n q) (λ p n. n ≡ p .start + p .count) (readNames b ws n q) _ (names-hold b ws n q (omega (arith, k .here, k .next))) λ u r m. m .end
-
 -- a path ends with its last name
 pub path-end : (b : ℕ) (ws : List ℕ) (at : ℕ) {p : PathAt} {n : ℕ} → readPath b ws at ≡ got p n → n ≡ p .start + p .count
-path-end b ws at e = subst (Holds (λ p n. n ≡ p .start + p .count)) e (path-ends b ws at)
+path-end b ws at e = subst (Holds (λ p n. n ≡ p .start + p .count)) e (path-by (λ p n. n ≡ p .start + p .count) b ws at λ root p n q u r h k m. m .end)

@@ -12,7 +12,7 @@ use Rattle.rast.specs.Bytes.{Bytes, ascii, same, _and_}
 use Rattle.rast.proofs.BytesLaws.{and-false}
 use Rattle.encoding.specs.Tables.{fixedNames, nameBytes, nameCount}
 use Rattle.encoding.specs.Tested.{Good}
-use Rattle.encoding.proofs.Tables.{impossible, everyBelow, every-at, pair-inside, name-fixed, name-length, name-pair, length-pair}
+use Rattle.encoding.proofs.Tables.{impossible, everyBelow, every-at, every-at-most, pair-inside, name-fixed, name-length, name-pair, length-pair}
 
 -- the part from s to s + n
 pub part-to : (l : Bytes) (s n : ℕ) → take (s + n - s) (drop s l) ≡ take n (drop s l)
@@ -57,17 +57,25 @@ same-end a b i h k = rw (drop-of-length-le a h, drop-of-length-le b k)
 
 -- ---- fixed names
 
-pub beq-eq : (a b : Bool) → Bool·beq a b ≡ true → a ≡ b
+beq-eq : (a b : Bool) → Bool·beq a b ≡ true → a ≡ b
 beq-eq true true e = refl
 beq-eq true false e = impossible (cc)
 beq-eq false true e = impossible (cc)
 beq-eq false false e = refl
+
+-- two tests agree at each number below n
+pub every-agree : (f g : ℕ → Bool) (n : ℕ) → everyBelow (λ i. Bool·beq (f i) (g i)) n ≡ true → (k : ℕ) → k < n → f k ≡ g k
+every-agree f g n e k h = beq-eq (f k) (g k) (every-at (λ i. Bool·beq (f i) (g i)) n e k h)
+
+-- no fixed name has more than 13 bytes
+pub fixed-short : (pairs text : List ℕ) (x : ℕ) → x < 16 → length (nameBytes pairs text x) ≤ 13
+unfolding everyBelow fixedNames ascii _and_
+fixed-short pairs text x h = rw (name-fixed pairs text x h) (every-at-most (λ i. length (getD fixedNames i [])) 13 16 refl x h)
 
 -- no two of the fixed names are the same
 pub fixed-same : (pairs text : Bytes) (x k : ℕ) → x < 16 → k < 16 → same (nameBytes pairs text x) (getD fixedNames k []) ≡ eqb x k
 unfolding everyBelow _and_ same fixedNames ascii
 fixed-same pairs text x k h l =
     rw (name-fixed pairs text x h)
-    (beq-eq (same (getD fixedNames x []) (getD fixedNames k [])) (eqb x k)
-    (every-at (λ j. Bool·beq (same (getD fixedNames x []) (getD fixedNames j [])) (eqb x j)) 16
-    (every-at (λ i. everyBelow (λ j. Bool·beq (same (getD fixedNames i []) (getD fixedNames j [])) (eqb i j)) 16) 16 refl x h) k l))
+    (every-agree (λ j. same (getD fixedNames x []) (getD fixedNames j [])) (eqb x) 16
+    (every-at (λ i. everyBelow (λ j. Bool·beq (same (getD fixedNames i []) (getD fixedNames j [])) (eqb i j)) 16) 16 refl x h) k l)

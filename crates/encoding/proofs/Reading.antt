@@ -48,10 +48,6 @@ pub head-stop : (x : Reading Head) {r : HeadScan} {k : Refusal} → r ≡ headSc
 head-stop (got a m) e d = impossible (cc)
 head-stop (stop k) e d = cc
 
-pub names-got : (x : Reading (Unit {0})) {r : Scan} {n : ℕ} → r ≡ ended x → r ≡ At n → x ≡ got tt n
-names-got (got a m) {r} {n} e d = let q : m ≡ n = cc in ap (got tt) q
-names-got (stop k) e d = impossible (cc)
-
 -- something was read that ends at n
 pub record Read {A : Type 0} (x : Reading A) (n : ℕ) : Type 0 where
   pub value : A

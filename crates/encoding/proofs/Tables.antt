@@ -1,6 +1,6 @@
 -- Laws of the tables: pairs and names.
 use Prim.Native.Nat.{ℕ, zero, suc, _+_, _-_, _*_, _/_, _%_, _≤_, _<_}
-use mathlib.Core.Path.{_≡_, refl}
+use mathlib.Core.Path.{_≡_, refl, sym, _∙_}
 use mathlib.Core.Bool.{Bool, true, false}
 use mathlib.Core.List.{List, [], _∷_}
 use native.Mathlib.Omega.{arith}
@@ -13,6 +13,7 @@ use lib.Seq.{drop-cons}
 use Rattle.rast.specs.Bytes.{Bytes, ascii, same, _and_, _or_}
 use Rattle.rast.proofs.BytesLaws.{and-left, and-right, and-false}
 use Rattle.encoding.specs.declared.Refusal.the-variants.{Overlong, BadPair}
+use Rattle.encoding.specs.declared.Check.{Check}
 use Rattle.encoding.specs.declared.Check.the-variants.{Passed, Failed}
 use Rattle.encoding.specs.Refusals.{pick}
 use Rattle.encoding.specs.Tables.{overlong, checkTables, goodPairs, fixedNames, nameBytes, nameCount, pairBytes}
@@ -48,6 +49,16 @@ every-at f (suc n) e k h = go (ℕ-discrete k n) (every-at f n (and-right (f n) 
     go (yes p) below = rw p (and-left (f n) (everyBelow f n) e)
     go (no p) below = below (omega arith)
 
+-- the same where the test is of numbers that are equal, of a number that is at most m, or of equal bytes
+pub every-equal : (f g : ℕ → ℕ) (n : ℕ) → everyBelow (λ i. eqb (f i) (g i)) n ≡ true → (k : ℕ) → k < n → f k ≡ g k
+every-equal f g n e k h = eqb-true (f k) (g k) (every-at (λ i. eqb (f i) (g i)) n e k h)
+
+pub every-at-most : (f : ℕ → ℕ) (m n : ℕ) → everyBelow (λ i. leb (f i) m) n ≡ true → (k : ℕ) → k < n → f k ≤ m
+every-at-most f m n e k h = leb-true (f k) m (every-at (λ i. leb (f i) m) n e k h)
+
+pub every-same : (f g : ℕ → Bytes) (n : ℕ) → everyBelow (λ i. same (f i) (g i)) n ≡ true → (k : ℕ) → k < n → f k ≡ g k
+every-same f g n e k h = same-eq (f k) (g k) (every-at (λ i. same (f i) (g i)) n e k h)
+
 unfoldable pub starts : List ℕ
 starts = 0 ∷ 48 ∷ 72 ∷ 70 ∷ 12 ∷ 51 ∷ 43 ∷ 54 ∷ 57 ∷ 32 ∷ 16 ∷ 64 ∷ 29 ∷ 0 ∷ 74 ∷ 60 ∷ []
 
@@ -56,23 +67,17 @@ letters = ascii "MaybePlacebosyncdafny_runtimePtrMaybeUninitboxedstdArcBoxmemsel
 
 pub fixed-part : (k : ℕ) → k < 16 → take (length (getD fixedNames k [])) (drop (getD starts k 0) letters) ≡ getD fixedNames k []
 unfolding everyBelow same starts letters fixedNames ascii _and_
-fixed-part k h =
-    same-eq (take (length (getD fixedNames k [])) (drop (getD starts k 0) letters)) (getD fixedNames k [])
-    (every-at (λ i. same (take (length (getD fixedNames i [])) (drop (getD starts i 0) letters)) (getD fixedNames i [])) 16 refl k h)
+fixed-part k h = every-same (λ i. take (length (getD fixedNames i [])) (drop (getD starts i 0) letters)) (λ i. getD fixedNames i []) 16 refl k h
 
 -- the digits are the lengths
 pub fixed-length : (k : ℕ) → k < 16 → digitAt 4738751849383076400 k ≡ length (getD fixedNames k [])
 unfolding everyBelow digitAt fixedNames ascii _and_
-fixed-length k h =
-    eqb-true (digitAt 4738751849383076400 k) (length (getD fixedNames k []))
-    (every-at (λ i. eqb (digitAt 4738751849383076400 i) (length (getD fixedNames i []))) 16 refl k h)
+fixed-length k h = every-equal (digitAt 4738751849383076400) (λ i. length (getD fixedNames i [])) 16 refl k h
 
 -- each fixed name lies within the letters
 pub fixed-inside : (k : ℕ) → k < 16 → getD starts k 0 + length (getD fixedNames k []) ≤ 75
 unfolding everyBelow starts fixedNames ascii _and_
-fixed-inside k h =
-    leb-true (getD starts k 0 + length (getD fixedNames k [])) 75
-    (every-at (λ i. leb (getD starts i 0 + length (getD fixedNames i [])) 75) 16 refl k h)
+fixed-inside k h = every-at-most (λ i. getD starts i 0 + length (getD fixedNames i [])) 75 16 refl k h
 
 -- ---- pairs
 
@@ -179,3 +184,7 @@ tables-passed words pairs text e =
       few = ltb-false 8192 (length words) (p .0);
       pairs-few = ltb-false 1024 (length pairs / 2) (p .1);
     }
+
+-- what a call is asked for, where the code's test of the tables passed
+pub tables-hold : (words pairs : List ℕ) (text : Bytes) {c : Check} → c ≡ checkTables words pairs text → c ≡ Passed → Good pairs text × (length words ≤ 8192)
+tables-hold words pairs text e d = let t = tables-passed words pairs text (sym e ∙ d) in (t .good, t .few)

@@ -2,7 +2,7 @@
 use Prim.Native.Nat.{ℕ, _+_, _*_, _≤_, _<_}
 use mathlib.Core.Path.{_≡_, refl, ap, sym, _∙_, subst}
 use mathlib.Core.Bool.{Bool, true, false}
-use mathlib.Core.List.{List, [], _∷_, _++_, append-assoc}
+use mathlib.Core.List.{List, _∷_, _++_, append-assoc}
 use native.Mathlib.Numerals.{add-one}
 use native.Mathlib.Omega.{arith}
 use lib.ListN.{length, length-append}
@@ -13,9 +13,7 @@ use Rattle.rast.specs.Indent.{IND, indent, SeqToString}
 use Rattle.rast.specs.Declaration.{NamedFields, NamelessFields}
 use Rattle.rast.specs.DeclarationToString.{Visibility·ToString, Formal·ToString, Field·ToString, NamelessField·ToString, separatorText, beginSpace, endSpace, Fields·ToString}
 use Rattle.output.specs.Wrote.{Wrote}
-use Rattle.output.specs.Laid.{clamp, Laid}
 use Rattle.output.proofs.Laws.{wrote-as}
-use Rattle.output.proofs.Passes.{laid-counted}
 use Rattle.doc.proofs.Laying.{indent-length, line-size}
 use Rattle.encoding.specs.Reading.{Reading, got}
 use Rattle.encoding.specs.Scans.{mapReading}
@@ -56,10 +54,7 @@ pub end-size : (level : ℕ) → length (listEnd true level) ≡ 2 + 4 * level
 unfolding listEnd ascii
 end-size level = let n = line-size level in let l = length-append (lineText level) (ascii "}") in omega (arith, n, l)
 
--- ---- bytes that are counted, or have room
-
-pub laid-size : {p q n : ℕ} {b : Bytes} → clamp q ≡ clamp (p + n) → n ≡ length b → Laid false [] p b [] q
-laid-size {p} c e = laid-counted refl (c ∙ ap (λ (m : ℕ). clamp (p + m)) e)
+-- ---- the size of a text, and its room
 
 -- the length of a text, by what is known of what decides it
 pub size-of : {A : Type 0} (f : A → Bytes) {a b : A} {n : ℕ} → a ≡ b → length (f b) ≡ n → n ≡ length (f a)

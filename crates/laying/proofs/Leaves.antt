@@ -4,10 +4,9 @@ use mathlib.Core.Path.{_≡_, refl, ap, sym, _∙_, subst}
 use mathlib.Core.Bool.{Bool, true, false}
 use mathlib.Core.List.{List, []}
 use native.Mathlib.Omega.{arith}
-use borrow.Author.Tests.{eq-eqb, ne-eqb, leb-true}
-use lib.Dec.{leb}
+use borrow.Author.Tests.{eq-eqb, ne-eqb}
 use lib.ListN.{length, getD}
-use Rattle.rast.specs.Bytes.{Bytes, ascii, _and_}
+use Rattle.rast.specs.Bytes.{Bytes, ascii}
 use Rattle.rast.specs.Tree.{U8, Ty, Borrowed}
 use Rattle.rast.specs.ToString.{Primitive·ToString, Type·ToString}
 use Rattle.rast.specs.Indent.{indent}
@@ -15,7 +14,7 @@ use Rattle.rast.specs.Doc.{ToDocstringPrefix}
 use Rattle.rast.specs.DeclarationToString.{Visibility·ToString}
 use Rattle.output.specs.Wrote.{Wrote}
 use Rattle.output.specs.Laid.{clamp, Laid, Fits}
-use Rattle.output.proofs.Passes.{clamp-twice, laid-wrote, laid-counted}
+use Rattle.output.proofs.Passes.{clamp-of, laid-size, laid-wrote}
 use Rattle.encoding.specs.declared.Refusal.{Refusal}
 use Rattle.encoding.specs.declared.Refusal.the-variants.{EndsEarly}
 use Rattle.encoding.specs.declared.Head.the-variants.{Name, Ref}
@@ -24,11 +23,12 @@ use Rattle.encoding.specs.declared.WordScan.the-variants.{Word, NoWord}
 use Rattle.encoding.specs.Reading.{Reading, got, stop, _>>=_, readWord, readBelow}
 use Rattle.encoding.specs.Scans.{wordScan, mapReading}
 use Rattle.encoding.specs.Tables.{fixedNames, nameBytes, nameCount}
+use Rattle.encoding.specs.Tested.{Good}
 use Rattle.encoding.specs.Heads.{headAfter, readHead}
 use Rattle.encoding.specs.Types.{primitives, readNode, readType, typeAt}
 use Rattle.encoding.specs.Declarations.{visibilityOf, readVisibility, readName, readList, readCounted}
-use Rattle.encoding.proofs.Tables.{impossible, everyBelow, every-at, name-fixed}
-use Rattle.encoding.proofs.Heads.{head-at, head-end, head-plain}
+use Rattle.encoding.proofs.Tables.{impossible, name-fixed}
+use Rattle.encoding.proofs.Heads.{head-at, head-end, plain-head}
 use Rattle.encoding.proofs.Types.{node-of}
 use Rattle.encoding.proofs.Inside.{word-there, below-there}
 use Rattle.encoding.proofs.Reading.{word-got, word-stop, word-in, map-got, map-stop}
@@ -41,9 +41,9 @@ use Rattle.writing.specs.Written.{Readable, Room, Written}
 use Rattle.writing.proofs.Accepted.{type-here}
 use Rattle.laying.specs.declared.Place.{Place}
 use Rattle.laying.specs.declared.Place.the-variants.{At, Stopped}
-use Rattle.laying.specs.Passes.{Chain, last, _then_, run, Ready, Came, Went, Counts, came}
+use Rattle.laying.specs.Passes.{Chain, last, _then_, run, Checked, Ready, Came, Went, Counts, came}
 use Rattle.laying.specs.Texts.{visibilityAt, nameAt, typeTextAt, docAt}
-use Rattle.laying.proofs.Passes.{Runs, AlongChain, came-as, came-at, came-bytes, chain-fits, chain-laid, chain-start, counts-bytes, last-came, last-ready, ready-as, ready-bytes, stops-here, went-as, went-last, went-runs, went-then}
+use Rattle.laying.proofs.Passes.{Runs, AlongChain, came-to, came-as, came-at, came-bytes, chain-fits, chain-laid, chain-start, counts-bytes, last-came, last-ready, ready-as, ready-bytes, stops-here, went-as, went-last, went-runs, went-then}
 use Rattle.laying.proofs.Splits.{map-made, text-before, counted-got, counted-none, counted-stop}
 
 -- ---- what a scan says
@@ -54,23 +54,6 @@ scanned-word ws bound at {b} q e d = ap (λ (c : ℕ). readBelow c ws at) (sym q
 
 pub scanned-none : (ws : List ℕ) (bound at : ℕ) {b : ℕ} {r : WordScan} {k : Refusal} → b ≡ bound → r ≡ wordScan (readBelow b ws at) → r ≡ NoWord k → readBelow bound ws at ≡ stop k
 scanned-none ws bound at {b} q e d = ap (λ (c : ℕ). readBelow c ws at) (sym q) ∙ word-stop (readBelow b ws at) e d
-
--- ---- names and docs
-
-module _ (ws pairs : List ℕ) (text : Bytes) (at : ℕ) where
-  pub name-got : {x n : ℕ} → readBelow (nameCount pairs) ws at ≡ got x n → nameAt ws pairs text at ≡ got (nameBytes pairs text x) n
-  unfolding readName
-  name-got e = rw e
-
-  pub name-stop : {k : Refusal} → readBelow (nameCount pairs) ws at ≡ stop k → nameAt ws pairs text at ≡ stop k
-  unfolding readName
-  name-stop e = rw e
-
-  pub doc-got : (level : ℕ) {x n : ℕ} → readBelow (nameCount pairs) ws at ≡ got x n → docAt ws pairs text level at ≡ got (ToDocstringPrefix (nameBytes pairs text x) (indent level)) n
-  doc-got level e = map-got (λ d. ToDocstringPrefix d (indent level)) (name-got e)
-
-  pub doc-stop : (level : ℕ) {k : Refusal} → readBelow (nameCount pairs) ws at ≡ stop k → docAt ws pairs text level at ≡ stop k
-  doc-stop level e = map-stop (λ d. ToDocstringPrefix d (indent level)) (name-stop e)
 
 -- ---- what was accepted is there
 
@@ -95,37 +78,55 @@ below-of b ws at x stops r =
 pub word-of : (ws : List ℕ) (at : ℕ) {o : List ℕ} {p : ℕ} (x : Reading Bytes) → ((k : Refusal) → readWord ws at ≡ stop k → x ≡ stop k) → Ready true o p x → at < length ws
 word-of ws at x stops r = word-there ws at (read-of (readWord ws at) x stops r .reads) .here
 
-module _ (ws pairs : List ℕ) (text : Bytes) (at : ℕ) {o : List ℕ} {p : ℕ} where
-  pub name-there : Ready true o p (nameAt ws pairs text at) → BelowThere (nameCount pairs) ws at
-  name-there r = below-of (nameCount pairs) ws at (nameAt ws pairs text at) (λ k e. name-stop ws pairs text at e) r
+-- ---- texts that are made of one word
 
-  pub doc-there : (level : ℕ) → Ready true o p (docAt ws pairs text level at) → BelowThere (nameCount pairs) ws at
-  doc-there level r = below-of (nameCount pairs) ws at (docAt ws pairs text level at) (λ k e. doc-stop ws pairs text at level e) r
+-- the word is below b
+pub record OneWord (b : ℕ) (ws : List ℕ) (at : ℕ) (x : Reading Bytes) (make : ℕ → Bytes) : Type 0 where
+  pub when-read : {v n : ℕ} → readBelow b ws at ≡ got v n → x ≡ got (make v) n
+  pub when-refused : {k : Refusal} → readBelow b ws at ≡ stop k → x ≡ stop k
 
--- no fixed name has more than 16 bytes
-pub fixed-short : (pairs text : List ℕ) (x : ℕ) → x < 16 → length (nameBytes pairs text x) ≤ 16
-unfolding everyBelow fixedNames ascii _and_
-fixed-short pairs text x h =
-    rw (name-fixed pairs text x h)
-    (leb-true (length (getD fixedNames x [])) 16 (every-at (λ i. leb (length (getD fixedNames i [])) 16) 16 refl x h))
+module _ {b : ℕ} {ws : List ℕ} {at : ℕ} {x : Reading Bytes} {make : ℕ → Bytes} (f : OneWord b ws at x make) where
+  -- what a scan of the word says
+  module _ {c : ℕ} (q : c ≡ b) {s : WordScan} (e : s ≡ wordScan (readBelow c ws at)) {write : Bool} {o : List ℕ} {p : ℕ} where
+    pub scanned-went : {v n : ℕ} {o′ : List ℕ} {p′ : ℕ} → s ≡ Word v n → Laid write o p (make v) o′ p′ → Went write o p x o′ (At n p′)
+    scanned-went d l = came (came-as (sym (f .when-read (scanned-word ws b at q e d))) (came-bytes _ l))
 
--- ---- visibility
+    pub scanned-refused : {k : Refusal} → s ≡ NoWord k → Went write o p x o (Stopped k)
+    scanned-refused d = stops-here (f .when-refused (scanned-none ws b at q e d))
 
-module _ (ws : List ℕ) (at : ℕ) where
-  pub visibility-pub : {v n : ℕ} → readBelow 2 ws at ≡ got v n → v ≡ 0 → visibilityAt ws at ≡ got (ascii "pub ") n
-  unfolding mapReading readVisibility visibilityOf Visibility·ToString
-  visibility-pub {v} e z = rw (e, eq-eqb v 0 z)
+  -- the text was accepted
+  module _ {o : List ℕ} {p : ℕ} (r : Ready true o p x) where
+    pub word-below : BelowThere b ws at
+    word-below = below-of b ws at x (λ k e. f .when-refused e) r
 
-  pub visibility-priv : {v n : ℕ} → readBelow 2 ws at ≡ got v n → (v ≡ 0 → ⊥) → visibilityAt ws at ≡ got [] n
-  unfolding mapReading readVisibility visibilityOf Visibility·ToString ascii
-  visibility-priv {v} e z = rw (e, ne-eqb v 0 z)
+    pub word-fits : Fits true o p (make (getD ws at 0))
+    word-fits = ready-bytes (ready-as (f .when-read (word-below .reads)) r)
 
-  pub visibility-stop : {k : Refusal} → readBelow 2 ws at ≡ stop k → visibilityAt ws at ≡ stop k
-  unfolding mapReading readVisibility
-  visibility-stop e = rw e
+    pub word-came : {o′ : List ℕ} {p′ : ℕ} → Laid true o p (make (getD ws at 0)) o′ p′ → Came true o p x o′ (at + 1) p′
+    word-came l = came-as (sym (f .when-read (word-below .reads))) (came-bytes (at + 1) l)
 
-pub visibility-there : (ws : List ℕ) (at : ℕ) {o : List ℕ} {p : ℕ} → Ready true o p (visibilityAt ws at) → BelowThere 2 ws at
-visibility-there ws at r = below-of 2 ws at (visibilityAt ws at) (λ k e. visibility-stop ws at e) r
+module _ (ws pairs : List ℕ) (text : Bytes) (at : ℕ) where
+  pub name-word : OneWord (nameCount pairs) ws at (nameAt ws pairs text at) (nameBytes pairs text)
+  unfolding readName
+  name-word = record { when-read = λ e. rw e; when-refused = λ e. rw e }
+
+  pub doc-word : (level : ℕ) → OneWord (nameCount pairs) ws at (docAt ws pairs text level at) (λ x. ToDocstringPrefix (nameBytes pairs text x) (indent level))
+  doc-word level = record {
+    when-read = λ e. map-got (λ d. ToDocstringPrefix d (indent level)) (name-word .when-read e);
+    when-refused = λ e. map-stop (λ d. ToDocstringPrefix d (indent level)) (name-word .when-refused e);
+  }
+
+pub visibility-word : (ws : List ℕ) (at : ℕ) → OneWord 2 ws at (visibilityAt ws at) (λ v. Visibility·ToString (visibilityOf v))
+unfolding mapReading readVisibility
+visibility-word ws at = record { when-read = λ e. rw e; when-refused = λ e. rw e }
+
+pub visible : {v : ℕ} → v ≡ 0 → Visibility·ToString (visibilityOf v) ≡ ascii "pub "
+unfolding visibilityOf Visibility·ToString
+visible {v} z = rw (eq-eqb v 0 z)
+
+pub hidden : {v : ℕ} → (v ≡ 0 → ⊥) → Visibility·ToString (visibilityOf v) ≡ []
+unfolding visibilityOf Visibility·ToString ascii
+hidden {v} z = rw (ne-eqb v 0 z)
 
 -- ---- types
 
@@ -146,7 +147,7 @@ module _ {write : Bool} {o : List ℕ} {p : ℕ} (x : Reading (Ty Bytes)) where
       came (record {
         bytes = Type·ToString (s .value);
         reads = map-got Type·ToString (s .reads);
-        laid = laid-counted w (ap clamp c ∙ clamp-twice (p + b) ∙ ap (λ (z : ℕ). clamp (p + z)) (s .size));
+        laid = laid-size w (clamp-of (p + b) c) (s .size);
       })
 
   pub went-refused : {r : Measure} {k : Refusal} → r ≡ measureOf x → r ≡ Refused k → Went write o p (mapReading Type·ToString x) o (Stopped k)
@@ -172,7 +173,7 @@ module _ (deep : ℕ) (ws pairs : List ℕ) (text : Bytes) (at : ℕ) where
 
   pub plain-text : at < length ws → getD ws at 0 < 12 → textWithin (suc deep) ws pairs text at ≡ got (Primitive·ToString (getD primitives (getD ws at 0) U8)) (at + 1)
   unfolding readType readNode mapReading Type·ToString
-  plain-text h k = rw (head-at (nameCount pairs) ws at h, head-plain (nameCount pairs) ws (getD ws at 0) (at + 1) k)
+  plain-text h k = rw (plain-head (nameCount pairs) ws at h k)
 
   pub named-text : at < length ws → getD ws at 0 ≡ 12 → textWithin (suc deep) ws pairs text at ≡ nameAt ws pairs text (at + 1)
   unfolding readType readName headAfter
@@ -181,7 +182,7 @@ module _ (deep : ℕ) (ws pairs : List ℕ) (text : Bytes) (at : ℕ) where
   -- counted by the length of a plain type, or as a name
   pub plain-counts : {p l q : ℕ} → at < length ws → getD ws at 0 < 12 → l ≡ length (Primitive·ToString (getD primitives (getD ws at 0) U8)) → clamp q ≡ clamp (p + l)
       → Came false [] p (textWithin (suc deep) ws pairs text at) [] (at + 1) q
-  plain-counts {p} h k e c = came-as (sym (plain-text h k)) (counts-bytes (c ∙ ap (λ (n : ℕ). clamp (p + n)) e))
+  plain-counts h k e c = came-as (sym (plain-text h k)) (came-bytes (at + 1) (laid-size refl c e))
 
   pub named-counts : {p : ℕ} {r : Place} → at < length ws → getD ws at 0 ≡ 12 → Counts p (nameAt ws pairs text (at + 1)) r → Counts p (textWithin (suc deep) ws pairs text at) r
   named-counts h k w = went-as (sym (named-text h k)) w
@@ -218,35 +219,50 @@ module _ (ws pairs : List ℕ) (text : Bytes) (at : ℕ) (h : at < length ws) (k
 
 -- ---- a type that was accepted, by its first word
 
-module _ (ws pairs : List ℕ) (text : Bytes) (at : ℕ) {o : List ℕ} {p : ℕ} (r : Ready true o p (typeTextAt ws pairs text at)) where
+-- the tables were tested too
+pub record TypeReady (ws pairs : List ℕ) (text : Bytes) (at : ℕ) (o : List ℕ) (p : ℕ) : Type 0 where
+  pub checked : Checked ws pairs text
+  pub ready : Ready true o p (typeTextAt ws pairs text at)
+
+module _ {ws pairs : List ℕ} {text : Bytes} {at : ℕ} {o : List ℕ} {p : ℕ} (a : TypeReady ws pairs text at o p) where
+  -- what the writer of types asks for, and what it gives
+  pub type-asked : Good pairs text × Room o p Type·ToString (typeAt ws pairs text at)
+  type-asked = (a .checked .good, room-type (typeAt ws pairs text at) (a .ready .room refl))
+
+  pub type-came : {o′ : List ℕ} (s : Spot) → Written o p Type·ToString (typeAt ws pairs text at) o′ s → Came true o p (typeTextAt ws pairs text at) o′ (s .next) (s .pos)
+  type-came s w = came-to (went-written (typeAt ws pairs text at) s refl w) refl
+
   pub type-there : at < length ws
-  type-there = type-here ws pairs text at (room-type (typeAt ws pairs text at) (r .room refl) .reads)
+  type-there = type-here ws pairs text at (type-asked .1 .reads)
+
+  pub type-early : at < 8192
+  type-early = omega (arith, type-there, a .checked .few)
 
   module _ (k : getD ws at 0 < 12) where
-    pub plain-room : p + length (Primitive·ToString (getD primitives (getD ws at 0) U8)) ≤ length o
-    plain-room = ready-bytes (ready-as (plain-text 63 ws pairs text at type-there k) r) .room refl
+    pub plain-asked : (getD ws at 0 < 12) × (p + length (Primitive·ToString (getD primitives (getD ws at 0) U8)) ≤ length o)
+    plain-asked = (k, ready-bytes (ready-as (plain-text 63 ws pairs text at type-there k) (a .ready)) .room refl)
 
     pub plain-came : {o′ : List ℕ} {p′ : ℕ} → Wrote o p (Primitive·ToString (getD primitives (getD ws at 0) U8)) o′ p′ → Came true o p (typeTextAt ws pairs text at) o′ (at + 1) p′
     plain-came w = came-as (sym (plain-text 63 ws pairs text at type-there k)) (came-bytes (at + 1) (laid-wrote refl w))
 
   module _ (k : getD ws at 0 ≡ 12) where
-    pub named-ready : Ready true o p (nameAt ws pairs text (at + 1))
-    named-ready = ready-as (named-text 63 ws pairs text at type-there k) r
+    pub named-asked : Checked ws pairs text × Ready true o p (nameAt ws pairs text (at + 1))
+    named-asked = (a .checked, ready-as (named-text 63 ws pairs text at type-there k) (a .ready))
 
     pub named-came : {o′ : List ℕ} {p′ : ℕ} → Came true o p (nameAt ws pairs text (at + 1)) o′ (at + 1 + 1) p′ → Came true o p (typeTextAt ws pairs text at) o′ (at + 2) p′
     named-came c = came-at (let e : at + 1 + 1 ≡ at + 2 = omega arith in e) (came-as (sym (named-text 63 ws pairs text at type-there k)) c)
 
   module _ (k : getD ws at 0 ≡ 15) where
     borrow-chain : AlongChain true o p (typeTextAt ws pairs text at) o p (got (ascii "&") (at + 1) then λ q. last (typeTextAt ws pairs text (at + 1)))
-    borrow-chain = chain-start (borrow-accepted ws pairs text at type-there k r) r
+    borrow-chain = chain-start (borrow-accepted ws pairs text at type-there k (a .ready)) (a .ready)
 
     pub borrow-room : p + 1 ≤ length o
     unfolding ascii
     borrow-room = chain-fits borrow-chain .room refl
 
     module _ {o′ : List ℕ} {p′ : ℕ} (w : Wrote o p (ascii "&") o′ p′) where
-      pub borrow-ready : Ready true o′ p′ (typeTextAt ws pairs text (at + 1))
-      borrow-ready = last-ready (chain-laid borrow-chain (laid-wrote refl w))
+      pub borrow-asked : Checked ws pairs text × Ready true o′ p′ (typeTextAt ws pairs text (at + 1))
+      borrow-asked = (a .checked, last-ready (chain-laid borrow-chain (laid-wrote refl w)))
 
       pub borrow-came : {o″ : List ℕ} {n q : ℕ} → Came true o′ p′ (typeTextAt ws pairs text (at + 1)) o″ n q → Came true o p (typeTextAt ws pairs text at) o″ n q
       borrow-came c = last-came (chain-laid borrow-chain (laid-wrote refl w)) c

@@ -34,6 +34,12 @@ module _ {write : Bool} {o : List ℕ} {p : ℕ} {x : Reading Bytes} {o′ : Lis
   was-stopped (came c) e = impossible (cc)
   was-stopped {k = k} (stopped {k = m} d h) e = let a : m ≡ k = cc in (d ∙ ap stop a, h)
 
+-- a text is refused where another is
+pub stops-as : {write : Bool} {o o′ : List ℕ} {p : ℕ} {x y : Reading Bytes} {r : Place} {k : Refusal} → (x ≡ stop k → y ≡ stop k) → Went write o p x o′ r → r ≡ Stopped k → Went write o p y o′ r
+stops-as {write} {o} {o′} {p} {y = y} h w e =
+    let s = was-stopped w e in
+    subst (λ (z : Place). Went write o p y o′ z) (sym e) (stopped (h (s .0)) (s .1))
+
 -- ---- the same text, said in another way
 
 pub ready-as : {write : Bool} {o : List ℕ} {p : ℕ} {x y : Reading Bytes} → x ≡ y → Ready write o p x → Ready write o p y
@@ -189,9 +195,7 @@ module _ {write : Bool} {o : List ℕ} {p : ℕ} where
       go (stopped e h) = stopped (then-second x k (c .reads) e) (λ d. h d ∙ c .laid .counted d .kept)
 
   pub stops-then : {x : Reading Bytes} {k : ℕ → Chain} {o′ : List ℕ} {r : Place} {e : Refusal} → Went write o p x o′ r → r ≡ Stopped e → WentChain write o p (x then k) o′ r
-  stops-then {x} {k} {o′} {r} {e} w d =
-      let s = was-stopped w d in
-      record { went = subst (λ (z : Place). Went write o p (run (x then k)) o′ z) (sym d) (stopped (then-first x k (s .0)) (s .1)) }
+  stops-then {x} {k} w d = record { went = stops-as (then-first x k) w d }
 
 -- ---- part by part through a chain
 
@@ -278,9 +282,7 @@ module _ {write : Bool} {o : List ℕ} {p : ℕ} {whole : Reading Bytes} {o₁ :
   along-item h = ready-item item separator left at h (a .ready)
 
   pub along-stop : {o₂ : List ℕ} {r : Place} {k : Refusal} → 0 < left → Went write o₁ p₁ (item at) o₂ r → r ≡ Stopped k → Went write o p whole o₂ r
-  along-stop {o₂} {r} h w e =
-      let s = was-stopped w e in
-      a .ends o₂ r (subst (λ (z : Place). Went write o₁ p₁ (listed item separator left at) o₂ z) (sym e) (stopped (listed-stop item separator left at h (s .0)) (s .1)))
+  along-stop {o₂} {r} h w e = a .ends o₂ r (stops-as (listed-stop item separator left at h) w e)
 
   pub along-last : {o₂ : List ℕ} {r : Place} → left ≡ 1 → Went write o₁ p₁ (item at) o₂ r → Went write o p whole o₂ r
   along-last {o₂} {r} e w = a .ends o₂ r (went-as (sym (listed-last item separator left at e)) w)

@@ -12,6 +12,7 @@ use Rattle.rast.specs.Indent.{indent, SeqToString}
 use Rattle.rast.specs.Declaration.{Attribute, TypeParamDecl}
 use Rattle.rast.specs.DeclarationToString.{derivedText, Attribute·ToString, Attribute·ToStringMultiple, constraintsText, TypeParamDecl·ToString, TypeParamDecl·ToStringMultiple}
 use Rattle.output.specs.Laid.{clamp}
+use Rattle.output.proofs.Passes.{laid-size}
 use Rattle.doc.proofs.Laying.{indent-length}
 use Rattle.encoding.specs.declared.Refusal.{Refusal}
 use Rattle.encoding.specs.Reading.{Reading, got, stop, _>>=_, readWord}
@@ -23,7 +24,7 @@ use Rattle.encoding.proofs.Reading.{map-same}
 use Rattle.laying.specs.declared.Place.the-variants.{At}
 use Rattle.laying.specs.Passes.{last, _then_, run, listed, Ready, Came, Went, came, Along}
 use Rattle.laying.specs.Texts.{nameAt}
-use Rattle.laying.proofs.Passes.{Runs, ready-runs, ready-last, ready-next, went-runs, went-then, went-last, went-as, came-nothing, counts-bytes}
+use Rattle.laying.proofs.Passes.{Runs, ready-runs, ready-last, ready-next, went-runs, went-then, went-last, went-as, came-nothing, came-bytes}
 use Rattle.laying.proofs.Leaves.{word-of, CountFirst, counted-first}
 use Rattle.laying.proofs.Splits.{nothing-behind, runs-as, split₂, listed-read, listed-same, around, counted-got, counted-stop, within-same}
 use Rattle.lists.specs.Texts.{someArguments, derivedAt, attributeAt, someAttributes, attributesAt, someConstraints, constraintsAt, parameterAt, someParameters, parametersAt}
@@ -42,9 +43,9 @@ nothing-before n x = go (x n)
 -- the end of an attribute's line, counted
 pub counts-line : (level : ℕ) {p p′ n : ℕ} → clamp p′ ≡ clamp (p + (2 + 4 * level)) → Came false [] p (got (ascii "]" ++ (ascii "\n" ++ indent level)) n) [] n p′
 unfolding ascii
-counts-line level {p} e =
+counts-line level e =
     let s : 2 + 4 * level ≡ length (ascii "]" ++ (ascii "\n" ++ indent level)) = omega (arith, indent-length level) in
-    counts-bytes (e ∙ ap (λ (m : ℕ). clamp (p + m)) s)
+    came-bytes _ (laid-size refl e s)
 
 -- ---- a list with nothing between its items
 

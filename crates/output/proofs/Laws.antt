@@ -1,12 +1,12 @@
 -- Laws of writing, one run of bytes behind the other.
 use Prim.Native.Nat.{ℕ, zero, suc, _+_, _-_, _≤_, _<_}
 use mathlib.Core.Path.{_≡_, refl, ap, sym, _∙_, subst}
-use mathlib.Core.List.{List, [], _∷_, _++_}
+use mathlib.Core.List.{List, [], _∷_, _++_, append-nil}
 use native.Mathlib.Omega.{arith}
 use native.Mathlib.Nat.{add-zero}
 use native.Mathlib.Numerals.{add-one, sub-one}
 use lib.ListN.{length, set, getD, take, drop, length-append, length-take, length-drop}
-use lib.Seq.{sets, length-sets, drop-cons, drop-drop, set-comm, set-set, take-add, take-append-seam}
+use lib.Seq.{sets, sets-eq, length-sets, drop-cons, drop-drop, set-comm, set-set, take-add, take-append-seam}
 use Rattle.output.specs.Wrote.{Wrote}
 
 pub sets-append : (b c o : List ℕ) (p : ℕ) → sets (sets o p b) (p + length b) c ≡ sets o p (b ++ c)
@@ -42,9 +42,7 @@ room-after {whole = whole} {front = front} next rest room w e =
 -- and for what comes last
 pub room-last : {o o′ whole front : List ℕ} {p p′ : ℕ} (next : List ℕ) → p + length whole ≤ length o → Wrote o p front o′ p′
     → whole ≡ front ++ next → p′ + length next ≤ length o′
-room-last {whole = whole} {front = front} next room w e =
-    let l : length whole ≡ length front + length next = ap length e ∙ length-append front next in
-    omega (arith, w .next, wrote-kept w)
+room-last {front = front} next room w e = room-after next [] room w (e ∙ ap (λ (b : List ℕ). front ++ b) (sym (append-nil next)))
 
 -- one more of a part
 pub part-more : (l : List ℕ) (i left : ℕ) → i < length l → 0 < left → take left (drop i l) ≡ getD l i 0 ∷ take (left - 1) (drop (i + 1) l)
@@ -126,14 +124,8 @@ ends-meet l o start half count p h k m =
 
 -- ---- the front of a buffer
 
-sets-cons : (b o : List ℕ) (x p : ℕ) → sets (x ∷ o) (suc p) b ≡ x ∷ sets o p b
-sets-cons [] o x p = refl
-sets-cons (y ∷ b) o x p = sets-cons b (set o p y) x (suc p)
-
 pub sets-front : (b o : List ℕ) → length b ≤ length o → sets o 0 b ≡ b ++ drop (length b) o
-sets-front [] o h = refl
-sets-front (x ∷ b) [] h = absurd (let z : ⊥ = omega arith in z)
-sets-front (x ∷ b) (y ∷ o) h = sets-cons b o x 0 ∙ ap (_∷_ x) (sets-front b o (omega arith))
+sets-front b o h = let z : 0 + length b ≡ length b = omega arith in sets-eq b o 0 (omega arith) ∙ ap (λ (n : ℕ). b ++ drop n o) z
 
 -- what was copied to the front of a buffer is read there
 pub read-back : (l o : List ℕ) (start count : ℕ) → start + count ≤ length l → count ≤ length o

@@ -1,7 +1,7 @@
 -- Laws of a pass that writes bytes, or only counts them.
 use Prim.Native.Nat.{ℕ, zero, suc, _+_, _-_, _^_, _≤_, _<_}
 use mathlib.Core.Path.{_≡_, refl, ap, sym, _∙_, subst}
-use mathlib.Core.Bool.{Bool, true, false}
+use mathlib.Core.Bool.{Bool, true, false, true≢false}
 use mathlib.Core.List.{List, [], _∷_, _++_}
 use native.Mathlib.Omega.{arith}
 use native.Mathlib.Nat.{add-zero, sub-zero}
@@ -11,7 +11,7 @@ use lib.ListN.{length, length-append, set, take, drop}
 use lib.Seq.{sets}
 use Rattle.output.specs.Wrote.{Wrote}
 use Rattle.output.specs.Laid.{at-most, clamp, Laid, Fits, spaces}
-use Rattle.output.proofs.Laws.{wrote-nothing, wrote-then, wrote-kept, ends-meet}
+use Rattle.output.proofs.Laws.{wrote-nothing, wrote-then, room-last, ends-meet}
 
 pub clamp-small : (n : ℕ) → n < 2 ^ 63 → clamp n ≡ n
 unfolding clamp at-most
@@ -73,24 +73,21 @@ module _ {write : Bool} where
 
   -- and what follows it, once the front is laid
   pub fits-behind : {o o′ b : List ℕ} {p p′ : ℕ} (c : List ℕ) → Fits write o p (b ++ c) → Laid write o p b o′ p′ → Fits write o′ p′ c
-  fits-behind {o} {o′} {b} {p} {p′} c f l = record {
-    room = λ e. let n = length-append b c in omega (arith, f .room e, n, l .wrote e .next, wrote-kept (l .wrote e));
-  }
+  fits-behind c f l = record { room = λ e. room-last c (f .room e) (l .wrote e) refl }
 
   pub laid-wrote : {o o′ b : List ℕ} {p p′ : ℕ} → write ≡ true → Wrote o p b o′ p′ → Laid write o p b o′ p′
-  laid-wrote {o} {o′} {b} {p} {p′} e w = record { wrote = λ d. w; counted = λ d. absurd (differ (sym e ∙ d)) }
-    where
-      differ : true ≡ false → ⊥
-      differ e = let z : _≡_ {A = ℕ} 0 1 = cc in omega arith
+  laid-wrote e w = record { wrote = λ d. w; counted = λ d. absurd (true≢false (sym e ∙ d)) }
 
   pub laid-counted : {o b : List ℕ} {p p′ : ℕ} → write ≡ false → clamp p′ ≡ clamp (p + length b) → Laid write o p b o p′
-  laid-counted {o} {b} {p} {p′} e n = record { wrote = λ d. absurd (differ (sym d ∙ e)); counted = λ d. record { kept = refl; next = n } }
-    where
-      differ : true ≡ false → ⊥
-      differ e = let z : _≡_ {A = ℕ} 0 1 = cc in omega arith
+  laid-counted e n = record { wrote = λ d. absurd (true≢false (sym d ∙ e)); counted = λ d. record { kept = refl; next = n } }
 
-pub clamp-twice : (n : ℕ) → clamp (clamp n) ≡ clamp n
-clamp-twice n = go (clamped n)
+  -- the same, by how many bytes they are
+  pub laid-size : {o b : List ℕ} {p p′ n : ℕ} → write ≡ false → clamp p′ ≡ clamp (p + n) → n ≡ length b → Laid write o p b o p′
+  laid-size {p = p} w c e = laid-counted w (c ∙ ap (λ (m : ℕ). clamp (p + m)) e)
+
+-- what was clamped stays as it is
+pub clamp-of : {p : ℕ} (n : ℕ) → p ≡ clamp n → clamp p ≡ clamp n
+clamp-of n e = ap clamp e ∙ go (clamped n)
   where
     go : Clamped n → clamp (clamp n) ≡ clamp n
     go (small h e) = ap clamp e

@@ -19,7 +19,7 @@ use Rattle.encoding.specs.Tables.{nameBytes, nameCount}
 use Rattle.encoding.specs.Heads.{readPath}
 use Rattle.encoding.specs.Types.{readNode, readType, typeAt}
 use Rattle.encoding.specs.Declarations.{structHead, enumHead, synonymHead, useHead, readList, readCounted, readVisibility, readName, readAttribute, readParameter, readFormal, readField, readNamelessField, readFields, readCase, readStruct, readEnum, readTypeSynonym, readUse, declarationAfter}
-use Rattle.encoding.proofs.Heads.{head-at, head-plain}
+use Rattle.encoding.proofs.Heads.{plain-head}
 use Rattle.pieces.specs.Walks.{readEntry, readTwo, twoScan, readAttributes}
 use Rattle.pieces.specs.declared.Two.{Two}
 use Rattle.pieces.specs.Ends.{thenAt, parameterAt, formalAt, fieldAt, namelessAt, fieldEnd, eachFieldEnd, fieldsAt, caseAt, headingEnd, structAt, enumAt, synonymAt, useEnd}
@@ -47,7 +47,7 @@ module _ (ws pairs : List ℕ) (text : Bytes) where
 
   pub type-plain : (p : ℕ) → p < length ws → getD ws p 0 < 12 → ended (typeAt ws pairs text p) ≡ At (p + 1)
   unfolding readType readNode
-  type-plain p h k = rw (head-at (nameCount pairs) ws p h, head-plain (nameCount pairs) ws (getD ws p 0) (p + 1) k)
+  type-plain p h k = rw (plain-head (nameCount pairs) ws p h k)
 
   -- ---- parameters
 

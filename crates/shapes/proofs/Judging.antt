@@ -5,7 +5,7 @@ use mathlib.Core.Bool.{Bool, true, false}
 use mathlib.Core.List.{List}
 use mathlib.Core.Option.{Option, some, none}
 use native.Mathlib.Omega.{arith}
-use borrow.Author.Tests.{eqb-true, eq-eqb, ne-eqb}
+use borrow.Author.Tests.{eq-eqb, ne-eqb}
 use lib.Dec.{eqb, leb, ltb}
 use lib.ListN.{getD}
 use Rattle.rast.specs.Bytes.{Bytes, _and_, _or_}
@@ -14,7 +14,7 @@ use Rattle.rast.specs.DeclarationToString.{Expand}
 use Rattle.encoding.specs.Tables.{nameBytes}
 use Rattle.encoding.specs.Reading.{Reading, got}
 use Rattle.encoding.specs.Types.{sizeOf, typeAt}
-use Rattle.encoding.proofs.Tables.{impossible, everyBelow, every-at}
+use Rattle.encoding.proofs.Tables.{impossible, everyBelow, every-equal}
 use Rattle.encoding.proofs.TypeKinds.{primitiveKind, kind, type-kind}
 use Rattle.trees.specs.Places.{Place, place}
 use Rattle.wrappers.specs.Asked.{Judges, ExpandsAt}
@@ -246,7 +246,7 @@ auto-kind (TMetaData d c o) = auto-kind d
 
 step-plain : (w : ℕ) → w < 12 → nameStep w ≡ 0
 unfolding nameStep everyBelow _and_
-step-plain w h = eqb-true (nameStep w) 0 (every-at (λ i. eqb (nameStep i) 0) 12 refl w h)
+step-plain w h = every-equal nameStep (λ i. 0) 12 refl w h
 
 name-number : (p : PrimitiveTy) → nameKind (primitiveKind p) ≡ isFixedNumber p
 unfolding nameKind isFixedNumber

@@ -1,7 +1,7 @@
 -- Laws of words, of the words that are no names, and of names and sizes.
 use Prim.Native.Nat.{ℕ, zero, suc, _+_, _-_, _%_, _≤_, _<_}
 use mathlib.Core.Path.{_≡_, refl, ap, sym, _∙_, subst}
-use mathlib.Core.Bool.{Bool, true, false, not, Bool·beq}
+use mathlib.Core.Bool.{Bool, true, false, not}
 use mathlib.Core.List.{List, [], _∷_}
 use mathlib.Core.Option.{some}
 use native.Mathlib.Omega.{arith}
@@ -20,8 +20,8 @@ use Rattle.output.proofs.Laws.{part-length}
 use Rattle.soundness.specs.declared.NameCheck.{NameCheck}
 use Rattle.soundness.specs.declared.NameCheck.the-variants.{Fine, Poor, NoName}
 use Rattle.soundness.specs.Judging.{letters, wordStarts, wordLengths, beginsExcluded, WordBytes, Known, unlessJudged, Checked, fine, poor, no-name}
-use Rattle.encoding.proofs.Tables.{impossible, everyBelow, every-at, same-eq, name-fixed}
-use Rattle.encoding.proofs.Names.{beq-eq}
+use Rattle.encoding.proofs.Tables.{impossible, everyBelow, every-at, every-at-most, every-same, same-eq, name-fixed}
+use Rattle.encoding.proofs.Names.{every-agree}
 use Rattle.measure.proofs.PathNames.{part-next, part-none}
 
 pub or-false : (a : Bool) → (a or false) ≡ a
@@ -136,16 +136,12 @@ among-end x l k h = rw (drop-of-length-le l h)
 
 pub excluded-part : (k : ℕ) → k < 17 → take (getD wordLengths k 0) (drop (getD wordStarts k 0) letters) ≡ getD excluded k []
 unfolding everyBelow same wordStarts wordLengths letters excluded ascii _and_
-excluded-part k h =
-    same-eq (take (getD wordLengths k 0) (drop (getD wordStarts k 0) letters)) (getD excluded k [])
-    (every-at (λ i. same (take (getD wordLengths i 0) (drop (getD wordStarts i 0) letters)) (getD excluded i [])) 17 refl k h)
+excluded-part k h = every-same (λ i. take (getD wordLengths i 0) (drop (getD wordStarts i 0) letters)) (λ i. getD excluded i []) 17 refl k h
 
 -- each of these words lies within the letters
 pub excluded-inside : (k : ℕ) → k < 17 → getD wordStarts k 0 + getD wordLengths k 0 ≤ 58
 unfolding everyBelow wordStarts wordLengths _and_
-excluded-inside k h =
-    leb-true (getD wordStarts k 0 + getD wordLengths k 0) 58
-    (every-at (λ i. leb (getD wordStarts i 0 + getD wordLengths i 0) 58) 17 refl k h)
+excluded-inside k h = every-at-most (λ i. getD wordStarts i 0 + getD wordLengths i 0) 58 17 refl k h
 
 pub excluded-length : (k : ℕ) → k < 17 → length (getD excluded k []) ≡ getD wordLengths k 0
 unfolding letters ascii
@@ -177,8 +173,7 @@ pub fixed-sound : (pairs text : List ℕ) (x : ℕ) → x < 16 → soundName (na
 unfolding everyBelow _and_ soundName isWord each isWordByte isWordStart isLetter within among same excluded fixedNames ascii
 fixed-sound pairs text x h =
     rw (name-fixed pairs text x h)
-    (beq-eq (soundName (getD fixedNames x [])) (not (eqb x 0))
-    (every-at (λ i. Bool·beq (soundName (getD fixedNames i [])) (not (eqb i 0))) 16 refl x h))
+    (every-agree (λ i. soundName (getD fixedNames i [])) (λ i. not (eqb i 0)) 16 refl x h)
 
 -- ---- sizes
 
@@ -186,8 +181,7 @@ pub size-fixed : (pairs text : List ℕ) (s : ℕ) → s < 17 → soundSize (siz
 unfolding everyBelow _and_ soundSize sizeOf each isWordByte isWordStart isLetter within fixedNames ascii
 size-fixed pairs text s h =
     rw (name-fixed pairs text (s - 1) (omega arith))
-    (beq-eq (soundSize (sizeOf (λ x. getD fixedNames x []) s)) (not (eqb s 1))
-    (every-at (λ i. Bool·beq (soundSize (sizeOf (λ x. getD fixedNames x []) i)) (not (eqb i 1))) 17 refl s h))
+    (every-agree (λ i. soundSize (sizeOf (λ x. getD fixedNames x []) i)) (λ i. not (eqb i 1)) 17 refl s h)
 
 pub size-named : (name : ℕ → Bytes) (s : ℕ) → 0 < s → sizeOf name s ≡ some (name (s - 1))
 unfolding sizeOf

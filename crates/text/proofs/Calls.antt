@@ -17,7 +17,7 @@ use Rattle.encoding.specs.Tables.{checkLevel, checkTables}
 use Rattle.encoding.specs.Tested.{Good, checkCall}
 use Rattle.encoding.specs.Filled.{filledBy}
 use Rattle.encoding.proofs.Answers.{call-filled, call-passed, call-refused, map-unless}
-use Rattle.encoding.proofs.Tables.{impossible, tables-passed}
+use Rattle.encoding.proofs.Tables.{impossible, tables-hold}
 use Rattle.text.specs.declared.TextAnswer.{TextAnswer}
 use Rattle.text.specs.declared.TextAnswer.the-variants.{Length, Refused}
 use Rattle.text.specs.Calls.{filled}
@@ -29,7 +29,7 @@ module _ (ws pairs : List ℕ) (text : Bytes) (level : ℕ) {s : Check} (e : s �
   level-tested d = call-passed ws pairs text level (sym e ∙ d) .0
 
   pub tables-tested : s ≡ Passed → Good pairs text × (length ws ≤ 8192)
-  tables-tested d = let t = tables-passed ws pairs text (call-passed ws pairs text level (sym e ∙ d) .1) in (t .good, t .few)
+  tables-tested d = tables-hold ws pairs text refl (call-passed ws pairs text level (sym e ∙ d) .1)
 
   -- the call's answer, where its text is f of x behind the tests
   module _ {A : Type 0} (o : List ℕ) (f : A → Bytes) (x : Answer A) where

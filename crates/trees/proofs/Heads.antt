@@ -2,7 +2,6 @@
 use Prim.Native.Nat.{ℕ, _<_}
 use mathlib.Core.Path.{_≡_}
 use mathlib.Core.List.{List}
-use native.Mathlib.Omega.{arith}
 use lib.ListN.{length}
 use Rattle.rast.specs.Tree.{Ty}
 use Rattle.encoding.specs.declared.Head.{Head}
@@ -11,7 +10,7 @@ use Rattle.encoding.specs.Reading.{got}
 use Rattle.encoding.specs.Heads.{readHead}
 use Rattle.encoding.specs.HeadWords.{kids, HeadHere, typesBelow, ownEnd}
 use Rattle.encoding.specs.Types.{readType}
-use Rattle.encoding.proofs.Inside.{head-lies}
+use Rattle.encoding.proofs.Inside.{head-begins}
 use Rattle.encoding.proofs.HeadWords.{words-kids, words-end}
 use Rattle.encoding.proofs.Types.{bind-got, node-parts}
 use Rattle.trees.specs.Numbered.{treeAt}
@@ -29,7 +28,7 @@ module _ (ws pairs : List ℕ) (at : ℕ) {t : Ty ℕ} {n : ℕ} (e : treeAt ws 
   tree-head = let d = bind-got (readHead (nameCount pairs) ws at) _ e in record { head = d .value; own = d .end; reads = d .first }
 
   pub tree-here : at < length ws
-  tree-here = let l = head-lies (nameCount pairs) ws at (tree-head .reads) in omega (arith, l .starts, l .ends)
+  tree-here = head-begins (nameCount pairs) ws at (tree-head .reads)
 
   -- the trees below the head are read like the tree itself
   pub tree-below : {h : Head} {q : ℕ} → readHead (nameCount pairs) ws at ≡ got h q → Below ws (λ x. x) (treeAt ws pairs) h q t n

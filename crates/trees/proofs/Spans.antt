@@ -4,7 +4,7 @@ use mathlib.Core.Path.{_≡_, refl, ap, sym, _∙_, subst}
 use mathlib.Core.Bool.{Bool, true, false}
 use mathlib.Core.List.{List, [], _∷_, _++_, map, append-nil, append-assoc, map-append, map-id}
 use native.Mathlib.Omega.{arith}
-use borrow.Author.Tests.{ltb-true, eqb-true, ne-eqb}
+use borrow.Author.Tests.{ltb-true, ne-eqb}
 use lib.Dec.{ltb, eqb, leb}
 use lib.ListN.{length, getD, take, drop, length-append}
 use Rattle.rast.specs.Bytes.{_and_}
@@ -13,13 +13,12 @@ use Rattle.encoding.specs.declared.PathAt.{PathAt}
 use Rattle.encoding.specs.declared.Head.{Head}
 use Rattle.encoding.specs.declared.Head.the-variants.{Plain, Name, FromPath, Apply, Ref, RefMut, Impl, Dyn, Tuple, Function, Both, ArrayOf, Synonym, Meta}
 use Rattle.encoding.specs.Refusals.{pick}
-use Rattle.encoding.specs.Reading.{Reading, got, _>>=_, readWord, readBelow, readNames}
+use Rattle.encoding.specs.Reading.{Reading, got, _>>=_, readWord, readBelow}
 use Rattle.encoding.specs.Heads.{readPath, pathHead, headAfter, readHead}
 use Rattle.encoding.specs.HeadWords.{headKind, kids}
 use Rattle.encoding.specs.Types.{primitives, rootOf, pathOf, sizeOf, readTypes, readType}
-use Rattle.encoding.proofs.Tables.{impossible, everyBelow, every-at}
-use Rattle.encoding.proofs.Heads.{head-at}
-use Rattle.encoding.proofs.Inside.{Holds, holds-on, holds-pick, There, Next, Names, word-holds, below-holds, names-hold, head-lies}
+use Rattle.encoding.proofs.Tables.{impossible, everyBelow, every-equal}
+use Rattle.encoding.proofs.Inside.{Holds, holds-on, holds-pick, There, Next, word-holds, below-holds, path-by, head-lies, head-begins, head-behind}
 use Rattle.encoding.proofs.TypeKinds.{head-kind}
 use Rattle.encoding.proofs.Types.{bind-got, made₂-got, snoc, types-count, count-snoc}
 use Rattle.trees.specs.Encode.{name, size, tokenWord, primitiveWord, flagsWord, rootWord, names, pathTokens, tokens, tokensAll, encode}
@@ -43,18 +42,14 @@ record PathWords (ws : List ℕ) (p : ℕ) (x : PathAt) (q : ℕ) : Type 0 where
   inside : p + 2 + x .count ≤ length ws
 
 path-there : (b : ℕ) (ws : List ℕ) (p : ℕ) → Holds (PathWords ws p) (readPath b ws p)
-unfolding readPath
-path-there b ws p =
-    holds-on (Next 3 ws p) (PathWords ws p) (readBelow 3 ws p) _ (below-holds 3 ws p) λ root q h.
-    holds-on (There ws q) (PathWords ws p) (readWord ws q) _ (word-holds ws q) λ n r k.
-    holds-on (Names b ws n r) (PathWords ws p) (readNames b ws n r) _ (names-hold b ws n r (omega (arith, k .here, k .next))) λ u s m. record {
-      root = h .same;
-      known = h .below;
-      count = k .same ∙ ap (λ i. getD ws i 0) (h .next);
-      start = omega (arith, h .next, k .next);
-      end = omega (arith, h .next, k .next, m .end);
-      inside = omega (arith, h .next, k .next, m .inside);
-    }
+path-there b ws p = path-by (PathWords ws p) b ws p λ root q n r u s h k m. record {
+  root = h .same;
+  known = h .below;
+  count = k .same ∙ ap (λ i. getD ws i 0) (h .next);
+  start = omega (arith, h .next, k .next);
+  end = omega (arith, h .next, k .next, m .end);
+  inside = omega (arith, h .next, k .next, m .inside);
+}
 
 -- what a head says of the words from p on, which stand behind its kind
 abbrev Own : List ℕ → ℕ → Head → ℕ → Type 0
@@ -102,11 +97,11 @@ after-own b ws w p =
 
 primitive-word : (w : ℕ) → w < 12 → primitiveWord (getD primitives w U8) ≡ w
 unfolding everyBelow _and_ primitives primitiveWord
-primitive-word w h = eqb-true (primitiveWord (getD primitives w U8)) w (every-at (λ i. eqb (primitiveWord (getD primitives i U8)) i) 12 refl w h)
+primitive-word w h = every-equal (λ i. primitiveWord (getD primitives i U8)) (λ i. i) 12 refl w h
 
 flags-word : (x : ℕ) → x < 4 → flagsWord (eqb (x % 2) 1) (leb 2 x) ≡ x
 unfolding everyBelow _and_ flagsWord
-flags-word x h = eqb-true (flagsWord (eqb (x % 2) 1) (leb 2 x)) x (every-at (λ i. eqb (flagsWord (eqb (i % 2) 1) (leb 2 i)) i) 4 refl x h)
+flags-word x h = every-equal (λ i. flagsWord (eqb (i % 2) 1) (leb 2 i)) (λ i. i) 4 refl x h
 
 size-word : (s : ℕ) → tokenWord (size (sizeOf (λ x. x) s)) ≡ s
 unfolding sizeOf tokenWord
@@ -115,7 +110,7 @@ size-word (suc s) = let z : suc s - 1 ≡ s = omega arith in rw (ne-eqb (suc s) 
 
 pub root-known : (N : Type 0) (r : ℕ) → r < 3 → rootWord {N = N} (rootOf r) ≡ r
 unfolding everyBelow _and_ rootWord rootOf
-root-known N r h = eqb-true (rootWord {N = N} (rootOf r)) r (every-at (λ i. eqb (rootWord {N = N} (rootOf i)) i) 3 refl r h)
+root-known N r h = every-equal (λ i. rootWord {N = N} (rootOf i)) (λ i. i) 3 refl r h
 
 root-nameless : {N : Type 0} (r : ℕ) → names {N = N} (rootOf r) ≡ []
 unfolding rootOf names
@@ -261,11 +256,9 @@ type-stands b ws (suc deep) p t n l e =
     let f = readType b ws (λ x. x) deep in
     let d = bind-got (readHead b ws p) _ e in
     let k = head-lies b ws p (d .first) in
-    let here : p < length ws = omega (arith, k .starts, k .ends) in
-    let a : headAfter b ws (getD ws p 0) (p + 1) ≡ got (d .value) (d .end) = sym (head-at b ws p here) ∙ d .first in
     let m = node-below ws (λ x. x) f (d .value) (d .end) (d .rest) in
-    let s = own-spells ws p (d .value) (d .end) here (head-kind b ws (getD ws p 0) (p + 1) (d .value) (d .end) a)
-    (subst (Holds (Own ws (p + 1))) a (after-own b ws (getD ws p 0) (p + 1))) (m .node) (types-count f (kids (d .value)) (d .end) (m .reads)) in
+    let s = own-spells ws p (d .value) (d .end) (head-begins b ws p (d .first)) (head-kind b ws p (d .first))
+    (subst (Holds (Own ws (p + 1))) (head-behind b ws p (d .first)) (after-own b ws (getD ws p 0) (p + 1))) (m .node) (types-count f (kids (d .value)) (d .end) (m .reads)) in
     let c = types-stand ws f (type-stands b ws deep) (kids (d .value)) (d .end) (m .types) n (k .ends) (m .reads) in
     (rw (s .spells) (run-join (s .own) (encodeAll (m .types)) (s .run) (s .end) (c .0)), omega (arith, s .end, c .1, ap length (s .spells), length-append (s .own) (encodeAll (m .types))))
 
@@ -273,10 +266,7 @@ type-stands b ws (suc deep) p t n l e =
 pub node-spells : (b : ℕ) (ws : List ℕ) (at : ℕ) {h : Head} {q : ℕ} {ts : Tys ℕ} {t : Ty ℕ} → readHead b ws at ≡ got h q → Node ws (λ x. x) h ts t → count ts ≡ kids h
     → encode t ≡ take (q - at) (drop at ws) ++ encodeAll ts
 node-spells b ws at {h} {q} {ts} {t} e k c =
-    let l = head-lies b ws at e in
-    let here : at < length ws = omega (arith, l .starts, l .ends) in
-    let a : headAfter b ws (getD ws at 0) (at + 1) ≡ got h q = sym (head-at b ws at here) ∙ e in
-    let s = own-spells ws at h q here (head-kind b ws (getD ws at 0) (at + 1) h q a) (subst (Holds (Own ws (at + 1))) a (after-own b ws (getD ws at 0) (at + 1))) k c in
+    let s = own-spells ws at h q (head-begins b ws at e) (head-kind b ws at e) (subst (Holds (Own ws (at + 1))) (head-behind b ws at e) (after-own b ws (getD ws at 0) (at + 1))) k c in
     let z : q - at ≡ length (s .own) = omega (arith, s .end) in
     let y : take (q - at) (drop at ws) ≡ s .own = rw z (s .run .words) in
     s .spells ∙ ap (λ l. l ++ encodeAll ts) (sym y)

@@ -16,8 +16,8 @@ use Rattle.encoding.specs.Heads.{readPath, pathHead, headAfter, readHead}
 use Rattle.encoding.specs.HeadWords.{InsidePath}
 use Rattle.encoding.specs.Types.{primitives, pathOf, readNode, readType, typeAt}
 use Rattle.encoding.proofs.Tables.{impossible}
-use Rattle.encoding.proofs.Heads.{head-at, head-plain, head-other, past-six}
-use Rattle.encoding.proofs.Inside.{word-there, below-there, head-lies, path-lies, path-end}
+use Rattle.encoding.proofs.Heads.{head-plain, head-other, past-six}
+use Rattle.encoding.proofs.Inside.{word-there, below-there, head-begins, head-behind, path-lies, path-end}
 use Rattle.encoding.proofs.Types.{bind-got, node-of, type-lies}
 use Rattle.writing.specs.Written.{nodeAt}
 
@@ -36,14 +36,12 @@ module _ (ws pairs : List ℕ) (text : Bytes) (at : ℕ) {t : Ty Bytes} {n : ℕ
   unfolding readType
   headed =
       let d = bind-got (readHead (nameCount pairs) ws at) _ e in
-      let l = head-lies (nameCount pairs) ws at (d .first) in
-      let here : at < length ws = omega (arith, l .starts, l .ends) in
       record {
         head = d .value;
         own = d .end;
-        reads = sym (head-at (nameCount pairs) ws at here) ∙ d .first;
+        reads = head-behind (nameCount pairs) ws at (d .first);
         node = node-of ws pairs text at e (d .first);
-        here = here;
+        here = head-begins (nameCount pairs) ws at (d .first);
       }
 
   pub type-here : at < length ws

@@ -1,7 +1,5 @@
-use Prim.Native.Nat.{_+_}
-use mathlib.Core.Path.{refl, _∙_}
-use lib.ListN.{getD}
-use Rattle.encoding.proofs.Heads.{head-at, head-end, head-plain}
+use mathlib.Core.Path.{refl}
+use Rattle.encoding.proofs.Heads.{head-at, head-end, plain-head}
 use Rattle.acceptance.specs.Walks.{leaf, none}
 use Rattle.acceptance.proofs.Scans.{scanned-as}
 use borrow.Author.Needs.{needs}
@@ -25,7 +23,7 @@ add-t10 c = search needs
 returns-2 : tie.Need-returns-2
 returns-2 c =
     let a = c .before .before .before .before .args in
-    leaf (head-at (a .bound) (a .words .now) (a .at) (c .before .before .if1 .left) ∙ head-plain (a .bound) (a .words .now) (getD (a .words .now) (a .at) 0) (a .at + 1) (c .if2 .taken)) refl
+    leaf (plain-head (a .bound) (a .words .now) (a .at) (c .before .before .if1 .left) (c .if2 .taken)) refl
 
 add-own-after : tie.Need-add-own-after
 add-own-after c = search needs

@@ -1,5 +1,5 @@
-use Rattle.comparison.proofs.Steps.{fixed-short, front-name}
-use Rattle.encoding.proofs.Names.{same-apart}
+use Rattle.comparison.proofs.Steps.{front-name}
+use Rattle.encoding.proofs.Names.{fixed-short, same-apart}
 use Rattle.encoding.proofs.Tables.{name-length}
 use Rattle.encoding.specs.Tables.{nameBytes}
 use Rattle.rast.specs.Bytes.{same}

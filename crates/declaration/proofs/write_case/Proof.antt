@@ -1,13 +1,14 @@
-use Prim.Native.Nat.{_+_}
+use Prim.Native.Nat.{_+_, _<_}
 use mathlib.Core.Bool.{true}
-use mathlib.Core.Path.{_≡_, refl, sym}
+use mathlib.Core.Path.{_≡_, refl}
 use native.Mathlib.Omega.{arith}
+use lib.ListN.{length}
 use Rattle.output.proofs.Passes.{laid-wrote}
-use Rattle.encoding.specs.Tables.{nameCount}
+use Rattle.encoding.specs.Tables.{nameBytes, nameCount}
 use Rattle.declaration.proofs.Declarations.{case-runs}
 use Rattle.declaration.specs.Texts.{caseAt, fieldsAt}
-use Rattle.laying.proofs.Leaves.{BelowThere, doc-there, name-got, name-there}
-use Rattle.laying.proofs.Passes.{AlongChain, came-as, came-at, came-bytes, chain-next, chain-ready, chain-start, last-came, last-ready, ready-as, ready-bytes}
+use Rattle.laying.proofs.Leaves.{BelowThere, OneWord, doc-word, name-word, word-below, word-came, word-fits}
+use Rattle.laying.proofs.Passes.{AlongChain, came-at, chain-next, chain-ready, chain-start, last-came, last-ready}
 use Rattle.laying.specs.Passes.{_then_, last}
 use Rattle.laying.specs.Texts.{docAt, nameAt}
 use borrow.Author.Needs.{needs}
@@ -23,19 +24,28 @@ name : (c : tie.After-write-doc) →
     AlongChain true (start .args .out .now) (start .args .pos) (caseAt (start .args .words .now) (start .args .pairs .now) (start .args .text .now) (start .args .level) (start .args .at)) (c .write-doc .last .1 .1 .1 .1 .1 .0) (c .write-doc .result) (nameAt (start .args .words .now) (start .args .pairs .now) (start .args .text .now) (start .args .at + 1) then λ q. last (fieldsAt (start .args .words .now) (start .args .pairs .now) (start .args .text .now) true (start .args .level) q))
 name c = chain-next (whole (c .before .before .before .before .before .before)) (c .write-doc .ensures)
 
+here : (c : tie.Start) → c .args .at < length (c .args .words .now)
+here c = word-below (doc-word (c .args .words .now) (c .args .pairs .now) (c .args .text .now) (c .args .at) (c .args .level)) (chain-ready (whole c)) .here
+
+-- the name's word
+word : (c : tie.Start) →
+    let a = c .args in
+    OneWord (nameCount (a .pairs .now)) (a .words .now) (a .at + 1) (nameAt (a .words .now) (a .pairs .now) (a .text .now) (a .at + 1)) (nameBytes (a .pairs .now) (a .text .now))
+word c = name-word (c .args .words .now) (c .args .pairs .now) (c .args .text .now) (c .args .at + 1)
+
 there : (c : tie.After-write-doc) →
     let start = c .before .before .before .before .before .before in
     BelowThere (nameCount (start .args .pairs .now)) (start .args .words .now) (start .args .at + 1)
-there c =
-    let start = c .before .before .before .before .before .before in
-    name-there (start .args .words .now) (start .args .pairs .now) (start .args .text .now) (start .args .at + 1) (chain-ready (name (c)))
+there c = word-below (word (c .before .before .before .before .before .before)) (chain-ready (name c))
 
 fields : (c : tie.After-put-name) →
     let start = c .before .before .before .before .before .before .before .before .before .before .before in
     AlongChain true (start .args .out .now) (start .args .pos) (caseAt (start .args .words .now) (start .args .pairs .now) (start .args .text .now) (start .args .level) (start .args .at)) (c .put-name .last .1 .1 .1 .0) (c .put-name .result) (last (fieldsAt (start .args .words .now) (start .args .pairs .now) (start .args .text .now) true (start .args .level) (start .args .at + 2)))
 fields c =
     let start = c .before .before .before .before .before .before .before .before .before .before .before in
-    let e : start .args .at + 1 + 1 ≡ start .args .at + 2 = omega arith in chain-next (name (c .before .before .before .before .before)) (came-at e (came-as (sym (name-got (start .args .words .now) (start .args .pairs .now) (start .args .text .now) (start .args .at + 1) (there (c .before .before .before .before .before) .reads))) (came-bytes _ (laid-wrote refl (c .put-name .ensures)))))
+    let e : start .args .at + 1 + 1 ≡ start .args .at + 2 = omega arith in
+    let n = name (c .before .before .before .before .before) in
+    chain-next n (came-at e (word-came (word start) (chain-ready n) (laid-wrote refl (c .put-name .ensures))))
 
 write-doc-requires : tie.Need-write-doc-requires
 write-doc-requires c κs =
@@ -45,7 +55,7 @@ write-doc-requires c κs =
 add-put-name : tie.Need-add-put-name
 add-put-name c =
     let start = c .before .before .before .before .before .before .before .before in
-    let t = doc-there (start .args .words .now) (start .args .pairs .now) (start .args .text .now) (start .args .at) (start .args .level) (chain-ready (whole start)) in omega (arith, t .here, start .pre .0 .few)
+    omega (arith, here start, start .pre .0 .few)
 
 mul-put-name : tie.Need-mul-put-name
 mul-put-name c = let t = there (c .before .before) in omega (arith, t .here, c .before .before .before .before .before .before .before .before .pre .0 .few)
@@ -56,12 +66,12 @@ shared-slice-read-put-name c = there (c .before .before .before) .here
 put-name-requires : tie.Need-put-name-requires
 put-name-requires c κs =
     let start = c .before .before .before .before .before .before .before .before .before .before in
-    let t = there (c .before .before .before .before) in (t .below, start .pre .0 .good, ready-bytes (ready-as (name-got (start .args .words .now) (start .args .pairs .now) (start .args .text .now) (start .args .at + 1) (t .reads)) (chain-ready (name (c .before .before .before .before)))) .room refl)
+    (there (c .before .before .before .before) .below, start .pre .0 .good, word-fits (word start) (chain-ready (name (c .before .before .before .before))) .room refl)
 
 add-write-case-fields : tie.Need-add-write-case-fields
 add-write-case-fields c =
     let start = c .before .before .before .before .before .before .before .before .before .before .before .before .before in
-    let t = doc-there (start .args .words .now) (start .args .pairs .now) (start .args .text .now) (start .args .at) (start .args .level) (chain-ready (whole start)) in omega (arith, t .here, start .pre .0 .few)
+    omega (arith, here start, start .pre .0 .few)
 
 write-case-fields-requires : tie.Need-write-case-fields-requires
 write-case-fields-requires c κs =

@@ -1,8 +1,6 @@
-use Prim.Native.Nat.{_+_, ℕ}
 use Rattle.doc.proofs.Laying.{line-size}
-use Rattle.output.proofs.Passes.{laid-counted, laid-wrote}
-use Rattle.output.specs.Laid.{clamp}
-use mathlib.Core.Path.{_∙_, ap, sym}
+use Rattle.output.proofs.Passes.{laid-size, laid-wrote}
+use mathlib.Core.Path.{sym}
 use borrow.Author.Needs.{needs}
 use Rattle.doc.proofs.lay_line.Statement.{statement}
 use Rattle.doc.proofs.lay_line.Tie as tie
@@ -26,9 +24,7 @@ count-few-requires : tie.Need-count-few-requires
 count-few-requires c κs = search needs
 
 returns-2 : tie.Need-returns-2
-returns-2 c =
-    let a = c .before .before .before .args in
-    laid-counted (c .before .if1 .left) (c .count-few .ensures ∙ ap (λ (n : ℕ). clamp (a .pos + n)) (sym (line-size (a .level))))
+returns-2 c = laid-size (c .before .if1 .left) (c .count-few .ensures) (sym (line-size (c .before .before .before .args .level)))
 
 pub lay-line-spec : {M : Type 1} → statement M
 lay-line-spec =

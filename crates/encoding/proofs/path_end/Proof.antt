@@ -1,27 +1,32 @@
-use Prim.Native.Nat.{_+_}
+use Prim.Native.Nat.{_+_, _≤_, _<_}
+use lib.ListN.{length}
+use Rattle.encoding.specs.HeadWords.{ownEnd}
 use Rattle.encoding.proofs.HeadWords.{end-inside}
 use native.Mathlib.Omega.{arith}
 use borrow.Author.Needs.{needs}
 use Rattle.encoding.proofs.path_end.Statement.{statement}
 use Rattle.encoding.proofs.path_end.Tie as tie
 
+inside : (c : tie.Start) → (c .args .at < length (c .args .words .now)) × (ownEnd (c .args .words .now) (c .args .at) ≤ length (c .args .words .now))
+inside c = end-inside (c .args .words .now) (c .args .at) (c .pre .0)
+
 add-result : tie.Need-add-result
-add-result c = omega (arith, end-inside (c .args .words .now) (c .args .at) (c .pre .0) .0)
+add-result c = omega (arith, inside c .0)
 
 add-result-2 : tie.Need-add-result-2
-add-result-2 c = omega (arith, end-inside (c .args .words .now) (c .args .at) (c .pre .0) .0)
+add-result-2 c = omega (arith, inside c .0)
 
 mul-result : tie.Need-mul-result
-mul-result c = omega (arith, c .pre .1, end-inside (c .args .words .now) (c .args .at) (c .pre .0) .1)
+mul-result c = omega (arith, c .pre .1, inside c .1)
 
 shared-slice-read-result : tie.Need-shared-slice-read-result
-shared-slice-read-result c = omega (arith, c .before .pre .1, end-inside (c .before .args .words .now) (c .before .args .at) (c .before .pre .0) .1)
+shared-slice-read-result c = omega (arith, c .before .pre .1, inside (c .before) .1)
 
 cast-result : tie.Need-cast-result
 cast-result c = omega (arith, c .shared-slice-known .given (c .before .args .at + 2))
 
 add-result-3 : tie.Need-add-result-3
-add-result-3 c = omega (arith, c .before .pre .1, end-inside (c .before .args .words .now) (c .before .args .at) (c .before .pre .0) .1)
+add-result-3 c = omega (arith, c .before .pre .1, inside (c .before) .1)
 
 returns : tie.Need-returns
 returns c = search needs

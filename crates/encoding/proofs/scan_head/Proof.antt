@@ -1,6 +1,4 @@
-use Prim.Native.Nat.{_+_}
-use lib.ListN.{getD}
-use Rattle.encoding.proofs.Heads.{head-at, head-end, head-plain}
+use Rattle.encoding.proofs.Heads.{head-at, head-end, plain-head}
 use borrow.Author.Needs.{needs}
 use Rattle.encoding.proofs.scan_head.Statement.{statement}
 use Rattle.encoding.proofs.scan_head.Tie as tie
@@ -20,7 +18,7 @@ add-t11 c = search needs
 returns-2 : tie.Need-returns-2
 returns-2 c =
     let a = c .before .before .before .before .args in
-    rw (head-at (a .bound) (a .words .now) (a .at) (c .before .before .if1 .left), head-plain (a .bound) (a .words .now) (getD (a .words .now) (a .at) 0) (a .at + 1) (c .if2 .taken))
+    rw (plain-head (a .bound) (a .words .now) (a .at) (c .before .before .if1 .left) (c .if2 .taken))
 
 add-scan-after : tie.Need-add-scan-after
 add-scan-after c = search needs

@@ -1,9 +1,25 @@
-use Rattle.encoding.specs.Reading.{readBelow, readWord, readNames}
+use mathlib.Core.Path.{_≡_}
+use Rattle.encoding.specs.Reading.{got, readBelow, readWord, readNames}
 use Rattle.encoding.specs.Heads.{readPath}
-use Rattle.encoding.proofs.Reading.{word-got, word-stop, names-got, scan-stop}
+use Rattle.encoding.proofs.Reading.{word-got, word-stop, scan-got, scan-stop}
 use borrow.Author.Needs.{needs}
 use Rattle.encoding.proofs.scan_path.Statement.{statement}
 use Rattle.encoding.proofs.scan_path.Tie as tie
+
+-- the root, and the count
+root : (c : tie.After-root) →
+    let a = c .before .before .before .before .args in
+    readBelow 3 (a .words .now) (a .at) ≡ got (c .root .given .0 .0) (c .root .given .0 .1 .0)
+root c =
+    let a = c .before .before .before .before .args in
+    word-got (readBelow 3 (a .words .now) (a .at)) (c .before .before .scan-below .ensures) (c .root .given .1)
+
+count : (c : tie.After-count) →
+    let a = c .before .before .before .before .before .before .before .before .args in
+    readWord (a .words .now) (c .before .before .before .before .root .given .0 .1 .0) ≡ got (c .count .given .0 .0) (c .count .given .0 .1 .0)
+count c =
+    let a = c .before .before .before .before .before .before .before .before .args in
+    word-got (readWord (a .words .now) _) (c .before .before .scan-word .ensures) (c .count .given .1)
 
 scan-below-requires : tie.Need-scan-below-requires
 scan-below-requires c κs = search needs
@@ -36,27 +52,22 @@ returns : tie.Need-returns
 unfolding readPath
 returns c =
     let a = c .before .before .before .before .before .before .before .before .before .before .before .before .before .args in
-    let e = word-got (readBelow 3 (a .words .now) (a .at)) (c .before .before .before .before .before .before .before .before .before .before .before .scan-below .ensures) (c .before .before .before .before .before .before .before .before .before .root .given .1) in
-    let d = word-got (readWord (a .words .now) _) (c .before .before .before .before .before .before .before .scan-word .ensures) (c .before .before .before .before .before .count .given .1) in
-    let f = names-got (readNames (a .bound) (a .words .now) _ _) (c .before .before .before .scan-names .ensures) (c .before .next .given .1) in
-    rw (e, d, f)
+    let f = scan-got (readNames (a .bound) (a .words .now) _ _) (c .before .before .before .scan-names .ensures) (c .before .next .given .1) .reads in
+    rw (root (c .before .before .before .before .before .before .before .before .before), count (c .before .before .before .before .before), f)
 
 returns-2 : tie.Need-returns-2
 unfolding readPath
 returns-2 c =
     let a = c .before .before .before .before .before .before .before .before .before .before .before .before .before .args in
-    let e = word-got (readBelow 3 (a .words .now) (a .at)) (c .before .before .before .before .before .before .before .before .before .before .before .scan-below .ensures) (c .before .before .before .before .before .before .before .before .before .root .given .1) in
-    let d = word-got (readWord (a .words .now) _) (c .before .before .before .before .before .before .before .scan-word .ensures) (c .before .before .before .before .before .count .given .1) in
     let f = scan-stop (readNames (a .bound) (a .words .now) _ _) (c .before .before .before .scan-names .ensures) (c .before .r .given .1) in
-    rw (e, d, f)
+    rw (root (c .before .before .before .before .before .before .before .before .before), count (c .before .before .before .before .before), f)
 
 returns-3 : tie.Need-returns-3
 unfolding readPath
 returns-3 c =
     let a = c .before .before .before .before .before .before .before .before .before .args in
-    let e = word-got (readBelow 3 (a .words .now) (a .at)) (c .before .before .before .before .before .before .before .scan-below .ensures) (c .before .before .before .before .before .root .given .1) in
     let d = word-stop (readWord (a .words .now) _) (c .before .before .before .scan-word .ensures) (c .before .r2 .given .1) in
-    rw (e, d)
+    rw (root (c .before .before .before .before .before), d)
 
 returns-4 : tie.Need-returns-4
 unfolding readPath

@@ -1,7 +1,9 @@
 use mathlib.Core.Bool.{false}
 use mathlib.Core.List.{[]}
+use mathlib.Core.Path.{refl}
 use native.Mathlib.Omega.{arith}
-use Rattle.fields.proofs.Fields.{entry-as, laid-size}
+use Rattle.output.proofs.Passes.{laid-size}
+use Rattle.fields.proofs.Fields.{entry-as}
 use Rattle.fields.specs.Texts.{entryAt, entryGap}
 use Rattle.laying.proofs.Passes.{Turn, came-to, ready-count, turn-last, turn-next, turn-start, turn-stop, went-as}
 use Rattle.laying.specs.Passes.{Went, came}
@@ -57,7 +59,7 @@ loop-less : tie.Need-loop-less Inv-loop μ-loop
 loop-less c = search needs
 
 loop-again : tie.Need-loop-again Inv-loop μ-loop
-loop-again c = turn-next (c .before .before .before .before .before .before .before .loop .inv) (came-to (field (c .before .before .before .before .before .before)) (c .before .before .before .before .one .given .1)) (c .before .before .if1 .left) (laid-size (c .count-few .ensures) (c .before .gap-length .ensures .0))
+loop-again c = turn-next (c .before .before .before .before .before .before .before .loop .inv) (came-to (field (c .before .before .before .before .before .before)) (c .before .before .before .before .one .given .1)) (c .before .before .if1 .left) (laid-size refl (c .count-few .ensures) (c .before .gap-length .ensures .0))
 
 pub count-entries-spec : {M : Type 1} → statement M
 count-entries-spec =

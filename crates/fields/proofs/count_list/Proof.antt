@@ -1,7 +1,8 @@
 use mathlib.Core.Bool.{Bool}
-use mathlib.Core.Path.{_∙_, ap}
+use mathlib.Core.Path.{_∙_, ap, refl}
 use lib.ListN.{length}
-use Rattle.fields.proofs.Fields.{laid-size, list-first}
+use Rattle.output.proofs.Passes.{laid-size}
+use Rattle.fields.proofs.Fields.{list-first}
 use Rattle.fields.specs.Texts.{noFields}
 use Rattle.laying.proofs.Leaves.{count-none, count-refused, count-some}
 use Rattle.laying.proofs.Passes.{last-went, ready-count}
@@ -28,7 +29,7 @@ count-few-requires c κs = search needs
 returns : tie.Need-returns
 returns c =
     let start = c .before .before .before .before .before .before .before .before .before .before .before in
-    let size = c .before .none-length .ensures .0 ∙ ap (λ (b : Bool). length (noFields b)) (c .before .before .is-named .ensures) in came (count-none (list-first (start .args .words .now) (start .args .pairs .now) (start .args .text .now) (start .args .entry) (start .args .level) (start .args .at)) (c .before .before .before .before .before .before .before .scan-word .ensures) (c .before .before .before .before .before .value .given .1) (c .before .before .before .if1 .taken) (laid-size (c .count-few .ensures) size))
+    let size = c .before .none-length .ensures .0 ∙ ap (λ (b : Bool). length (noFields b)) (c .before .before .is-named .ensures) in came (count-none (list-first (start .args .words .now) (start .args .pairs .now) (start .args .text .now) (start .args .entry) (start .args .level) (start .args .at)) (c .before .before .before .before .before .before .before .scan-word .ensures) (c .before .before .before .before .before .value .given .1) (c .before .before .before .if1 .taken) (laid-size refl (c .count-few .ensures) size))
 
 count-some-requires : tie.Need-count-some-requires
 count-some-requires c κs = search needs

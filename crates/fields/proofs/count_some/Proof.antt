@@ -1,7 +1,9 @@
 use mathlib.Core.Bool.{false}
 use mathlib.Core.List.{[]}
+use mathlib.Core.Path.{refl}
+use Rattle.output.proofs.Passes.{laid-size}
 use Rattle.encoding.specs.Reading.{got}
-use Rattle.fields.proofs.Fields.{laid-size, some-runs}
+use Rattle.fields.proofs.Fields.{some-runs}
 use Rattle.fields.specs.Texts.{entriesAt, listEnd, someAt}
 use Rattle.laying.proofs.Passes.{AlongChain, came-to, chain-laid, chain-next, chain-start, chain-stop, last-laid, ready-count}
 use Rattle.laying.specs.Passes.{_then_, came, last}
@@ -15,7 +17,7 @@ entries : (c : tie.After-count-few) →
     AlongChain false [] (start .args .pos) (someAt (start .args .words .now) (start .args .pairs .now) (start .args .text .now) (start .args .entry) (start .args .level) (start .args .n) (start .args .at)) [] (c .count-few .result) (entriesAt (start .args .words .now) (start .args .pairs .now) (start .args .text .now) (start .args .entry) (start .args .level) (start .args .n) (start .args .at) then λ q. last (got (listEnd (c .before .before .is-named .result) (start .args .level)) q))
 entries c =
     let start = c .before .before .before .before .before .before in
-    chain-laid (chain-start (some-runs (start .args .words .now) (start .args .pairs .now) (start .args .text .now) (start .args .entry) (start .args .level) (start .args .n) (start .args .at) (c .before .before .is-named .ensures)) ready-count) (laid-size (c .count-few .ensures) (c .before .front-length .ensures .0))
+    chain-laid (chain-start (some-runs (start .args .words .now) (start .args .pairs .now) (start .args .text .now) (start .args .entry) (start .args .level) (start .args .n) (start .args .at) (c .before .before .is-named .ensures)) ready-count) (laid-size refl (c .count-few .ensures) (c .before .front-length .ensures .0))
 
 is-named-requires : tie.Need-is-named-requires
 is-named-requires c κs = search needs
@@ -45,7 +47,7 @@ count-few-requires-2 : tie.Need-count-few-requires-2
 count-few-requires-2 c κs = search needs
 
 returns-2 : tie.Need-returns-2
-returns-2 c = came (last-laid (chain-next (entries (c .before .before .before .before .before .before)) (came-to (c .before .before .before .before .before .count-entries .ensures) (c .before .before .before .list .given .1))) (laid-size (c .count-few2 .ensures) (c .before .end-length .ensures .0)))
+returns-2 c = came (last-laid (chain-next (entries (c .before .before .before .before .before .before)) (came-to (c .before .before .before .before .before .count-entries .ensures) (c .before .before .before .list .given .1))) (laid-size refl (c .count-few2 .ensures) (c .before .end-length .ensures .0)))
 
 pub count-some-spec : {M : Type 1} → statement M
 count-some-spec =

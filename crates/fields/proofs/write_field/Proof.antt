@@ -2,7 +2,7 @@ use mathlib.Core.Bool.{true}
 use native.Mathlib.Omega.{arith}
 use Rattle.fields.proofs.Fields.{field-runs}
 use Rattle.fields.specs.Texts.{fieldAt, restAt}
-use Rattle.laying.proofs.Leaves.{visibility-there}
+use Rattle.laying.proofs.Leaves.{visibility-word, word-below}
 use Rattle.laying.proofs.Passes.{AlongChain, chain-next, chain-ready, chain-start, last-came, last-ready}
 use Rattle.laying.specs.Passes.{_then_, last}
 use Rattle.laying.specs.Texts.{visibilityAt}
@@ -19,7 +19,7 @@ write-visibility-requires c κs = chain-ready (field (c .before .before .before 
 add-write-rest : tie.Need-add-write-rest
 add-write-rest c =
     let start = c .before .before .before .before .before .before .before .before in
-    let there = visibility-there (start .args .words .now) (start .args .at) (chain-ready (field start)) in omega (arith, there .here, start .pre .0 .few)
+    let there = word-below (visibility-word (start .args .words .now) (start .args .at)) (chain-ready (field start)) in omega (arith, there .here, start .pre .0 .few)
 
 write-rest-requires : tie.Need-write-rest-requires
 write-rest-requires c κs =

@@ -1,5 +1,5 @@
-use mathlib.Core.Path.{_∙_, ap, sym}
-use Rattle.encoding.proofs.Tables.{tables-passed}
+use mathlib.Core.Path.{_∙_, ap}
+use Rattle.encoding.proofs.Tables.{tables-hold}
 use Rattle.rebuild.specs.Calls.{laidDown}
 use Rattle.rebuild.proofs.Calls.{down-failed, down-passed}
 use Rattle.initialization.specs.Initialized.{wholeInitialized}
@@ -17,7 +17,7 @@ enum-told c = search needs
 accept-and-initialize-requires : tie.Need-accept-and-initialize-requires
 accept-and-initialize-requires c κs =
     let a = c .before .before .before .before .before .before .before .before .args in
-    let t = tables-passed (a .words .now) (a .pairs .now) (a .text .now) (sym (c .before .before .before .check-tables .ensures) ∙ c .before .enum-told .given .1) in (t .good, t .few)
+    tables-hold (a .words .now) (a .pairs .now) (a .text .now) (c .before .before .before .check-tables .ensures) (c .before .enum-told .given .1)
 
 enum-known-r : tie.Need-enum-known-r
 enum-known-r c = search needs

@@ -2,19 +2,29 @@ use Prim.Native.Nat.{_+_}
 use mathlib.Core.Path.{_≡_, _∙_, ap}
 use native.Mathlib.Omega.{arith}
 use Rattle.output.specs.Laid.{clamp}
-use Rattle.laying.specs.Passes.{came}
-use Rattle.laying.specs.Texts.{nameAt}
-use Rattle.laying.proofs.Leaves.{borrow-counts, ended-text, named-counts, plain-counts}
+use Rattle.laying.specs.declared.Place.{Place}
+use Rattle.laying.specs.Passes.{Counts, came}
+use Rattle.laying.specs.Texts.{nameAt, typeTextAt}
+use Rattle.laying.proofs.Leaves.{borrow-counts, ended-text, named-counts, plain-counts, textWithin}
 use Rattle.laying.proofs.Passes.{came-at, stops-here, went-as}
 use borrow.Author.Needs.{needs}
 use Rattle.laying.proofs.count_borrow.Statement.{statement}
 use Rattle.laying.proofs.count_borrow.Tie as tie
 
+-- what is borrowed, counted behind the "&"
+behind : (c : tie.Start) {r : Place} →
+    let a = c .args in
+    Counts (a .pos + 1) (textWithin 63 (a .words .now) (a .pairs .now) (a .text .now) (a .at + 1)) r → Counts (a .pos) (typeTextAt (a .words .now) (a .pairs .now) (a .text .now) (a .at)) r
+behind c w = borrow-counts (c .args .words .now) (c .args .pairs .now) (c .args .text .now) (c .args .at) (c .pre .1) (c .pre .2) w
+
 add-if1 : tie.Need-add-if1
 add-if1 c = omega (arith, c .before .before .before .pre .1, c .before .before .before .pre .0 .few)
 
 returns : tie.Need-returns
-returns c = borrow-counts (c .before .before .before .before .args .words .now) (c .before .before .before .before .args .pairs .now) (c .before .before .before .before .args .text .now) (c .before .before .before .before .args .at) (c .before .before .before .before .pre .1) (c .before .before .before .before .pre .2) (stops-here (ended-text 62 (c .before .before .before .before .args .words .now) (c .before .before .before .before .args .pairs .now) (c .before .before .before .before .args .text .now) (c .before .before .before .before .args .at + 1) (c .if1 .taken)))
+returns c =
+    let start = c .before .before .before .before in
+    let a = start .args in
+    behind start (stops-here (ended-text 62 (a .words .now) (a .pairs .now) (a .text .now) (a .at + 1) (c .if1 .taken)))
 
 add-w : tie.Need-add-w
 add-w c = search needs
@@ -43,7 +53,7 @@ returns-2 c =
     let a = start .args in
     let next : a .at + 1 + 1 ≡ a .at + 2 = omega arith in
     let sum : a .pos + (1 + c .before .primitive-length .result) ≡ a .pos + 1 + c .before .primitive-length .result = omega arith in
-    borrow-counts (a .words .now) (a .pairs .now) (a .text .now) (a .at) (start .pre .1) (start .pre .2)
+    behind start
     (came (came-at next (plain-counts 62 (a .words .now) (a .pairs .now) (a .text .now) (a .at + 1) (omega (arith, c .before .before .before .before .if1 .left)) (c .before .before .if2 .taken) (c .before .primitive-length .ensures .0) (c .count-few .ensures ∙ ap clamp sum))))
 
 add-count-name : tie.Need-add-count-name
@@ -57,7 +67,7 @@ returns-3 c =
     let start = c .before .before .before .before .before .before .before .before in
     let a = start .args in
     let next : a .at + 2 ≡ a .at + 1 + 1 = omega arith in
-    borrow-counts (a .words .now) (a .pairs .now) (a .text .now) (a .at) (start .pre .1) (start .pre .2)
+    behind start
     (named-counts 62 (a .words .now) (a .pairs .now) (a .text .now) (a .at + 1) (omega (arith, c .before .before .before .before .if1 .left)) (c .before .if3 .taken) (went-as (ap (nameAt (a .words .now) (a .pairs .now) (a .text .now)) next) (c .count-name .ensures)))
 
 count-type-requires : tie.Need-count-type-requires

@@ -1,10 +1,9 @@
-use mathlib.Core.Path.{refl, sym}
+use mathlib.Core.Path.{refl}
+use Rattle.output.proofs.Passes.{laid-counted}
 use Rattle.encoding.specs.Tables.{nameCount}
 use Rattle.encoding.proofs.Inside.{below-there}
 use Rattle.encoding.proofs.Tables.{impossible}
-use Rattle.laying.specs.Passes.{came}
-use Rattle.laying.proofs.Leaves.{doc-got, doc-stop, scanned-none, scanned-word}
-use Rattle.laying.proofs.Passes.{counts-bytes, stops-here, went-as}
+use Rattle.laying.proofs.Leaves.{doc-word, scanned-refused, scanned-went, scanned-word}
 use borrow.Author.Needs.{needs}
 use Rattle.laying.proofs.count_doc.Statement.{statement}
 use Rattle.laying.proofs.count_doc.Tie as tie
@@ -23,8 +22,10 @@ slice-aggregate-lay-known-doc c = search needs
 
 lay-known-doc-requires : tie.Need-lay-known-doc-requires
 lay-known-doc-requires c κs =
-    let e = scanned-word (c .before .before .before .before .before .before .before .before .before .args .words .now) (nameCount (c .before .before .before .before .before .before .before .before .before .args .pairs .now)) (c .before .before .before .before .before .before .before .before .before .args .at) (c .before .before .before .before .before .name-count .ensures) (c .before .before .before .before .scan-below .ensures) (c .before .before .value .given .1) in
-    (below-there _ (c .before .before .before .before .before .before .before .before .before .args .words .now) (c .before .before .before .before .before .before .before .before .before .args .at) e .below, c .before .before .before .before .before .before .before .before .before .pre .good, record { room = λ d. impossible (cc) })
+    let s = c .before .before .before .before .before .before .before .before .before in
+    let a = s .args in
+    let e = scanned-word (a .words .now) (nameCount (a .pairs .now)) (a .at) (c .before .before .before .before .before .name-count .ensures) (c .before .before .before .before .scan-below .ensures) (c .before .before .value .given .1) in
+    (below-there _ (a .words .now) (a .at) e .below, s .pre .good, record { room = λ d. impossible (cc) })
 
 enum-known-r : tie.Need-enum-known-r
 enum-known-r c = search needs
@@ -32,13 +33,12 @@ enum-known-r c = search needs
 returns : tie.Need-returns
 returns c =
     let a = c .before .before .before .before .before .before .before .before .before .before .before .args in
-    let e = scanned-word (c .before .before .before .before .before .before .before .before .before .before .before .args .words .now) (nameCount (c .before .before .before .before .before .before .before .before .before .before .before .args .pairs .now)) (c .before .before .before .before .before .before .before .before .before .before .before .args .at) (c .before .before .before .before .before .before .before .name-count .ensures) (c .before .before .before .before .before .before .scan-below .ensures) (c .before .before .before .before .value .given .1) in
-    went-as (sym (doc-got (a .words .now) (a .pairs .now) (a .text .now) (a .at) (a .level) e)) (came (counts-bytes (c .before .lay-known-doc .ensures .counted refl .next)))
+    scanned-went (doc-word (a .words .now) (a .pairs .now) (a .text .now) (a .at) (a .level)) (c .before .before .before .before .before .before .before .name-count .ensures) (c .before .before .before .before .before .before .scan-below .ensures) (c .before .before .before .before .value .given .1) (laid-counted refl (c .before .lay-known-doc .ensures .counted refl .next))
 
 returns-2 : tie.Need-returns-2
 returns-2 c =
     let a = c .before .before .before .before .before .before .before .before .args in
-    stops-here (doc-stop (a .words .now) (a .pairs .now) (a .text .now) (a .at) (a .level) (scanned-none (a .words .now) (nameCount (a .pairs .now)) (a .at) (c .before .before .before .before .name-count .ensures) (c .before .before .before .scan-below .ensures) (c .before .r .given .1)))
+    scanned-refused (doc-word (a .words .now) (a .pairs .now) (a .text .now) (a .at) (a .level)) (c .before .before .before .before .name-count .ensures) (c .before .before .before .scan-below .ensures) (c .before .r .given .1)
 
 pub count-doc-spec : {M : Type 1} → statement M
 count-doc-spec =

@@ -7,7 +7,9 @@ use Rattle.laying.proofs.count_field_type.Statement.{statement}
 use Rattle.laying.proofs.count_field_type.Tie as tie
 
 returns : tie.Need-returns
-returns c = stops-here (ended-text 63 (c .before .before .before .before .args .words .now) (c .before .before .before .before .args .pairs .now) (c .before .before .before .before .args .text .now) (c .before .before .before .before .args .at) (c .if1 .taken))
+returns c =
+    let a = c .before .before .before .before .args in
+    stops-here (ended-text 63 (a .words .now) (a .pairs .now) (a .text .now) (a .at) (c .if1 .taken))
 
 mul-w : tie.Need-mul-w
 mul-w c = search needs

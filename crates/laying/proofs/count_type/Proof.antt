@@ -18,10 +18,14 @@ enum-known-r : tie.Need-enum-known-r
 enum-known-r c = search needs
 
 returns : tie.Need-returns
-returns c = went-measured (typeAt (c .before .before .before .before .before .before .before .before .args .words .now) (c .before .before .before .before .before .before .before .before .args .pairs .now) (c .before .before .before .before .before .before .before .before .args .text .now) (c .before .before .before .before .before .before .before .before .args .at)) refl (c .before .before .before .before .measure-type .ensures) (c .before .before .next .given .1) (c .count-on .ensures)
+returns c =
+    let a = c .before .before .before .before .before .before .before .before .args in
+    went-measured (typeAt (a .words .now) (a .pairs .now) (a .text .now) (a .at)) refl (c .before .before .before .before .measure-type .ensures) (c .before .before .next .given .1) (c .count-on .ensures)
 
 returns-2 : tie.Need-returns-2
-returns-2 c = went-refused (typeAt (c .before .before .before .before .before .before .before .args .words .now) (c .before .before .before .before .before .before .before .args .pairs .now) (c .before .before .before .before .before .before .before .args .text .now) (c .before .before .before .before .before .before .before .args .at)) (c .before .before .before .measure-type .ensures) (c .before .r .given .1)
+returns-2 c =
+    let a = c .before .before .before .before .before .before .before .args in
+    went-refused (typeAt (a .words .now) (a .pairs .now) (a .text .now) (a .at)) (c .before .before .before .measure-type .ensures) (c .before .r .given .1)
 
 pub count-type-spec : {M : Type 1} → statement M
 count-type-spec =

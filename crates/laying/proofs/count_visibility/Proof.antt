@@ -1,10 +1,7 @@
-use mathlib.Core.Path.{sym}
+use mathlib.Core.Path.{refl, sym}
 use Rattle.rast.specs.Bytes.{ascii}
-use Rattle.encoding.specs.Reading.{readBelow}
-use Rattle.encoding.proofs.Reading.{word-got, word-stop}
-use Rattle.laying.specs.Passes.{came}
-use Rattle.laying.proofs.Leaves.{visibility-priv, visibility-pub, visibility-stop}
-use Rattle.laying.proofs.Passes.{came-nothing, counts-bytes, stops-here, went-as}
+use Rattle.output.proofs.Passes.{laid-as, laid-counted, laid-nothing}
+use Rattle.laying.proofs.Leaves.{hidden, scanned-refused, scanned-went, visibility-word, visible}
 use borrow.Author.Needs.{needs}
 use Rattle.laying.proofs.count_visibility.Statement.{statement}
 use Rattle.laying.proofs.count_visibility.Tie as tie
@@ -18,8 +15,7 @@ enum-known-value c = search needs
 returns : tie.Need-returns
 returns c =
     let a = c .before .before .before .before .before .before .args in
-    let e = word-got (readBelow 2 (a .words .now) (a .at)) (c .before .before .before .before .scan-below .ensures) (c .before .before .value .given .1) in
-    went-as (sym (visibility-priv (a .words .now) (a .at) e (c .if1 .taken))) (came (came-nothing _))
+    scanned-went (visibility-word (a .words .now) (a .at)) refl (c .before .before .before .before .scan-below .ensures) (c .before .before .value .given .1) (laid-as (sym (hidden (c .if1 .taken))) (laid-nothing _ _))
 
 count-few-requires : tie.Need-count-few-requires
 count-few-requires c κs = search needs
@@ -31,13 +27,12 @@ returns-2 : tie.Need-returns-2
 unfolding ascii
 returns-2 c =
     let a = c .before .before .before .before .before .before .before .args in
-    let e = word-got (readBelow 2 (a .words .now) (a .at)) (c .before .before .before .before .before .scan-below .ensures) (c .before .before .before .value .given .1) in
-    went-as (sym (visibility-pub (a .words .now) (a .at) e (c .before .if1 .left))) (came (counts-bytes (c .count-few .ensures)))
+    scanned-went (visibility-word (a .words .now) (a .at)) refl (c .before .before .before .before .before .scan-below .ensures) (c .before .before .before .value .given .1) (laid-as (sym (visible (c .before .if1 .left))) (laid-counted refl (c .count-few .ensures)))
 
 returns-3 : tie.Need-returns-3
 returns-3 c =
     let a = c .before .before .before .before .before .args in
-    stops-here (visibility-stop (a .words .now) (a .at) (word-stop (readBelow 2 (a .words .now) (a .at)) (c .before .before .before .scan-below .ensures) (c .before .r .given .1)))
+    scanned-refused (visibility-word (a .words .now) (a .at)) refl (c .before .before .before .scan-below .ensures) (c .before .r .given .1)
 
 pub count-visibility-spec : {M : Type 1} → statement M
 count-visibility-spec =

@@ -1,17 +1,18 @@
 use native.Mathlib.Omega.{arith}
-use Rattle.laying.proofs.Leaves.{doc-there}
+use Rattle.laying.proofs.Leaves.{doc-word, word-below}
 use Rattle.laying.proofs.Passes.{came-went, counts-went, ready-true}
 use borrow.Author.Needs.{needs}
 use Rattle.laying.proofs.lay_doc.Statement.{statement}
 use Rattle.laying.proofs.lay_doc.Tie as tie
 
 write-doc-requires : tie.Need-write-doc-requires
-write-doc-requires c κs = (c .before .before .before .before .before .before .pre .0, ready-true (c .before .if1 .taken) (c .before .before .before .before .before .before .pre .1))
+write-doc-requires c κs = let s = c .before .before .before .before .before .before in (s .pre .0, ready-true (c .before .if1 .taken) (s .pre .1))
 
 add-t13 : tie.Need-add-t13
 add-t13 c =
-    let t = doc-there (c .before .before .before .before .before .before .before .before .before .args .words .now) (c .before .before .before .before .before .before .before .before .before .args .pairs .now) (c .before .before .before .before .before .before .before .before .before .args .text .now) (c .before .before .before .before .before .before .before .before .before .args .at) (c .before .before .before .before .before .before .before .before .before .args .level) (ready-true (c .before .before .before .before .if1 .taken) (c .before .before .before .before .before .before .before .before .before .pre .1)) in
-    omega (arith, t .here, c .before .before .before .before .before .before .before .before .before .pre .0 .few)
+    let s = c .before .before .before .before .before .before .before .before .before in
+    let t = word-below (doc-word (s .args .words .now) (s .args .pairs .now) (s .args .text .now) (s .args .at) (s .args .level)) (ready-true (c .before .before .before .before .if1 .taken) (s .pre .1)) in
+    omega (arith, t .here, s .pre .0 .few)
 
 same-length : tie.Need-same-length
 same-length c = search needs

@@ -1,7 +1,5 @@
-use Prim.Native.Nat.{_+_, ℕ}
-use mathlib.Core.Path.{_∙_, ap}
-use Rattle.output.specs.Laid.{clamp}
-use Rattle.output.proofs.Passes.{clamp-twice, laid-counted, laid-wrote}
+use Prim.Native.Nat.{_+_}
+use Rattle.output.proofs.Passes.{clamp-of, laid-size, laid-wrote}
 use borrow.Author.Needs.{needs}
 use Rattle.laying.proofs.lay_known_path.Statement.{statement}
 use Rattle.laying.proofs.lay_known_path.Tie as tie
@@ -23,7 +21,7 @@ count-on-requires c κs = search needs
 returns-2 : tie.Need-returns-2
 returns-2 c =
     let s = c .before .before .before .before .before .before in
-    laid-counted (c .before .if1 .left) (ap clamp (c .count-on .ensures) ∙ clamp-twice _ ∙ ap (λ (n : ℕ). clamp (s .args .pos + n)) (s .pre .2))
+    laid-size (c .before .if1 .left) (clamp-of (s .args .pos + s .args .bytes) (c .count-on .ensures)) (s .pre .2)
 
 pub lay-known-path-spec : {M : Type 1} → statement M
 lay-known-path-spec =

@@ -6,13 +6,15 @@ use Rattle.laying.proofs.lay_type.Statement.{statement}
 use Rattle.laying.proofs.lay_type.Tie as tie
 
 write-type-requires : tie.Need-write-type-requires
-write-type-requires c κs = (c .before .before .before .before .before .before .pre .0 .good, room-type _ (c .before .before .before .before .before .before .pre .1 .room (c .before .if1 .taken)))
+write-type-requires c κs = let s = c .before .before .before .before .before .before in (s .pre .0 .good, room-type _ (s .pre .1 .room (c .before .if1 .taken)))
 
 same-length : tie.Need-same-length
 same-length c = search needs
 
 returns : tie.Need-returns
-returns c = went-written (typeAt (c .before .before .before .before .before .before .before .before .before .args .words .now) (c .before .before .before .before .before .before .before .before .before .args .pairs .now) (c .before .before .before .before .before .before .before .before .before .args .text .now) (c .before .before .before .before .before .before .before .before .before .args .at)) _ (c .before .before .before .before .if1 .taken) (c .before .before .write-type .ensures)
+returns c =
+    let a = c .before .before .before .before .before .before .before .before .before .args in
+    went-written (typeAt (a .words .now) (a .pairs .now) (a .text .now) (a .at)) _ (c .before .before .before .before .if1 .taken) (c .before .before .write-type .ensures)
 
 count-type-requires : tie.Need-count-type-requires
 count-type-requires c κs = search needs

@@ -1,4 +1,4 @@
-use Rattle.laying.proofs.Leaves.{visibility-there}
+use Rattle.laying.proofs.Leaves.{visibility-word, word-below}
 use Rattle.laying.proofs.Passes.{came-went, counts-went, ready-true}
 use borrow.Author.Needs.{needs}
 use Rattle.laying.proofs.lay_visibility.Statement.{statement}
@@ -9,7 +9,8 @@ write-visibility-requires c κs = ready-true (c .before .if1 .taken) (c .before 
 
 add-t10 : tie.Need-add-t10
 add-t10 c =
-    let h = visibility-there (c .before .before .before .before .before .before .before .args .words .now) (c .before .before .before .before .before .before .before .args .at) (ready-true (c .before .before .before .before .if1 .taken) (c .before .before .before .before .before .before .before .pre)) .here in
+    let s = c .before .before .before .before .before .before .before in
+    let h = word-below (visibility-word (s .args .words .now) (s .args .at)) (ready-true (c .before .before .before .before .if1 .taken) (s .pre)) .here in
     search needs
 
 same-length : tie.Need-same-length

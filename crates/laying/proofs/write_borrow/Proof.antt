@@ -1,68 +1,54 @@
-use Prim.Native.Nat.{_<_}
-use mathlib.Core.Path.{refl}
 use native.Mathlib.Omega.{arith}
-use lib.ListN.{length}
-use Rattle.encoding.specs.Types.{typeAt}
-use Rattle.laying.proofs.Leaves.{named-came, named-ready, plain-came, plain-room, room-type, type-there, went-written}
-use Rattle.laying.proofs.Passes.{came-to}
+use Rattle.laying.proofs.Leaves.{TypeReady, named-asked, named-came, plain-asked, plain-came, type-asked, type-came, type-early, type-there}
 use borrow.Author.Needs.{needs}
 use Rattle.laying.proofs.write_borrow.Statement.{statement}
 use Rattle.laying.proofs.write_borrow.Tie as tie
 
-there : (c : tie.Start) → c .args .at < length (c .args .words .now)
-there c = type-there (c .args .words .now) (c .args .pairs .now) (c .args .text .now) (c .args .at) (c .pre .1)
+-- the type, which was accepted
+accepted : (c : tie.Start) → TypeReady (c .args .words .now) (c .args .pairs .now) (c .args .text .now) (c .args .at) (c .args .out .now) (c .args .pos)
+accepted c = record { checked = c .pre .0; ready = c .pre .1 }
 
 mul-w : tie.Need-mul-w
-mul-w c = omega (arith, there (c .before .before .before .before), c .before .before .before .before .pre .0 .few)
+mul-w c = omega (arith, type-early (accepted (c .before .before .before .before)))
 
 shared-slice-read-w : tie.Need-shared-slice-read-w
-shared-slice-read-w c = there (c .before .before .before .before .before)
+shared-slice-read-w c = type-there (accepted (c .before .before .before .before .before))
 
 add-t13 : tie.Need-add-t13
-add-t13 c = omega (arith, there (c .before .before .before .before .before .before), c .before .before .before .before .before .before .pre .0 .few)
+add-t13 c = omega (arith, type-early (accepted (c .before .before .before .before .before .before)))
 
 put-plain-requires : tie.Need-put-plain-requires
-put-plain-requires c κs =
-    let start = c .before .before .before .before .before .before .before in
-    (c .before .if1 .taken, plain-room (start .args .words .now) (start .args .pairs .now) (start .args .text .now) (start .args .at) (start .pre .1) (c .before .if1 .taken))
+put-plain-requires c κs = plain-asked (accepted (c .before .before .before .before .before .before .before)) (c .before .if1 .taken)
 
 same-length : tie.Need-same-length
 same-length c = search needs
 
 returns : tie.Need-returns
-returns c =
-    let start = c .before .before .before .before .before .before .before .before .before .before in
-    plain-came (start .args .words .now) (start .args .pairs .now) (start .args .text .now) (start .args .at) (start .pre .1) (c .before .before .before .before .if1 .taken) (c .before .before .put-plain .ensures)
+returns c = plain-came (accepted (c .before .before .before .before .before .before .before .before .before .before)) (c .before .before .before .before .if1 .taken) (c .before .before .put-plain .ensures)
 
 add-t17 : tie.Need-add-t17
-add-t17 c = omega (arith, there (c .before .before .before .before .before .before .before), c .before .before .before .before .before .before .before .pre .0 .few)
+add-t17 c = omega (arith, type-early (accepted (c .before .before .before .before .before .before .before)))
 
 add-write-name : tie.Need-add-write-name
-add-write-name c = omega (arith, there (c .before .before .before .before .before .before .before), c .before .before .before .before .before .before .before .pre .0 .few)
+add-write-name c = omega (arith, type-early (accepted (c .before .before .before .before .before .before .before)))
 
 write-name-requires : tie.Need-write-name-requires
-write-name-requires c κs =
-    let start = c .before .before .before .before .before .before .before .before in
-    (start .pre .0, named-ready (start .args .words .now) (start .args .pairs .now) (start .args .text .now) (start .args .at) (start .pre .1) (c .before .if2 .taken))
+write-name-requires c κs = named-asked (accepted (c .before .before .before .before .before .before .before .before)) (c .before .if2 .taken)
 
 same-length-2 : tie.Need-same-length-2
 same-length-2 c = search needs
 
 returns-2 : tie.Need-returns-2
-returns-2 c =
-    let start = c .before .before .before .before .before .before .before .before .before .before .before in
-    named-came (start .args .words .now) (start .args .pairs .now) (start .args .text .now) (start .args .at) (start .pre .1) (c .before .before .before .before .if2 .taken) (c .before .before .write-name .ensures)
+returns-2 c = named-came (accepted (c .before .before .before .before .before .before .before .before .before .before .before)) (c .before .before .before .before .if2 .taken) (c .before .before .write-name .ensures)
 
 write-type-requires : tie.Need-write-type-requires
-write-type-requires c κs = (c .before .before .before .before .before .before .before .before .pre .0 .good, room-type _ (c .before .before .before .before .before .before .before .before .pre .1 .room refl))
+write-type-requires c κs = type-asked (accepted (c .before .before .before .before .before .before .before .before))
 
 same-length-3 : tie.Need-same-length-3
 same-length-3 c = search needs
 
 returns-3 : tie.Need-returns-3
-returns-3 c =
-    let start = c .before .before .before .before .before .before .before .before .before .before .before in
-    came-to (went-written (typeAt (start .args .words .now) (start .args .pairs .now) (start .args .text .now) (start .args .at)) _ refl (c .before .before .write-type .ensures)) refl
+returns-3 c = type-came (accepted (c .before .before .before .before .before .before .before .before .before .before .before)) _ (c .before .before .write-type .ensures)
 
 pub write-borrow-spec : {M : Type 1} → statement M
 write-borrow-spec =

@@ -6,7 +6,7 @@ use Rattle.rast.specs.Bytes.{ascii}
 use Rattle.output.proofs.Passes.{laid-wrote}
 use Rattle.laying.specs.Texts.{nameAt}
 use Rattle.laying.proofs.Passes.{Turn, turn-gap, turn-item, turn-last, turn-next, turn-start}
-use Rattle.laying.proofs.Leaves.{name-there}
+use Rattle.laying.proofs.Leaves.{name-word, word-below}
 use borrow.Author.Needs.{needs}
 use Rattle.lists.proofs.write_arguments.Statement.{statement}
 use Rattle.lists.proofs.write_arguments.Tie as tie
@@ -26,7 +26,7 @@ write-name-requires c κs = (c .before .before .before .before .before .before .
 add-place : tie.Need-add-place Inv-loop μ-loop
 add-place c =
     let start = c .before .before .before .before .before .before .before .before .before in
-    let t = name-there (start .args .words .now) (start .args .pairs .now) (start .args .text .now) (c .before .before .before .before .loop .place) (turn-item (c .before .before .before .before .loop .inv .1)) in
+    let t = word-below (name-word (start .args .words .now) (start .args .pairs .now) (start .args .text .now) (c .before .before .before .before .loop .place)) (turn-item (c .before .before .before .before .loop .inv .1)) in
     omega (arith, t .here, start .pre .0 .few)
 
 sub-left : tie.Need-sub-left Inv-loop μ-loop

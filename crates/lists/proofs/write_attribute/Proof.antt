@@ -9,7 +9,7 @@ use Rattle.encoding.specs.Reading.{got}
 use Rattle.laying.specs.Passes.{_then_, last}
 use Rattle.laying.specs.Texts.{nameAt}
 use Rattle.laying.proofs.Passes.{AlongChain, chain-fits, chain-laid, chain-next, chain-ready, chain-start, last-fits, last-laid}
-use Rattle.laying.proofs.Leaves.{name-there}
+use Rattle.laying.proofs.Leaves.{name-word, word-below}
 use Rattle.lists.specs.Texts.{attributeAt, derivedAt}
 use Rattle.lists.proofs.Lists.{attribute-runs}
 use borrow.Author.Needs.{needs}
@@ -45,7 +45,7 @@ write-name-requires c κs = (c .before .before .before .before .before .before .
 add-write-derived : tie.Need-add-write-derived
 add-write-derived c =
     let start = c .before .before .before .before .before .before .before .before .before .before .before .before .before in
-    let t = name-there (start .args .words .now) (start .args .pairs .now) (start .args .text .now) (start .args .at) (chain-ready (name (c .before .before .before .before .before .before))) in omega (arith, t .here, start .pre .0 .few)
+    let t = word-below (name-word (start .args .words .now) (start .args .pairs .now) (start .args .text .now) (start .args .at)) (chain-ready (name (c .before .before .before .before .before .before))) in omega (arith, t .here, start .pre .0 .few)
 
 write-derived-requires : tie.Need-write-derived-requires
 write-derived-requires c κs = (c .before .before .before .before .before .before .before .before .before .before .before .before .before .before .pre .0, chain-ready (chain-next (name (c .before .before .before .before .before .before .before)) (c .before .before .before .write-name .ensures)))

@@ -1,9 +1,8 @@
-use Prim.Native.Nat.{_+_}
 use mathlib.Core.Path.{_≡_, refl, _∙_}
 use lib.ListN.{getD}
 use Rattle.encoding.specs.declared.Head.the-variants.{Plain}
 use Rattle.encoding.specs.Heads.{headAfter}
-use Rattle.encoding.proofs.Heads.{head-at, head-end, head-plain}
+use Rattle.encoding.proofs.Heads.{head-at, head-end, plain-head}
 use Rattle.measure.specs.Lengths.{ownLength}
 use Rattle.measure.proofs.Scans.{scanned-leaf, scanned-stop, scanned-as}
 use native.Mathlib.Omega.{arith}
@@ -36,7 +35,7 @@ unfolding ownLength
 returns-2 c =
     let a = c .before .before .before .before .before .before .before .before .args in
     scanned-leaf (a .words .now) (a .pairs .now) (Plain _)
-    (head-at (a .bound) (a .words .now) (a .at) (c .before .before .before .before .before .if1 .left) ∙ head-plain (a .bound) (a .words .now) (getD (a .words .now) (a .at) 0) (a .at + 1) (c .before .before .if3 .taken))
+    (plain-head (a .bound) (a .words .now) (a .at) (c .before .before .before .before .before .if1 .left) (c .before .before .if3 .taken))
     (c .own-leaf .ensures) refl (c .before .primitive-length .ensures .0) (omega (arith, c .before .primitive-length .ensures .1))
 
 add-own-name : tie.Need-add-own-name

@@ -1,7 +1,6 @@
-use Rattle.encoding.proofs.Tables.{tables-passed}
+use Rattle.encoding.proofs.Tables.{tables-hold}
 use Rattle.shapes.proofs.Answers.{tables-failed, tables-whole}
 use Rattle.shapes.proofs.accept.Statement.{statement}
-use mathlib.Core.Path.{_∙_, sym}
 use borrow.Author.Needs.{needs}
 use Rattle.shapes.proofs.accept.Tie as tie
 
@@ -14,8 +13,7 @@ enum-told c = search needs
 accept-words-requires : tie.Need-accept-words-requires
 accept-words-requires c κs =
     let a = c .before .before .before .before .before .before .args in
-    let k = tables-passed (a .words .now) (a .pairs .now) (a .text .now) (sym (c .before .before .check-tables .ensures) ∙ c .enum-told .given .1) in
-    (k .good, k .few)
+    tables-hold (a .words .now) (a .pairs .now) (a .text .now) (c .before .before .check-tables .ensures) (c .enum-told .given .1)
 
 enum-known-r : tie.Need-enum-known-r
 enum-known-r c = search needs

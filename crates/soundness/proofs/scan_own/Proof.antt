@@ -1,8 +1,6 @@
-use Prim.Native.Nat.{_+_}
-use mathlib.Core.Path.{refl, _∙_}
-use lib.ListN.{getD}
+use mathlib.Core.Path.{refl}
 use Rattle.encoding.specs.declared.Head.the-variants.{Plain}
-use Rattle.encoding.proofs.Heads.{head-at, head-end, head-plain}
+use Rattle.encoding.proofs.Heads.{head-at, head-end, plain-head}
 use Rattle.soundness.specs.Judging.{wordsSound}
 use Rattle.soundness.proofs.Scans.{scanned-plain, scanned-stop, scanned-as}
 use borrow.Author.Needs.{needs}
@@ -31,7 +29,7 @@ unfolding wordsSound
 returns-2 c =
     let a = c .before .before .before .before .before .before .before .args in (
       scanned-plain (a .words .now) (a .pairs .now) (a .text .now) (a .ask) (Plain _)
-          (head-at (a .bound) (a .words .now) (a .at) (c .before .before .before .if1 .left) ∙ head-plain (a .bound) (a .words .now) (getD (a .words .now) (a .at) 0) (a .at + 1) (c .before .if2 .taken))
+          (plain-head (a .bound) (a .words .now) (a .at) (c .before .before .before .if1 .left) (c .before .if2 .taken))
           (c .own-leaf .ensures) refl refl refl,
       c .before .before .before .before .before .before .before .pre .3,
     )
