@@ -159,6 +159,7 @@ fn cases() -> Vec<Case> {
         Case::new("random mix", TYPES, random_mix(9, 8)),
         Case::new("another mix", TYPES, random_mix(109, 5)),
         Case::new("third mix", TYPES, random_mix(209, 7)),
+        Case::new("fourth mix", TYPES, random_mix(309, 6)),
     ];
     cases.extend(growing_with_rules());
     cases.push(Case::one("nested, all match", nested(), vec![1, 15, 0, 0]));

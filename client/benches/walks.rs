@@ -190,6 +190,7 @@ fn visits() -> Vec<Case> {
         Case::new(types, "shaped types", shaped_types(10, 6)),
         Case::new(types, "other shapes", shaped_types(110, 9)),
         Case::new(types, "third shapes", shaped_types(210, 7)),
+        Case::new(types, "fourth shapes", shaped_types(310, 8)),
         Case::new(types, "1,024 words", vec![list_of_synonyms(1_024)]),
         Case::new(types, "8,192 words", vec![list_of_synonyms(8_192)]),
         Case::new(declarations, "a struct", vec![a_struct()]),

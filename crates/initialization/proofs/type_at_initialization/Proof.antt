@@ -26,10 +26,16 @@ same-length : tie.Need-same-length
 same-length c = search needs
 
 returns : tie.Need-returns
-returns c = down-passed (c .before .before .before .before .before .before .before .before .before .before .before .args .out .now) (wholeInitialized (c .before .before .before .before .before .before .before .before .before .before .before .args .words .now) (c .before .before .before .before .before .before .before .before .before .before .before .args .pairs .now) (c .before .before .before .before .before .before .before .before .before .before .before .args .text .now)) (c .before .before .before .before .before .before .check-tables .ensures) (c .before .before .before .before .enum-told .given .1) (c .before .before .accept-and-initialize .ensures) ∙ ap (laidDown (c .before .before .before .before .before .before .before .before .before .before .before .args .out .now)) (tables-tested (c .before .before .before .before .before .before .before .before .before .before .before .args .words .now) (c .before .before .before .before .before .before .before .before .before .before .before .args .pairs .now) (c .before .before .before .before .before .before .before .before .before .before .before .args .text .now))
+returns c =
+    let a = c .before .before .before .before .before .before .before .before .before .before .before .args in
+    down-passed (a .out .now) (wholeInitialized (a .words .now) (a .pairs .now) (a .text .now)) (c .before .before .before .before .before .before .check-tables .ensures) (c .before .before .before .before .enum-told .given .1) (c .before .before .accept-and-initialize .ensures)
+    ∙ ap (laidDown (a .out .now)) (tables-tested (a .words .now) (a .pairs .now) (a .text .now))
 
 returns-2 : tie.Need-returns-2
-returns-2 c = down-failed (c .before .before .before .before .before .before .before .before .args .out .now) (wholeInitialized (c .before .before .before .before .before .before .before .before .args .words .now) (c .before .before .before .before .before .before .before .before .args .pairs .now) (c .before .before .before .before .before .before .before .before .args .text .now)) (c .before .before .before .check-tables .ensures) (c .before .r .given .1) ∙ ap (laidDown (c .before .before .before .before .before .before .before .before .args .out .now)) (tables-tested (c .before .before .before .before .before .before .before .before .args .words .now) (c .before .before .before .before .before .before .before .before .args .pairs .now) (c .before .before .before .before .before .before .before .before .args .text .now))
+returns-2 c =
+    let a = c .before .before .before .before .before .before .before .before .args in
+    down-failed (a .out .now) (wholeInitialized (a .words .now) (a .pairs .now) (a .text .now)) (c .before .before .before .check-tables .ensures) (c .before .r .given .1)
+    ∙ ap (laidDown (a .out .now)) (tables-tested (a .words .now) (a .pairs .now) (a .text .now))
 
 pub type-at-initialization-spec : {M : Type 1} → statement M
 type-at-initialization-spec =
