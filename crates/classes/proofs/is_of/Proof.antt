@@ -1,8 +1,16 @@
 use Rattle.classes.proofs.Worded.{base-here, base-word-other, count-here, count-other, names-other, path-here, path-word, word-here, word-other}
+use Prim.Native.Nat.{_+_, _<_}
+use lib.ListN.{length}
 use native.Mathlib.Omega.{arith}
 use Rattle.classes.proofs.is_of.Statement.{statement}
 use borrow.Author.Needs.{needs}
 use Rattle.classes.proofs.is_of.Tie as tie
+
+-- the base is a path: its own words stand inside
+inside : (c : tie.Else3) → let s = c .before .before .before .before .before .before .before .before .before .before .before in s .args .at + 2 + 2 < length (s .args .words .now)
+inside c =
+    let s = c .before .before .before .before .before .before .before .before .before .before .before in
+    path-here (s .args .words .now) (s .args .pairs .now) (s .args .text .now) (s .args .at) (s .pre .1) (c .before .before .before .before .before .before .if1 .left) (c .if3 .left) .inside
 
 mul-if1 : tie.Need-mul-if1
 mul-if1 c =
@@ -63,19 +71,13 @@ returns-3 c =
     base-word-other (a .words .now) (a .pairs .now) (a .text .now) (a .at) (a .class) (c .before .before .before .before .before .before .if1 .left) (c .if3 .taken)
 
 add-if4 : tie.Need-add-if4
-add-if4 c =
-    let a = c .before .before .before .before .before .before .before .before .before .before .before .args in
-    let h = path-here (a .words .now) (a .pairs .now) (a .text .now) (a .at) (c .before .before .before .before .before .before .before .before .before .before .before .pre .1) (c .before .before .before .before .before .before .if1 .left) (c .if3 .left) .inside in search needs
+add-if4 c = let h = inside c in search needs
 
 mul-if4 : tie.Need-mul-if4
-mul-if4 c =
-    let a = c .before .before .before .before .before .before .before .before .before .before .before .args in
-    let h = path-here (a .words .now) (a .pairs .now) (a .text .now) (a .at) (c .before .before .before .before .before .before .before .before .before .before .before .pre .1) (c .before .before .before .before .before .before .if1 .left) (c .if3 .left) .inside in search needs
+mul-if4 c = let h = inside c in search needs
 
 shared-slice-read-if4 : tie.Need-shared-slice-read-if4
-shared-slice-read-if4 c =
-    let a = c .before .before .before .before .before .before .before .before .before .before .before .before .args in
-    omega (arith, path-here (a .words .now) (a .pairs .now) (a .text .now) (a .at) (c .before .before .before .before .before .before .before .before .before .before .before .before .pre .1) (c .before .before .before .before .before .before .before .if1 .left) (c .before .if3 .left) .inside)
+shared-slice-read-if4 c = omega (arith, inside (c .before))
 
 returns-4 : tie.Need-returns-4
 returns-4 c =
@@ -83,44 +85,30 @@ returns-4 c =
     names-other (a .words .now) (a .pairs .now) (a .text .now) (a .at) (a .class) (c .before .before .before .before .before .before .before .before .before .if1 .left) (c .before .before .before .before .before .before .before .before .form-of .ensures .1) (c .before .before .before .if3 .left) (c .if4 .taken)
 
 add-t13 : tie.Need-add-t13
-add-t13 c =
-    let a = c .before .before .before .before .before .before .before .before .before .before .before .before .before .before .args in
-    let h = path-here (a .words .now) (a .pairs .now) (a .text .now) (a .at) (c .before .before .before .before .before .before .before .before .before .before .before .before .before .before .pre .1) (c .before .before .before .before .before .before .before .before .before .if1 .left) (c .before .before .before .if3 .left) .inside in search needs
+add-t13 c = let h = inside (c .before .before .before) in search needs
 
 mul-t9 : tie.Need-mul-t9
-mul-t9 c =
-    let a = c .before .before .before .before .before .before .before .before .before .before .before .before .before .before .args in
-    let h = path-here (a .words .now) (a .pairs .now) (a .text .now) (a .at) (c .before .before .before .before .before .before .before .before .before .before .before .before .before .before .pre .1) (c .before .before .before .before .before .before .before .before .before .if1 .left) (c .before .before .before .if3 .left) .inside in search needs
+mul-t9 c = let h = inside (c .before .before .before) in search needs
 
 shared-slice-read-t11 : tie.Need-shared-slice-read-t11
-shared-slice-read-t11 c =
-    let a = c .before .before .before .before .before .before .before .before .before .before .before .before .before .before .before .args in
-    omega (arith, path-here (a .words .now) (a .pairs .now) (a .text .now) (a .at) (c .before .before .before .before .before .before .before .before .before .before .before .before .before .before .before .pre .1) (c .before .before .before .before .before .before .before .before .before .before .if1 .left) (c .before .before .before .before .if3 .left) .inside)
+shared-slice-read-t11 c = omega (arith, inside (c .before .before .before .before))
 
 add-t18 : tie.Need-add-t18
-add-t18 c =
-    let a = c .before .before .before .before .before .before .before .before .before .before .before .before .before .before .before .args in
-    let h = path-here (a .words .now) (a .pairs .now) (a .text .now) (a .at) (c .before .before .before .before .before .before .before .before .before .before .before .before .before .before .before .pre .1) (c .before .before .before .before .before .before .before .before .before .before .if1 .left) (c .before .before .before .before .if3 .left) .inside in search needs
+add-t18 c = let h = inside (c .before .before .before .before) in search needs
 
 add-t19 : tie.Need-add-t19
-add-t19 c =
-    let a = c .before .before .before .before .before .before .before .before .before .before .before .before .before .before .before .args in
-    let h = path-here (a .words .now) (a .pairs .now) (a .text .now) (a .at) (c .before .before .before .before .before .before .before .before .before .before .before .before .before .before .before .pre .1) (c .before .before .before .before .before .before .before .before .before .before .if1 .left) (c .before .before .before .before .if3 .left) .inside in search needs
+add-t19 c = let h = inside (c .before .before .before .before) in search needs
 
 mul-t20 : tie.Need-mul-t20
-mul-t20 c =
-    let a = c .before .before .before .before .before .before .before .before .before .before .before .before .before .before .before .args in
-    let h = path-here (a .words .now) (a .pairs .now) (a .text .now) (a .at) (c .before .before .before .before .before .before .before .before .before .before .before .before .before .before .before .pre .1) (c .before .before .before .before .before .before .before .before .before .before .if1 .left) (c .before .before .before .before .if3 .left) .inside in search needs
+mul-t20 c = let h = inside (c .before .before .before .before) in search needs
 
 shared-slice-read-t22 : tie.Need-shared-slice-read-t22
-shared-slice-read-t22 c =
-    let a = c .before .before .before .before .before .before .before .before .before .before .before .before .before .before .before .before .args in
-    omega (arith, path-here (a .words .now) (a .pairs .now) (a .text .now) (a .at) (c .before .before .before .before .before .before .before .before .before .before .before .before .before .before .before .before .pre .1) (c .before .before .before .before .before .before .before .before .before .before .before .if1 .left) (c .before .before .before .before .before .if3 .left) .inside)
+shared-slice-read-t22 c = omega (arith, inside (c .before .before .before .before .before))
 
 is-in-class-requires : tie.Need-is-in-class-requires
 is-in-class-requires c κs =
-    let a = c .before .before .before .before .before .before .before .before .before .before .before .before .before .before .before .before .args in
-    (path-here (a .words .now) (a .pairs .now) (a .text .now) (a .at) (c .before .before .before .before .before .before .before .before .before .before .before .before .before .before .before .before .pre .1) (c .before .before .before .before .before .before .before .before .before .before .before .if1 .left) (c .before .before .before .before .before .if3 .left) .own, c .before .before .before .before .before .before .before .before .before .before .before .before .before .before .before .before .pre .0)
+    let s = c .before .before .before .before .before .before .before .before .before .before .before .before .before .before .before .before in
+    (path-here (s .args .words .now) (s .args .pairs .now) (s .args .text .now) (s .args .at) (s .pre .1) (c .before .before .before .before .before .before .before .before .before .before .before .if1 .left) (c .before .before .before .before .before .if3 .left) .own, s .pre .0)
 
 returns-5 : tie.Need-returns-5
 returns-5 c =
