@@ -48,6 +48,13 @@ pub head-stop : (x : Reading Head) {r : HeadScan} {k : Refusal} → r ≡ headSc
 head-stop (got a m) e d = impossible (cc)
 head-stop (stop k) e d = cc
 
+-- what was read is one value, and ends at one place
+pub got-value : {A : Type 0} {a c : A} {m n : ℕ} → got a m ≡ got c n → a ≡ c
+got-value e = cc
+
+pub got-end : {A : Type 0} {a c : A} {m n : ℕ} → got a m ≡ got c n → m ≡ n
+got-end e = cc
+
 -- something was read that ends at n
 pub record Read {A : Type 0} (x : Reading A) (n : ℕ) : Type 0 where
   pub value : A

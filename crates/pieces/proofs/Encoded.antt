@@ -22,11 +22,11 @@ use Rattle.encoding.proofs.Types.{bind-got, made-got, made₂-got}
 use Rattle.trees.specs.Encode.{Token, word, name, tokenWord, pathTokens, tokens, encode}
 use Rattle.trees.specs.Numbered.{treeAt}
 use Rattle.trees.specs.Runs.{Run}
-use Rattle.trees.proofs.Spans.{type-stands}
+use Rattle.trees.proofs.Spans.{Stands, path-stands, type-stands}
 use Rattle.pieces.specs.Pieces.{Piece, own, visibilityWord, runs, attributesTokens, titleTokens, useTokens, owned, counted, typePiece, parameterPieces, fieldPieces, namelessPieces, fieldsPieces, casePieces, heading, front, rest, pieces, pieceTokens, declarationTokens, encodeDeclaration}
 use Rattle.pieces.proofs.Steps.{below-word, visibility-word}
 use Rattle.pieces.proofs.Openings.{titleThen, title-assoc}
-use Rattle.pieces.proofs.OpeningRuns.{Spelt, Spells, spelt-inside, spelt-then, spelt-word, spelt-as, counted-spells, name-spells, attributes-spell, path-spells}
+use Rattle.pieces.proofs.OpeningRuns.{Spelt, spelt-inside, spelt-then, spelt-word, spelt-as, counted-spells, name-spells, attributes-spell}
 use Rattle.pieces.proofs.RenamedReading.{numberedAt}
 
 -- ---- the words of pieces
@@ -90,54 +90,54 @@ use-words u = declaration-words (UseDecl u) ∙ append-nil (spell (owned (useTok
 module _ (ws : List ℕ) where
   -- two things read, and something made of them
   two-spell : {A B C : Type 0} (code₁ : A → List ℕ) (code₂ : B → List ℕ) (f : ℕ → Reading A) (g : ℕ → Reading B) (make : A → B → C) (all : C → List ℕ)
-      → ((a : A) (b : B) → code₁ a ++ code₂ b ≡ all (make a b)) → Spells code₁ ws f → Spells code₂ ws g → Spells all ws (λ p. f p >>= λ a q. g q >>= λ b r. got (make a b) r)
+      → ((a : A) (b : B) → code₁ a ++ code₂ b ≡ all (make a b)) → Stands code₁ ws f → Stands code₂ ws g → Stands all ws (λ p. f p >>= λ a q. g q >>= λ b r. got (make a b) r)
   two-spell code₁ code₂ f g make all k h i p c n l e =
       let m = made₂-got (f p) g make e in
       let s = h p (m .left) (m .middle) l (m .reads) in
       let t = i (m .middle) (m .right) n (spelt-inside ws s) (m .reads₂) in
       spelt-as ws (k (m .left) (m .right) ∙ ap all (sym (m .made))) (spelt-then ws (code₁ (m .left)) (code₂ (m .right)) s t)
 
-  counted-spell : {A : Type 0} (f : A → List (Piece ℕ)) (item : ℕ → Reading A) → Spells (λ x. spell (f x)) ws item → Spells (λ xs. spell (counted f xs)) ws (readCounted ws item)
+  counted-spell : {A : Type 0} (f : A → List (Piece ℕ)) (item : ℕ → Reading A) → Stands (λ x. spell (f x)) ws item → Stands (λ xs. spell (counted f xs)) ws (readCounted ws item)
   counted-spell f item h p xs n l e = spelt-as ws (sym (spell-counted f xs)) (counted-spells ws (λ x. spell (f x)) item h p xs n l e)
 
-  visibility-spells : Spells (λ v. visibilityWord v ∷ []) ws (readVisibility ws)
+  visibility-spells : Stands (λ v. visibilityWord v ∷ []) ws (readVisibility ws)
   unfolding readVisibility
   visibility-spells p v n l e =
       let m = made-got (readBelow 2 ws p) visibilityOf e in
       let w = visibility-word (m .value) (below-there 2 ws p (m .reads) .below) in
       spelt-as ws (ap (λ i. i ∷ []) (sym w) ∙ ap (λ i. visibilityWord i ∷ []) (sym (m .made))) (spelt-word ws (below-word 2 ws p (m .reads)))
 
-  module _ (bound : ℕ) (ty : ℕ → Reading (Ty ℕ)) (h : Spells (λ t. spell (typePiece t)) ws ty) where
+  module _ (bound : ℕ) (ty : ℕ → Reading (Ty ℕ)) (h : Stands (λ t. spell (typePiece t)) ws ty) where
     abbrev nm : ℕ → ℕ
     nm x = x
 
-    named : Spells (λ x. x ∷ []) ws (readName bound ws nm ty)
+    named : Stands (λ x. x ∷ []) ws (readName bound ws nm ty)
     named = name-spells ws bound ty
 
-    parameter-spells : Spells (λ x. spell (parameterPieces x)) ws (readParameter bound ws nm ty)
+    parameter-spells : Stands (λ x. spell (parameterPieces x)) ws (readParameter bound ws nm ty)
     unfolding readParameter parameterPieces tokenWord
     parameter-spells =
         two-spell (λ x. x ∷ []) (λ ts. spell (counted typePiece ts)) (readName bound ws nm ty) (readCounted ws ty) (λ x ts. record { name = x; constraints = ts }) (λ x. spell (parameterPieces x))
         (λ x ts. sym (spell-own (name x) (counted typePiece ts))) named (counted-spell typePiece ty h)
 
-    formal-spells : Spells (λ x. x .name ∷ spell (typePiece (x .tpe))) ws (readFormal bound ws nm ty)
+    formal-spells : Stands (λ x. x .name ∷ spell (typePiece (x .tpe))) ws (readFormal bound ws nm ty)
     unfolding readFormal
     formal-spells = two-spell (λ x. x ∷ []) (λ t. spell (typePiece t)) (readName bound ws nm ty) ty (λ x t. record { name = x; tpe = t }) _ (λ x t. refl) named h
 
-    field-spells : Spells (λ x. spell (fieldPieces x)) ws (readField bound ws nm ty)
+    field-spells : Stands (λ x. spell (fieldPieces x)) ws (readField bound ws nm ty)
     unfolding readField fieldPieces tokenWord
     field-spells =
         two-spell (λ v. visibilityWord v ∷ []) (λ x. x .name ∷ spell (typePiece (x .tpe))) (readVisibility ws) (readFormal bound ws nm ty) (λ v x. record { visibility = v; formal = x }) (λ x. spell (fieldPieces x))
         (λ v x. ap (_∷_ (visibilityWord v)) (sym (spell-own (name (x .name)) (typePiece (x .tpe)))) ∙ sym (spell-own (word (visibilityWord v)) (own (name (x .name)) ∷ typePiece (x .tpe))))
         visibility-spells formal-spells
 
-    nameless-spells : Spells (λ x. spell (namelessPieces x)) ws (readNamelessField bound ws nm ty)
+    nameless-spells : Stands (λ x. spell (namelessPieces x)) ws (readNamelessField bound ws nm ty)
     unfolding readNamelessField namelessPieces tokenWord
     nameless-spells =
         two-spell (λ v. visibilityWord v ∷ []) (λ t. spell (typePiece t)) (readVisibility ws) ty (λ v t. record { visibility = v; tpe = t }) (λ x. spell (namelessPieces x))
         (λ v t. sym (spell-own (word (visibilityWord v)) (typePiece t))) visibility-spells h
 
-    fields-spell : Spells (λ x. spell (fieldsPieces x)) ws (readFields bound ws nm ty)
+    fields-spell : Stands (λ x. spell (fieldsPieces x)) ws (readFields bound ws nm ty)
     unfolding readFields fieldsPieces tokenWord
     fields-spell p x n l e =
         let r = bind-got (readBelow 2 ws p) _ e in
@@ -156,7 +156,7 @@ module _ (ws : List ℕ) where
             spelt-as ws (sym (spell-own (word 1) (counted namelessPieces (m .value))) ∙ ap (λ y. spell (fieldsPieces y)) (sym (m .made))) (spelt-then ws (1 ∷ []) (spell (counted namelessPieces (m .value))) s t)
         go (suc (suc k)) q b s e = absurd (let z : ⊥ = omega arith in z)
 
-    case-spells : Spells (λ x. spell (casePieces x)) ws (readCase bound ws nm ty)
+    case-spells : Stands (λ x. spell (casePieces x)) ws (readCase bound ws nm ty)
     unfolding readCase casePieces tokenWord
     case-spells p c n l e =
         let r = bind-got (readName bound ws nm ty p) _ e in
@@ -196,7 +196,7 @@ module _ (ws : List ℕ) where
               (spelt-then ws (map tokenWord (attributesTokens l)) _ s₂ (spelt-then ws (x ∷ []) (spell (counted parameterPieces ps)) s₃ s₄)))
 
       -- what follows them
-      rest-spells : {A S : Type 0} (pre : List (Piece ℕ)) (code : A → List (Piece ℕ)) (f : ℕ → Reading A) (make : A → S) (c : S → Declaration ℕ) → Spells (λ a. spell (code a)) ws f
+      rest-spells : {A S : Type 0} (pre : List (Piece ℕ)) (code : A → List (Piece ℕ)) (f : ℕ → Reading A) (make : A → S) (c : S → Declaration ℕ) → Stands (λ a. spell (code a)) ws f
           → ((a : A) → (front (c (make a)) ≡ pre) × (rest (c (make a)) ≡ code a)) → (v : ℕ) → Spelt ws at (spell pre) v → ((f v >>= λ a t. got (make a) t) >>= λ s q. got (c s) q) ≡ got d n
           → Spelt ws at (encodeDeclaration d) n
       rest-spells pre code f make c k i v s e =
@@ -237,7 +237,7 @@ module _ (ws : List ℕ) where
           let m = made-got (readUse bound ws nm ty p) UseDecl e in
           let o = made₂-got (readVisibility ws p) (readPath bound ws) (λ v x. record { visibility = v; path = pathOf ws nm x }) (m .reads) in
           let t = visibility-spells p (o .left) (o .middle) (spelt-inside ws s) (o .reads) in
-          let u = path-spells ws bound (o .middle) (o .right) n (spelt-inside ws t) (o .reads₂) in
+          let u = path-stands bound ws (o .middle) (o .right) n (spelt-inside ws t) (o .reads₂) in
           let g : d ≡ UseDecl (record { visibility = o .left; path = pathOf ws nm (o .right) }) = m .made ∙ ap UseDecl (o .made) in
           spelt-as ws (sym (use-words (record { visibility = o .left; path = pathOf ws nm (o .right) })) ∙ ap encodeDeclaration (sym g))
           (spelt-then ws (useHead ∷ []) _ s (spelt-then ws (visibilityWord (o .left) ∷ []) (map tokenWord (pathTokens (pathOf ws nm (o .right)))) t u))
@@ -262,9 +262,7 @@ module _ (ws : List ℕ) where
 
 -- a declaration stands in the words by its encoding, and ends behind it
 pub declaration-run : (ws pairs : List ℕ) (at : ℕ) {d : Declaration ℕ} {n : ℕ} → numberedAt ws pairs at ≡ got d n → Run ws at (encodeDeclaration d) × (n ≡ at + length (encodeDeclaration d))
-declaration-run ws pairs at {d} {n} e =
-    let s = declaration-spells ws (nameCount pairs) (treeAt ws pairs) types at d n e in
-    (s .run, s .end)
+declaration-run ws pairs at {d} {n} e = declaration-spells ws (nameCount pairs) (treeAt ws pairs) types at d n e
   where
-    types : Spells (λ t. spell (typePiece t)) ws (treeAt ws pairs)
-    types p t m l e = let k = type-stands (nameCount pairs) ws 64 p t m l e in spelt-as ws (sym (spell-type t)) (record { run = k .0; end = k .1 })
+    types : Stands (λ t. spell (typePiece t)) ws (treeAt ws pairs)
+    types p t m l e = spelt-as ws (sym (spell-type t)) (type-stands (nameCount pairs) ws 64 p t m l e)

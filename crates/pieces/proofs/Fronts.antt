@@ -12,6 +12,7 @@ use Rattle.encoding.specs.Reading.{Reading, got, stop, _>>=_, readWord, readBel
 use Rattle.encoding.specs.Scans.{mapReading}
 use Rattle.encoding.specs.Heads.{readPath}
 use Rattle.encoding.specs.Declarations.{structHead, enumHead, synonymHead, useHead, readCounted, readName, readAttribute, readParameter, readFields, readCase, readStruct, readEnum, readTypeSynonym, readUse, declarationAfter, readDeclaration}
+use Rattle.encoding.proofs.Reading.{got-value}
 use Rattle.encoding.proofs.Tables.{impossible}
 use Rattle.encoding.proofs.Types.{bind-got, made-got}
 use Rattle.trees.specs.Tokens.{renamedToken}
@@ -107,10 +108,7 @@ module _ {N : Type 0} (bound : ℕ) (ws : List ℕ) (nm : ℕ → N) (ty : ℕ �
   using-after p {o} {n} e =
       let r = bind-got (readBelow 2 ws p) _ e in
       let x = bind-got (readPath bound ws (r .end)) _ (r .rest) in
-      sym (ap Opening.after (value-same (x .rest)))
-    where
-      value-same : {A : Type 0} {a c : A} {m n : ℕ} → got a m ≡ got c n → a ≡ c
-      value-same e = cc
+      sym (ap Opening.after (got-value (x .rest)))
 
   pub kind-of : (at : ℕ) {d : Declaration N} {e : ℕ} {o : Opening} {n : ℕ} → readDeclaration bound ws nm ty at ≡ got d e → readOpening bound ws at ≡ got o n → Kind d o n
   unfolding readDeclaration declarationAfter readOpening openingAfter

@@ -16,12 +16,13 @@ use Rattle.encoding.specs.Heads.{readPath}
 use Rattle.encoding.specs.Types.{pathOf}
 use Rattle.encoding.specs.Declarations.{structHead, enumHead, synonymHead, useHead, readList, readCounted, readName, readAttribute}
 use Rattle.encoding.proofs.Tables.{impossible}
+use Rattle.encoding.proofs.Reading.{got-value, got-end}
 use Rattle.encoding.proofs.Inside.{There, word-there, below-there}
 use Rattle.encoding.proofs.Types.{bind-got, made-got, made₂-got}
 use Rattle.trees.specs.Encode.{Token, word, name, tokenWord, pathTokens}
 use Rattle.trees.specs.Runs.{Run}
 use Rattle.trees.proofs.Runs.{run-none, run-join}
-use Rattle.trees.proofs.Spans.{path-stands}
+use Rattle.trees.proofs.Spans.{Stands, path-stands}
 use Rattle.pieces.specs.declared.After.{After}
 use Rattle.pieces.specs.declared.After.the-variants.{FieldList, CaseList, OneType}
 use Rattle.pieces.specs.Pieces.{runs, attributeTokens, attributesTokens, titleTokens, useTokens}
@@ -30,50 +31,40 @@ use Rattle.pieces.proofs.Scans.{entry}
 use Rattle.pieces.proofs.Ahead.{list-length}
 use Rattle.pieces.proofs.Steps.{below-word, one-run, two-run, visibility-word}
 
--- what f reads at a position stands there by its words, and ends behind them
-pub record Spelt (ws : List ℕ) (p : ℕ) (code : List ℕ) (n : ℕ) : Type 0 where
-  pub run : Run ws p code
-  pub end : n ≡ p + length code
-
-abbrev pub Spells : {A : Type 0} → (A → List ℕ) → List ℕ → (ℕ → Reading A) → Type 0
-Spells {A} code ws f = (p : ℕ) (a : A) (n : ℕ) → p ≤ length ws → f p ≡ got a n → Spelt ws p (code a) n
+-- words stand at a position, and end behind themselves
+abbrev pub Spelt : List ℕ → ℕ → List ℕ → ℕ → Type 0
+Spelt ws p code n = Run ws p code × (n ≡ p + length code)
 
 words-runs : {A : Type 0} (f : A → List (Token ℕ)) (xs : List A) → map tokenWord (runs f xs) ≡ runs (λ x. map tokenWord (f x)) xs
 unfolding runs
 words-runs f [] = refl
 words-runs f (x ∷ xs) = map-append tokenWord (f x) (runs f xs) ∙ ap (λ l. map tokenWord (f x) ++ l) (words-runs f xs)
 
-got-value : {A : Type 0} {a c : A} {m n : ℕ} → got a m ≡ got c n → a ≡ c
-got-value e = cc
-
-got-end : {A : Type 0} {a c : A} {m n : ℕ} → got a m ≡ got c n → m ≡ n
-got-end e = cc
-
 module _ (ws : List ℕ) where
   pub spelt-inside : {p n : ℕ} {code : List ℕ} → Spelt ws p code n → n ≤ length ws
-  spelt-inside s = omega (arith, s .run .ends, s .end)
+  spelt-inside s = omega (arith, s .0 .ends, s .1)
 
   pub spelt-then : {p m n : ℕ} (a b : List ℕ) → Spelt ws p a m → Spelt ws m b n → Spelt ws p (a ++ b) n
-  spelt-then a b s t = record { run = run-join a b (s .run) (s .end) (t .run); end = omega (arith, s .end, t .end, length-append a b) }
+  spelt-then a b s t = (run-join a b (s .0) (s .1) (t .0), omega (arith, s .1, t .1, length-append a b))
 
   pub spelt-word : {p x q : ℕ} → There ws p x q → Spelt ws p (x ∷ []) q
-  spelt-word {p} s = let r = one-run ws p s in record { run = r .0; end = r .1 }
+  spelt-word {p} s = one-run ws p s
 
   pub spelt-as : {p n : ℕ} {a b : List ℕ} → a ≡ b → Spelt ws p a n → Spelt ws p b n
   spelt-as {p} {n} e s = subst (λ (l : List ℕ). Spelt ws p l n) e s
 
-  list-spells : {A : Type 0} (code : A → List ℕ) (item : ℕ → Reading A) → Spells code ws item → (k : ℕ) → Spells (runs code) ws (readList item k)
+  list-spells : {A : Type 0} (code : A → List ℕ) (item : ℕ → Reading A) → Stands code ws item → (k : ℕ) → Stands (runs code) ws (readList item k)
   unfolding readList runs
   list-spells code item h zero p xs n l e =
       let z : xs ≡ [] = cc in let y : p ≡ n = cc in
-      spelt-as (sym (ap (runs code) z)) (record { run = run-none ws p l; end = omega (arith, y) })
+      spelt-as (sym (ap (runs code) z)) (run-none ws p l, omega (arith, y))
   list-spells code item h (suc k) p xs n l e =
       let m = made₂-got (item p) (readList item k) _∷_ e in
       let s = h p (m .left) (m .middle) l (m .reads) in
       let t = list-spells code item h k (m .middle) (m .right) n (spelt-inside s) (m .reads₂) in
       spelt-as (sym (ap (runs code) (m .made))) (spelt-then (code (m .left)) (runs code (m .right)) s t)
 
-  pub counted-spells : {A : Type 0} (code : A → List ℕ) (item : ℕ → Reading A) → Spells code ws item → Spells (λ xs. length xs ∷ runs code xs) ws (readCounted ws item)
+  pub counted-spells : {A : Type 0} (code : A → List ℕ) (item : ℕ → Reading A) → Stands code ws item → Stands (λ xs. length xs ∷ runs code xs) ws (readCounted ws item)
   unfolding readCounted
   counted-spells code item h p xs n l e =
       let t = bind-got (readWord ws p) _ e in
@@ -82,7 +73,7 @@ module _ (ws : List ℕ) where
       spelt-as (ap (λ k. k ∷ runs code xs) (sym (list-length item (t .value) (t .end) (t .rest)))) (spelt-then (t .value ∷ []) (runs code xs) s u)
 
   module _ (bound : ℕ) where
-    pub name-spells : (ty : ℕ → Reading (Ty ℕ)) → Spells (λ x. x ∷ []) ws (readName bound ws (λ x. x) ty)
+    pub name-spells : (ty : ℕ → Reading (Ty ℕ)) → Stands (λ x. x ∷ []) ws (readName bound ws (λ x. x) ty)
     unfolding readName
     name-spells ty p x n l e =
         let m = made-got (readBelow bound ws p) (λ i. i) e in
@@ -93,7 +84,7 @@ module _ (ws : List ℕ) where
     runs-one [] = refl
     runs-one (x ∷ xs) = ap (_∷_ x) (runs-one xs)
 
-    attribute-spells : (ty : ℕ → Reading (Ty ℕ)) → Spells (λ a. map tokenWord (attributeTokens a)) ws (readAttribute bound ws (λ x. x) ty)
+    attribute-spells : (ty : ℕ → Reading (Ty ℕ)) → Stands (λ a. map tokenWord (attributeTokens a)) ws (readAttribute bound ws (λ x. x) ty)
     unfolding readAttribute attributeTokens tokenWord
     attribute-spells ty p a n l e =
         let m = made₂-got (readName bound ws (λ x. x) ty p) (readCounted ws (readName bound ws (λ x. x) ty)) (λ x xs. record { name = x; derived = xs }) e in
@@ -105,12 +96,8 @@ module _ (ws : List ℕ) where
     unfolding attributesTokens tokenWord
     attributes-words l = ap (_∷_ (length l)) (words-runs attributeTokens l)
 
-    pub attributes-spell : (ty : ℕ → Reading (Ty ℕ)) → Spells (λ l. map tokenWord (attributesTokens l)) ws (readCounted ws (readAttribute bound ws (λ x. x) ty))
+    pub attributes-spell : (ty : ℕ → Reading (Ty ℕ)) → Stands (λ l. map tokenWord (attributesTokens l)) ws (readCounted ws (readAttribute bound ws (λ x. x) ty))
     attributes-spell ty p l n h e = spelt-as (sym (attributes-words l)) (counted-spells (λ a. map tokenWord (attributeTokens a)) (readAttribute bound ws (λ x. x) ty) (attribute-spells ty) p l n h e)
-
-    -- a path's words
-    pub path-spells : Spells (λ x. map tokenWord (pathTokens (pathOf ws (λ i. i) x))) ws (readPath bound ws)
-    path-spells p x q l e = let s = path-stands bound ws p x q l e in record { run = s .0; end = s .1 }
 
     -- the words of an opening, from its head on
     title-spells : (k : ℕ) (after : After) (p : ℕ) (o : Opening) (q n : ℕ) → Spelt ws p (k ∷ []) q → readTitle bound ws k after q ≡ got o n → Spelt ws p (map tokenWord (o .tokens)) n
@@ -123,11 +110,11 @@ module _ (ws : List ℕ) where
         let two = two-run ws (a .end) (below-word bound ws (a .end) (pair .first)) (word-there ws (pair .middle) (pair .second)) in
         let s₁ = spelt-word (below-word bound ws q (r .first)) in
         let s₂ = attributes-spell (λ i. stop UnknownWord) (r .end) (a .value) (a .end) (spelt-inside s₁) (a .first) in
-        let s₃ : Spelt ws (a .end) (t .value .0 ∷ t .value .1 ∷ []) (t .end) = record { run = two .0; end = two .1 } in
+        let s₃ : Spelt ws (a .end) (t .value .0 ∷ t .value .1 ∷ []) (t .end) = two in
         let all = spelt-then (k ∷ []) _ h (spelt-then (r .value ∷ []) _ s₁ (spelt-then (map tokenWord (attributesTokens (a .value))) (t .value .0 ∷ t .value .1 ∷ []) s₂ s₃)) in
         let v = got-value (t .rest) in
         let m : t .end ≡ n = got-end (t .rest) in
-        subst (Spelt ws p (map tokenWord (o .tokens))) m
+        subst (λ i. Spelt ws p (map tokenWord (o .tokens)) i) m
         (spelt-as (ap (λ l. k ∷ r .value ∷ l) (sym (map-append tokenWord (attributesTokens (a .value)) (name (t .value .0) ∷ word (t .value .1) ∷ []))) ∙ ap (λ (x : Opening). map tokenWord (x .tokens)) v) all)
 
     using-spells : (p : ℕ) (o : Opening) (q n : ℕ) → Spelt ws p (useHead ∷ []) q → readUsing bound ws q ≡ got o n → Spelt ws p (map tokenWord (o .tokens)) n
@@ -137,11 +124,11 @@ module _ (ws : List ℕ) where
         let x = bind-got (readPath bound ws (r .end)) _ (r .rest) in
         let w = below-there 2 ws q (r .first) in
         let s₁ = spelt-word (below-word 2 ws q (r .first)) in
-        let s₂ = path-spells (r .end) (x .value) (x .end) (spelt-inside s₁) (x .first) in
+        let s₂ = path-stands bound ws (r .end) (x .value) (x .end) (spelt-inside s₁) (x .first) in
         let all = spelt-then (useHead ∷ []) _ h (spelt-then (r .value ∷ []) _ s₁ s₂) in
         let v = got-value (x .rest) in
         let m : x .end ≡ n = got-end (x .rest) in
-        subst (Spelt ws p (map tokenWord (o .tokens))) m
+        subst (λ i. Spelt ws p (map tokenWord (o .tokens)) i) m
         (spelt-as (ap (λ i. useHead ∷ i ∷ map tokenWord (pathTokens (pathOf ws (λ j. j) (x .value)))) (sym (visibility-word (r .value) (w .below))) ∙ ap (λ (y : Opening). map tokenWord (y .tokens)) v) all)
 
     -- the own words of an opening, and where it ends
@@ -152,7 +139,7 @@ module _ (ws : List ℕ) where
         let s = spelt-word (word-there ws at (r .first)) in
         let t = go (r .value) (r .end) s (eqb (r .value) structHead) (eqb-true (r .value) structHead) (eqb (r .value) enumHead) (eqb-true (r .value) enumHead)
         (eqb (r .value) synonymHead) (eqb-true (r .value) synonymHead) (eqb (r .value) useHead) (eqb-true (r .value) useHead) (r .rest) in
-        (t .run, t .end ∙ ap (λ i. at + i) (length-map (o .tokens) tokenWord))
+        (t .0, t .1 ∙ ap (λ i. at + i) (length-map (o .tokens) tokenWord))
       where
         go : (w p : ℕ) → Spelt ws at (w ∷ []) p → (a : Bool) → (a ≡ true → w ≡ structHead) → (b : Bool) → (b ≡ true → w ≡ enumHead) → (c : Bool) → (c ≡ true → w ≡ synonymHead)
             → (d : Bool) → (d ≡ true → w ≡ useHead)

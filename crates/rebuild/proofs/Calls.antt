@@ -16,7 +16,7 @@ use Rattle.encoding.specs.Reading.{Reading, got, stop, whole}
 use Rattle.encoding.specs.Scans.{mapReading}
 use Rattle.encoding.proofs.Tables.{impossible}
 use Rattle.output.proofs.Laws.{sets-front}
-use Rattle.encoding.proofs.Reading.{map-got}
+use Rattle.encoding.proofs.Reading.{got-value, map-got}
 use Rattle.trees.specs.Runs.{Run}
 use Rattle.writing.specs.Written.{Readable}
 use Rattle.replace.specs.Rules.{Rule, rulesOf}
@@ -67,12 +67,9 @@ module _ (o : List ℕ) (x : Answer Laid) {r c : Check} (e : r ≡ c) where
 
 -- ---- what was read
 
-got-same : {A : Type 0} {a b : A} {m n : ℕ} {x : Reading A} → x ≡ got a m → x ≡ got b n → a ≡ b
-got-same e d = cc
-
 -- the answer to what was read
 pub read-fills : {x : Reading Laid} {b : Laid} {n : ℕ} {o o′ : List ℕ} {r : RebuildAnswer} → x ≡ got b n → (r, o′) ≡ laidDown o (given b) → Fills x o o′ r
-read-fills {o = o} e h = record { fills = λ c k d. h ∙ ap (λ l. laidDown o (given l)) (got-same e d) }
+read-fills {o = o} e h = record { fills = λ c k d. h ∙ ap (λ l. laidDown o (given l)) (got-value (sym e ∙ d)) }
 
 -- words that are copied as they stand
 pub copied-fills : {A : Type 0} (lay : A → Laid) (deep : A → ℕ) {x : Reading A} {a : A} {n : ℕ} {ws o o′ : List ℕ} {r : RebuildAnswer} → x ≡ got a n → deep a ≤ 64 → lay a ≡ sameWords ws (deep a)

@@ -18,11 +18,9 @@ use Rattle.encoding.specs.Types.{primitives, pathOf, readNode, readType, typeAt
 use Rattle.encoding.proofs.Tables.{impossible}
 use Rattle.encoding.proofs.Heads.{head-plain, head-other, past-six}
 use Rattle.encoding.proofs.Inside.{word-there, below-there, head-begins, head-behind, path-lies, path-end}
+use Rattle.encoding.proofs.Reading.{got-value, got-end}
 use Rattle.encoding.proofs.Types.{bind-got, node-of, type-lies}
 use Rattle.writing.specs.Written.{nodeAt}
-
-got-same : {A : Type 0} {a b : A} {m n : ℕ} → got a m ≡ got b n → (a ≡ b) × (m ≡ n)
-got-same e = (cc, cc)
 
 module _ (ws pairs : List ℕ) (text : Bytes) (at : ℕ) {t : Ty Bytes} {n : ℕ} (e : typeAt ws pairs text at ≡ got t n) where
   record Headed : Type 0 where
@@ -131,8 +129,8 @@ module _ (ws pairs : List ℕ) (text : Bytes) (at : ℕ) {t : Ty Bytes} {n : ℕ
       record {
         inside = rw e₁ at (w₂ .here);
         own = subst (InsidePath (nameCount pairs) ws) path (lies .own);
-        type = sym (got-same m .0) ∙ ap (λ (p : PathAt). TypeFromPath (pathOf ws (nameBytes pairs text) p)) path;
-        end = sym (got-same m .1) ∙ sym o ∙ ends ∙ ap (λ (p : PathAt). p .start + p .count) path;
+        type = sym (got-value m) ∙ ap (λ (p : PathAt). TypeFromPath (pathOf ws (nameBytes pairs text) p)) path;
+        end = sym (got-end m) ∙ sym o ∙ ends ∙ ap (λ (p : PathAt). p .start + p .count) path;
       }
 
   -- ---- the kinds that hold other types
