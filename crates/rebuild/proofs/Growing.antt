@@ -4,8 +4,8 @@ use mathlib.Core.Path.{_≡_, refl, ap, sym, _∙_, subst}
 use mathlib.Core.List.{List, [], _∷_, _++_, append-assoc, append-nil}
 use native.Mathlib.Omega.{arith}
 use native.Mathlib.Numerals.{add-one}
-use lib.ListN.{length, take, drop, getD, set, length-append, length-drop}
-use lib.Seq.{sets, sets-eq, length-sets, take-suc, take-at, drop-at, take-take, take-add, length-take-le, getD-drop}
+use lib.ListN.{length, take, drop, getD, set, length-append, length-drop, List·getD-append}
+use lib.Seq.{sets, sets-eq, length-sets, take-suc, take-at, drop-at, take-take, take-add, length-take-le, getD-take, getD-drop}
 use Rattle.output.proofs.Laws.{part-length, sets-append}
 use Rattle.rules.specs.Table.{toWords, Fits}
 use Rattle.rules.specs.Scans.{Spans, depthOf}
@@ -78,6 +78,17 @@ grown-words {o} {o′} {b} {p} {p′} l =
     let f : take p o′ ++ take (p′ - p) (drop p o′) ≡ take p o ++ b = sym (take-add p (p′ - p) o′) ∙ ap (λ (x : ℕ). take x o′) (sym e) ∙ l .front in
     let g : take p o ++ take (p′ - p) (drop p o′) ≡ take p o ++ b = rw (grown-below l) at f in
     sym (drop-at (take p o) (take (p′ - p) (drop p o′)) p n) ∙ ap (drop p) g ∙ drop-at (take p o) b p n
+
+-- the first word of a part, and of words that were laid down with a part before them
+part-first : (l : List ℕ) (start n : ℕ) → 0 < n → getD (take n (drop start l)) 0 0 ≡ getD l start 0
+part-first l start n h = getD-take n (drop start l) 0 0 h ∙ getD-drop start l 0 0 ∙ (let z : start + 0 ≡ start = omega arith in ap (λ i. getD l i 0) z)
+
+pub grown-first : (s : List ℕ) (start n : ℕ) (c : List ℕ) {o o′ : List ℕ} {p p′ : ℕ} → 0 < n → start + n ≤ length s → Grown o p (take n (drop start s) ++ c) o′ p′ → getD o′ p 0 ≡ getD s start 0
+grown-first s start n c {o} {o′} {p} {p′} h k l =
+    let own = take n (drop start s) in
+    let m : length own ≡ n = part-length s start n k in
+    let q : 0 < p′ - p = omega (arith, l .next, length-append own c, m) in
+    sym (part-first o′ p (p′ - p) q) ∙ ap (λ (b : List ℕ). getD b 0 0) (grown-words l) ∙ List·getD-append own c 0 0 (omega (arith, m)) ∙ part-first s start n h
 
 -- what was laid down from the same start, in place of what lay there
 pub grown-over : {o o′ o″ b c : List ℕ} {p p′ p″ : ℕ} → Grown o p b o′ p′ → Grown o′ p c o″ p″ → Grown o p c o″ p″

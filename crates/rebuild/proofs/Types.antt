@@ -38,7 +38,7 @@ use Rattle.rebuild.specs.declared.Settling.the-variants.{Settled, Overfu
 use Rattle.rebuild.specs.declared.Rebuilt.{Rebuilt}
 use Rattle.rebuild.specs.declared.Rebuilt.the-variants.{Done, Full}
 use Rattle.rebuild.specs.Laid.{Grown, GivesTo, given as givenTo, tooLong, Settles, stays, gives, Rebuilds, rebuilt, full, ruleList, mapping, Ruled, TypeRebuilds, TypesRebuild, WordRebuilds, PartsRebuild, parts, noParts}
-use Rattle.rebuild.proofs.Growing.{grown-then, grown-words, grown-over, grown-nothing}
+use Rattle.rebuild.proofs.Growing.{grown-then, grown-words, grown-first, grown-over, grown-nothing}
 
 -- ---- a finished type stays or gives way
 
@@ -186,6 +186,7 @@ module _ (ws pairs : List ℕ) (at : ℕ) (m : Ty ℕ → Ty ℕ) {t : Ty ℕ} {
     pub end : n′ ≡ n
     pub small : d + 1 ≤ limit
     pub some : p < q′
+    pub first : getD o₂ p 0 ≡ getD ws at 0
 
   finished : {k limit p p₁ n′ q′ d : ℕ} {o o₁ o₂ : List ℕ} {r : Rebuilt} → k ≡ typesBelow ws at → Grown o p own o₁ p₁ → TypesRebuild m limit o₁ p₁ (readTypes (treeAt ws pairs) k q) o₂ r → r ≡ Done n′ q′ d
       → Finished limit p o o₂ n′ q′ d
@@ -204,6 +205,7 @@ module _ (ws pairs : List ℕ) (at : ℕ) (m : Ty ℕ → Ty ℕ) {t : Ty ℕ} {
         end = j;
         small = omega (arith, z, depth-words built, encode-words built, v .next, b .within);
         some = omega (arith, words-some built, encode-words built, v .next);
+        first = grown-first ws at (q - at) (encodeAll (Replaces m (inner .types))) (omega (arith, own-fits .0)) (omega (arith, own-fits .0, own-fits .1)) (grown-then g w);
       }
 
   abbrev gives-built : Replace m t ≡ m built

@@ -10,7 +10,7 @@ ghost use Rattle.encoding.specs.Tested.{Good};
 ghost use Rattle.encoding.specs.Types.{readTypes};
 ghost use Rattle.trees.specs.Numbered.{treeAt};
 ghost use Rattle.writing.specs.Written.{Readable};
-ghost use Rattle.rules.specs.Table.{Fits, foundFrom};
+ghost use Rattle.rules.specs.Table.{Fits, foundFrom, slot};
 ghost use Rattle.rules.specs.Scans.{Spans};
 ghost use Rattle.rebuild.specs.Laid.{Lays, GivesTo, Settles, Ruled, mapping, WordRebuilds, PartsRebuild, TypeRebuilds, TypesRebuild};
 ghost use Rattle.rebuild.specs.Calls.{zeros, laidDown};
@@ -128,25 +128,27 @@ fn give_way(
     }
 }
 
-// The finished type between `start` and `end` gives way to the to of a rule whose from it equals.
+// The finished type between `start` and `end` gives way to the to of a rule whose from it equals. `link` is the first rule for its first word.
 fn settle(
     pairs: &[u32],
     text: &[u8],
     rules: &[u32],
     table: &[u16; 160],
     k: usize,
+    link: usize,
     out: &mut [u32],
     start: usize,
     end: usize,
     depth: usize,
     limit: usize,
 ) -> Settling
-    requires { ⌜ Good (now pairs) (now text) × Ruled (now rules) (now pairs) (now text) (now table) k × (start < end) × (end ≤ limit) × (limit ≤ length (now out)) ⌝ }
+    requires { ⌜ Good (now pairs) (now text) × Ruled (now rules) (now pairs) (now text) (now table) k × (start < end) × (end ≤ limit) × (limit ≤ length (now out))
+        × (link ≡ getD (now table) (slot (getD (now out) start 0)) 0) ⌝ }
     ensures { λ r. ⌜ Settles (now (rules .entry)) (now (pairs .entry)) (now (table .entry))
         (foundFrom (nameBytes (now (pairs .entry)) (now (text .entry))) (now (rules .entry)) (now (table .entry)) 0 k (take (end - start) (drop start (now (out .entry)))))
         limit (now (out .entry)) start end depth (now (out .exit)) r ⌝ }
 {
-    match rules::find_rule(rules, pairs, text, table, k, out, start, end - start) {
+    match rules::find_rule(rules, pairs, text, table, k, link, out, start, end - start) {
         Found::At(i) => give_way(rules, pairs, table, k, i, out, start, limit),
         Found::Nothing => Settling::Settled { pos: end, depth },
     }
@@ -162,7 +164,8 @@ pub enum Rebuilt {
     Full,
 }
 
-// The accepted type at `at`, rebuilt: its own words, the types below it, and then the rules.
+// The accepted type at `at`, rebuilt: its own words, the types below it, and then the rules. Its first word stays, so the first rule for it is looked up before it
+// is laid down: a word that was just stored would be waited for.
 fn rebuild_next(
     words: &[u32],
     pairs: &[u32],
@@ -180,12 +183,25 @@ fn rebuild_next(
     ensures { λ r. ⌜ TypeRebuilds (mapping (now (rules .entry)) (now (pairs .entry)) (now (text .entry))) limit (now (out .entry)) pos
         (treeAt (now (words .entry)) (now (pairs .entry)) at) (now (out .exit)) r ⌝ }
 {
+    let link = rules::first_link(table, words[at]);
     match rebuild_parts(words, pairs, text, rules, table, k, at, out, pos, limit) {
         Rebuilt::Done {
             next: end,
             pos: q,
             depth: below,
-        } => match settle(pairs, text, rules, table, k, out, pos, q, below + 1, limit) {
+        } => match settle(
+            pairs,
+            text,
+            rules,
+            table,
+            k,
+            link,
+            out,
+            pos,
+            q,
+            below + 1,
+            limit,
+        ) {
             Settling::Settled { pos: last, depth } => Rebuilt::Done {
                 next: end,
                 pos: last,

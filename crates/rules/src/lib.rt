@@ -201,7 +201,7 @@ pub fn entry(table: &[u16; 160], i: usize, kind: usize) -> usize
 }
 
 // The rule that comes first for a word.
-fn first_link(table: &[u16; 160], word: u32) -> usize
+pub fn first_link(table: &[u16; 160], word: u32) -> usize
     ensures { λ r. ⌜ r ≡ getD (now (table .entry)) (slot word) 0 ⌝ }
 {
     wide(table[slot_of(word)])
@@ -262,22 +262,23 @@ fn find_along(
     Found::Nothing
 }
 
-// The first of `k` rules whose from is the same type as `count` words of `out`.
+// The first of `k` rules whose from is the same type as `count` words of `out`, which begin with a word whose first rule is that of `link`.
 pub fn find_rule(
     rules: &[u32],
     pairs: &[u32],
     text: &[u8],
     table: &[u16; 160],
     k: usize,
+    link: usize,
     out: &[u32],
     start: usize,
     count: usize,
 ) -> Found
-    requires { ⌜ Good (now pairs) (now text) × Fits (now rules) (now table) k × Links (now rules) (now table) 0 k × (0 < count) × (start + count ≤ length (now out)) ⌝ }
+    requires { ⌜ Good (now pairs) (now text) × Fits (now rules) (now table) k × Links (now rules) (now table) 0 k × (0 < count) × (start + count ≤ length (now out))
+        × (link ≡ getD (now table) (slot (getD (now out) start 0)) 0) ⌝ }
     ensures { λ r. ⌜ r ≡ foundFrom (nameBytes (now (pairs .entry)) (now (text .entry))) (now (rules .entry)) (now (table .entry)) 0 k
         (take count (drop start (now (out .entry)))) ⌝ }
 {
-    let link = first_link(table, out[start]);
     find_along(rules, pairs, text, table, k, link, out, start, count)
 }
 

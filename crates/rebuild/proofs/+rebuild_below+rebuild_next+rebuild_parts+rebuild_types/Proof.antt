@@ -6,8 +6,9 @@ use Rattle.rebuild.proofs.Growing.{lays-over, lays-to}
 use Rattle.rebuild.proofs.Types.{Rebuilding, below-reads, built, kids-few, own-fits, parts-finished, parts-full, parts-over, parts-then, plain-parts, rebuilding-ends, rebuilding-starts, settle-ends, type-done, type-over, type-reads, types-full, types-more, types-past}
 use Rattle.rebuild.specs.Laid.{mapping}
 use Rattle.trees.specs.Numbered.{treeAt}
-use lib.ListN.{length}
-use mathlib.Core.Path.{_≡_, refl}
+use Rattle.rules.specs.Table.{slot}
+use lib.ListN.{getD, length}
+use mathlib.Core.Path.{_≡_, _∙_, ap, refl, sym}
 use native.Mathlib.Omega.{arith}
 use borrow.Author.Needs.{needs}
 use borrow.Fn.Kinds.{In}
@@ -28,6 +29,7 @@ use Rattle.encoding.proofs.pass_head.Reads as pass-head-reads
 use Rattle.rebuild.proofs.lay.Reads as lay-reads
 use Rattle.rebuild.proofs.lay_plain.Reads as lay-plain-reads
 use Rattle.rebuild.proofs.settle.Reads as settle-reads
+use Rattle.rules.proofs.first_link.Reads as first-link-reads
 use Rattle.rules.proofs.larger.Reads as larger-reads
 use Rattle.rebuild.proofs.+rebuild_below+rebuild_next+rebuild_parts+rebuild_types.{statement}
 use Rattle.rebuild.proofs.+rebuild_below+rebuild_next+rebuild_parts+rebuild_types.Tie.{close}
@@ -96,7 +98,7 @@ abbrev rebuild-below-calls : ℕ → rebuild-below-lts.Claims
 rebuild-below-calls t = (rebuild-types-below t, rebuild-types.Post)
 
 abbrev rebuild-next-calls : ℕ → rebuild-next-lts.Claims
-rebuild-next-calls t = (rebuild-parts-below t, rebuild-parts.Post, settle-reads.Asked, settle-reads.Learnt)
+rebuild-next-calls t = (first-link-reads.Asked, first-link-reads.Learnt, rebuild-parts-below t, rebuild-parts.Post, settle-reads.Asked, settle-reads.Learnt)
 
 abbrev rebuild-parts-calls : ℕ → rebuild-parts-lts.Claims
 rebuild-parts-calls t = (lay-plain-reads.Asked, lay-plain-reads.Learnt, pass-head-reads.Asked, pass-head-reads.Learnt, lay-reads.Asked, lay-reads.Learnt, rebuild-below-below t, rebuild-below.Post)
@@ -120,15 +122,30 @@ rebuild-below-same-length t c = search needs
 rebuild-below-returns-2 : (t : ℕ) → rebuild-below-lts.Need-returns-2 (rebuild-below-calls t) (rebuild-below-at t) rebuild-below.Post
 rebuild-below-returns-2 t c = c .before .before .rebuild-types .ensures
 
+rebuild-next-mul-first-link : (t : ℕ) → rebuild-next-lts.Need-mul-first-link (rebuild-next-calls t) (rebuild-next-at t) rebuild-next.Post
+rebuild-next-mul-first-link t c =
+    let s = c .before .before .before .before .before in
+    let a = s .args in
+    omega (arith, tree-here (a .words .now) (a .pairs .now) (a .at) (s .pre .1 .2 .reads))
+
+rebuild-next-shared-slice-read-first-link : (t : ℕ) → rebuild-next-lts.Need-shared-slice-read-first-link (rebuild-next-calls t) (rebuild-next-at t) rebuild-next.Post
+rebuild-next-shared-slice-read-first-link t c =
+    let s = c .before .before .before .before .before .before in
+    let a = s .args in
+    omega (arith, tree-here (a .words .now) (a .pairs .now) (a .at) (s .pre .1 .2 .reads))
+
+rebuild-next-first-link-requires : (t : ℕ) → rebuild-next-lts.Need-first-link-requires (rebuild-next-calls t) (rebuild-next-at t) rebuild-next.Post
+rebuild-next-first-link-requires t c κs = search needs
+
 rebuild-next-rebuild-parts-requires : (t : ℕ) → rebuild-next-lts.Need-rebuild-parts-requires (rebuild-next-calls t) (rebuild-next-at t) rebuild-next.Post
-rebuild-next-rebuild-parts-requires t c κs = let s = c .before .before .before .before .before .before in (omega (arith, s .pre .0), s .pre .1)
+rebuild-next-rebuild-parts-requires t c κs = let s = c .before .before .before .before .before .before .before .before in (omega (arith, s .pre .0), s .pre .1)
 
 rebuild-next-enum-known-end : (t : ℕ) → rebuild-next-lts.Need-enum-known-end (rebuild-next-calls t) (rebuild-next-at t) rebuild-next.Post
 rebuild-next-enum-known-end t c = search needs
 
 rebuild-next-add-settle : (t : ℕ) → rebuild-next-lts.Need-add-settle (rebuild-next-calls t) (rebuild-next-at t) rebuild-next.Post
 rebuild-next-add-settle t c =
-    let s = c .before .before .before .before .before .before .before .before .before .before .before .before .before in
+    let s = c .before .before .before .before .before .before .before .before .before .before .before .before .before .before .before in
     let a = s .args in
     let m = mapping (a .rules .now) (a .pairs .now) (a .text .now) in
     let g = parts-finished (a .words .now) (a .pairs .now) (a .at) m (s .pre .1 .2 .reads) (c .before .before .before .before .before .before .rebuild-parts .ensures) (c .before .before .end .given .1) in
@@ -136,11 +153,11 @@ rebuild-next-add-settle t c =
 
 rebuild-next-settle-requires : (t : ℕ) → rebuild-next-lts.Need-settle-requires (rebuild-next-calls t) (rebuild-next-at t) rebuild-next.Post
 rebuild-next-settle-requires t c κs =
-    let s = c .before .before .before .before .before .before .before .before .before .before .before .before .before in
+    let s = c .before .before .before .before .before .before .before .before .before .before .before .before .before .before .before in
     let a = s .args in
     let m = mapping (a .rules .now) (a .pairs .now) (a .text .now) in
     let g = parts-finished (a .words .now) (a .pairs .now) (a .at) m (s .pre .1 .2 .reads) (c .before .before .before .before .before .before .rebuild-parts .ensures) (c .before .before .end .given .1) in
-    (s .pre .1 .0, s .pre .1 .1, g .some, g .within, omega (arith, g .grown .kept, s .pre .1 .4))
+    (s .pre .1 .0, s .pre .1 .1, g .some, g .within, omega (arith, g .grown .kept, s .pre .1 .4), c .before .before .before .before .before .before .before .before .first-link .ensures ∙ ap (λ w. getD (a .table .now) (slot w) 0) (sym (g .first)))
 
 rebuild-next-enum-known-last : (t : ℕ) → rebuild-next-lts.Need-enum-known-last (rebuild-next-calls t) (rebuild-next-at t) rebuild-next.Post
 rebuild-next-enum-known-last t c = search needs
@@ -156,7 +173,7 @@ rebuild-next-same-length t c = search needs
 
 rebuild-next-returns : (t : ℕ) → rebuild-next-lts.Need-returns (rebuild-next-calls t) (rebuild-next-at t) rebuild-next.Post
 rebuild-next-returns t c =
-    let s = c .before .before .before .before .before .before .before .before .before .before .before .before .before .before .before .before .before .before .before in
+    let s = c .before .before .before .before .before .before .before .before .before .before .before .before .before .before .before .before .before .before .before .before .before in
     let a = s .args in
     let m = mapping (a .rules .now) (a .pairs .now) (a .text .now) in
     let g = parts-finished (a .words .now) (a .pairs .now) (a .at) m (s .pre .1 .2 .reads) (c .before .before .before .before .before .before .before .before .before .before .before .before .rebuild-parts .ensures) (c .before .before .before .before .before .before .before .before .end .given .1) in
@@ -168,7 +185,7 @@ rebuild-next-same-length-2 t c = search needs
 
 rebuild-next-returns-2 : (t : ℕ) → rebuild-next-lts.Need-returns-2 (rebuild-next-calls t) (rebuild-next-at t) rebuild-next.Post
 rebuild-next-returns-2 t c =
-    let s = c .before .before .before .before .before .before .before .before .before .before .before .before .before .before .before .before .before .before in
+    let s = c .before .before .before .before .before .before .before .before .before .before .before .before .before .before .before .before .before .before .before .before in
     let a = s .args in
     let m = mapping (a .rules .now) (a .pairs .now) (a .text .now) in
     let g = parts-finished (a .words .now) (a .pairs .now) (a .at) m (s .pre .1 .2 .reads) (c .before .before .before .before .before .before .before .before .before .before .before .rebuild-parts .ensures) (c .before .before .before .before .before .before .before .end .given .1) in
@@ -180,7 +197,7 @@ rebuild-next-same-length-3 t c = search needs
 
 rebuild-next-returns-3 : (t : ℕ) → rebuild-next-lts.Need-returns-3 (rebuild-next-calls t) (rebuild-next-at t) rebuild-next.Post
 rebuild-next-returns-3 t c =
-    let s = c .before .before .before .before .before .before .before .before .before .before .before in
+    let s = c .before .before .before .before .before .before .before .before .before .before .before .before .before in
     let a = s .args in
     let m = mapping (a .rules .now) (a .pairs .now) (a .text .now) in
     parts-full (a .words .now) (a .pairs .now) (a .at) m (s .pre .1 .2 .reads) (c .before .before .before .before .rebuild-parts .ensures) (c .enum-told2 .given .1)
@@ -346,6 +363,9 @@ pub +rebuild-below+rebuild-next+rebuild-parts+rebuild-types-spec : {M : Type 1} 
     (rebuild-next-calls t)
     (rebuild-next-at t)
     rebuild-next.Post
+    (rebuild-next-mul-first-link t)
+    (rebuild-next-shared-slice-read-first-link t)
+    (rebuild-next-first-link-requires t)
     (rebuild-next-rebuild-parts-requires t)
     (rebuild-next-enum-known-end t)
     (rebuild-next-add-settle t)

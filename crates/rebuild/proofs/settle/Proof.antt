@@ -15,7 +15,7 @@ sub-find-rule c = search needs
 
 find-rule-requires : tie.Need-find-rule-requires
 find-rule-requires c κs =
-    let pre = c .before .before .before .before .before .pre in (pre .0, pre .1 .fits, pre .1 .links, omega (arith, pre .2), omega (arith, pre .2, pre .3, pre .4))
+    let pre = c .before .before .before .before .before .pre in (pre .0, pre .1 .fits, pre .1 .links, omega (arith, pre .2), omega (arith, pre .2, pre .3, pre .4), pre .5)
 
 enum-known-i : tie.Need-enum-known-i
 enum-known-i c = search needs
