@@ -88,8 +88,34 @@ fn attempt(
     }
 }
 
-// With as much scratch as any tree may take, unless no rule can match: a search for that costs less than rebuilding.
+// With as much scratch as any tree may take.
 fn fill_large(
+    what: Whole,
+    words: &[u32],
+    pairs: &[u32],
+    text: &[u8],
+    rules: &[u32],
+    table: &[u16; 160],
+    k: usize,
+    out: &mut [u32],
+) -> RebuildAnswer
+    requires { ⌜ Good (now pairs) (now text) × Ruled (now rules) (now pairs) (now text) (now table) k × (length (now words) ≤ 8192)
+        × (ended (laidBy what (now words) (now pairs) (mapping (now rules) (now pairs) (now text))) ≡ At (length (now words))) ⌝ }
+    ensures { λ r. ⌜ Fills (laidBy what (now (words .entry)) (now (pairs .entry)) (mapping (now (rules .entry)) (now (pairs .entry)) (now (text .entry)))) (now (out .entry)) (now (out .exit)) r ⌝ }
+{
+    let mut scratch = [0u32; 8192];
+    match attempt(what, words, pairs, text, rules, table, k, &mut scratch, out) {
+        Attempt::Filled(n) => RebuildAnswer::Length(n),
+        Attempt::Denied(r) => RebuildAnswer::Refused(r),
+        Attempt::NoRoom => {
+            rebuild::clear(out);
+            RebuildAnswer::Refused(Refusal::BufferTooShort)
+        },
+    }
+}
+
+// A tree that is large, or becomes so. If no rule can match there is nothing to do: a search for that costs less than rebuilding.
+fn fill_more(
     what: Whole,
     words: &[u32],
     pairs: &[u32],
@@ -106,18 +132,18 @@ fn fill_large(
     if rules::none_stands(rules, pairs, text, table, k, words) {
         return rebuild::copy_unaltered(words, out);
     }
-    let mut scratch = [0u32; 8192];
+    if 256 < words.len() {
+        return fill_large(what, words, pairs, text, rules, table, k, out);
+    }
+    let mut scratch = [0u32; 512];
     match attempt(what, words, pairs, text, rules, table, k, &mut scratch, out) {
         Attempt::Filled(n) => RebuildAnswer::Length(n),
         Attempt::Denied(r) => RebuildAnswer::Refused(r),
-        Attempt::NoRoom => {
-            rebuild::clear(out);
-            RebuildAnswer::Refused(Refusal::BufferTooShort)
-        }
+        Attempt::NoRoom => { fill_large(what, words, pairs, text, rules, table, k, out) },
     }
 }
 
-// Most trees are small: a little scratch is tried first, since a large one must be cleared before use. `fill_large` has two call sites and so a frame of its own, whose
+// Most trees are small: a little scratch is tried first, since a large one must be cleared before use. `fill_more` has two call sites and so a frame of its own, whose
 // pages small trees need not touch.
 fn fill(
     what: Whole,
@@ -134,13 +160,19 @@ fn fill(
     ensures { λ r. ⌜ Fills (laidBy what (now (words .entry)) (now (pairs .entry)) (mapping (now (rules .entry)) (now (pairs .entry)) (now (text .entry)))) (now (out .entry)) (now (out .exit)) r ⌝ }
 {
     if 128 < words.len() {
-        return fill_large(what, words, pairs, text, rules, table, k, out);
+        return fill_more(what, words, pairs, text, rules, table, k, out);
     }
     let mut scratch = [0u32; 128];
     match attempt(what, words, pairs, text, rules, table, k, &mut scratch, out) {
         Attempt::Filled(n) => RebuildAnswer::Length(n),
         Attempt::Denied(r) => RebuildAnswer::Refused(r),
-        Attempt::NoRoom => { fill_large(what, words, pairs, text, rules, table, k, out) },
+        Attempt::NoRoom => {
+            if out.len() <= 128 {
+                rebuild::clear(out);
+                return RebuildAnswer::Refused(Refusal::BufferTooShort);
+            }
+            fill_more(what, words, pairs, text, rules, table, k, out)
+        },
     }
 }
 

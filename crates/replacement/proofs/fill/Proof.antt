@@ -1,18 +1,18 @@
-use Rattle.rebuild.proofs.Calls.{attempt-again, denied-fills, filled-fills}
+use Rattle.rebuild.proofs.Calls.{attempt-again, attempt-over, denied-fills, filled-fills}
 use Rattle.replacement.proofs.Wholes.{ended-readable}
 use native.Mathlib.Omega.{arith}
 use borrow.Author.Needs.{needs}
 use Rattle.replacement.proofs.fill.Statement.{statement}
 use Rattle.replacement.proofs.fill.Tie as tie
 
-fill-large-requires : tie.Need-fill-large-requires
-fill-large-requires c κs = search needs
+fill-more-requires : tie.Need-fill-more-requires
+fill-more-requires c κs = search needs
 
 same-length : tie.Need-same-length
 same-length c = search needs
 
 returns : tie.Need-returns
-returns c = c .before .before .fill-large .ensures
+returns c = search needs
 
 slice-aggregate-attempt : tie.Need-slice-aggregate-attempt
 slice-aggregate-attempt c = search needs
@@ -29,32 +29,42 @@ enum-known-r c = search needs
 enum-told : tie.Need-enum-told
 enum-told c = search needs
 
-fill-large-requires-2 : tie.Need-fill-large-requires-2
-fill-large-requires-2 c κs = search needs
+clear-requires : tie.Need-clear-requires
+clear-requires c κs = search needs
 
 same-length-2 : tie.Need-same-length-2
 same-length-2 c = search needs
 
 returns-2 : tie.Need-returns-2
-returns-2 c = filled-fills (c .before .before .before .before .before .before .attempt .ensures) (c .before .n .given .1)
+returns-2 c =
+    attempt-over (c .before .before .before .before .before .before .before .before .before .before .attempt .ensures) (c .before .before .before .before .before .enum-told .given .1) (omega (arith, c .before .before .before .before .if2 .taken, c .before .before .before .before .before .before .before .before .out2 .given)) (c .before .before .clear .ensures)
+
+fill-more-requires-2 : tie.Need-fill-more-requires-2
+fill-more-requires-2 c κs = search needs
 
 same-length-3 : tie.Need-same-length-3
 same-length-3 c = search needs
 
 returns-3 : tie.Need-returns-3
-returns-3 c = denied-fills (c .before .before .before .before .before .before .attempt .ensures) (c .before .r .given .1)
+returns-3 c = filled-fills (c .before .before .before .before .before .before .attempt .ensures) (c .before .n .given .1)
 
 same-length-4 : tie.Need-same-length-4
 same-length-4 c = search needs
 
 returns-4 : tie.Need-returns-4
-returns-4 c = attempt-again (c .before .before .before .before .before .before .before .before .before .attempt .ensures) (c .before .before .before .before .enum-told .given .1) (c .before .before .fill-large2 .ensures)
+returns-4 c = denied-fills (c .before .before .before .before .before .before .attempt .ensures) (c .before .r .given .1)
+
+same-length-5 : tie.Need-same-length-5
+same-length-5 c = search needs
+
+returns-5 : tie.Need-returns-5
+returns-5 c = attempt-again (c .before .before .before .before .before .before .before .before .before .before .attempt .ensures) (c .before .before .before .before .before .enum-told .given .1) (c .before .before .fill-more2 .ensures)
 
 pub fill-spec : {M : Type 1} → statement M
 fill-spec =
     tie.close
     (tie.spec
-    fill-large-requires
+    fill-more-requires
     same-length
     returns
     slice-aggregate-attempt
@@ -62,10 +72,13 @@ fill-spec =
     enum-known-n
     enum-known-r
     enum-told
-    fill-large-requires-2
+    clear-requires
     same-length-2
     returns-2
+    fill-more-requires-2
     same-length-3
     returns-3
     same-length-4
-    returns-4)
+    returns-4
+    same-length-5
+    returns-5)
