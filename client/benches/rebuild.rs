@@ -160,6 +160,7 @@ fn cases() -> Vec<Case> {
         Case::new("another mix", TYPES, random_mix(109, 5)),
         Case::new("third mix", TYPES, random_mix(209, 7)),
         Case::new("fourth mix", TYPES, random_mix(309, 6)),
+        Case::new("fifth mix", TYPES, random_mix(409, 9)),
     ];
     cases.extend(growing_with_rules());
     cases.push(Case::one("nested, all match", nested(), vec![1, 15, 0, 0]));

@@ -5,9 +5,9 @@ use mathlib.Core.Bool.{Bool, true, false, not}
 use mathlib.Core.List.{List, [], _∷_}
 use lib.Dec.{ltb, eqb}
 use lib.ListN.{length, getD, take, drop, set}
-use Rattle.rast.specs.Bytes.{Bytes, ascii, _and_, _or_}
+use Rattle.rast.specs.Bytes.{Bytes, _and_}
 use Rattle.rast.specs.Tree.{Ty, Tys, nil, cons}
-use Rattle.rast.specs.Sound.{isWordByte, soundName, soundSize, soundPath, isNamed, isIntersection, sound}
+use Rattle.rast.specs.Sound.{soundName, soundSize, soundPath, isNamed, isIntersection, sound}
 use Rattle.encoding.specs.declared.Refusal.{Refusal}
 use Rattle.encoding.specs.declared.Head.{Head}
 use Rattle.encoding.specs.declared.Head.the-variants.{Plain, Name, FromPath, Apply, Ref, RefMut, Impl, Dyn, Tuple, Function, Both, ArrayOf, Synonym, Meta}
@@ -32,25 +32,6 @@ abbrev pub Ready : List ℕ → Bytes → Type 0
 Ready pairs text = Good pairs text × (length pairs / 2 ≤ 1024)
 
 -- ---- names
-
--- the words that are no names, one behind the other
-unfoldable pub letters : Bytes
-letters = ascii "u8u16u32u64u128i8i16i32i64i128usizeboolmutimpldyncrateSelf"
-
--- where each of them starts there, and how long it is
-unfoldable pub wordStarts : List ℕ
-wordStarts = 0 ∷ 2 ∷ 5 ∷ 8 ∷ 11 ∷ 15 ∷ 17 ∷ 20 ∷ 23 ∷ 26 ∷ 30 ∷ 35 ∷ 39 ∷ 42 ∷ 46 ∷ 49 ∷ 54 ∷ []
-
-unfoldable pub wordLengths : List ℕ
-wordLengths = 2 ∷ 3 ∷ 3 ∷ 3 ∷ 4 ∷ 2 ∷ 3 ∷ 3 ∷ 3 ∷ 4 ∷ 5 ∷ 4 ∷ 3 ∷ 4 ∷ 3 ∷ 5 ∷ 4 ∷ []
-
--- what a word that is no name may begin with
-unfoldable pub beginsExcluded : ℕ → Bool
-beginsExcluded x = eqb x 83 or eqb x 98 or eqb x 99 or eqb x 100 or eqb x 105 or eqb x 109 or eqb x 117
-
--- from start to end there are letters, underscores and digits
-abbrev pub WordBytes : Bytes → ℕ → ℕ → Type 0
-WordBytes text start end = (i : ℕ) → start ≤ i → i < end → isWordByte (getD text i 0) ≡ true
 
 -- names that were found sound: each that stands in its place is one
 pub record Known (pairs : List ℕ) (text : Bytes) (known : List ℕ) : Type 0 where
