@@ -394,6 +394,38 @@ fn limits() {
     assert!(tally.refused[1] > 0);
 }
 
+/// Trees and results about as long as the scratch that the library takes before the largest: 128
+/// words, and 512 for trees of up to 256.
+#[test]
+fn lengths_of_scratch() {
+    let mut tally = Tally::default();
+    let mut many_for_one = vec![1, 11, 19, 390];
+    many_for_one.resize(4 + 390, 0);
+    for length in (125..=131).chain(253..=259).chain(509..=515) {
+        let mut words = vec![19, length - 2];
+        words.resize(length as usize, 0);
+        words[2] = 11;
+        // The last child grows for a moment, and is a single word in the end.
+        let mut moment = vec![19, length - 3];
+        moment.resize(length as usize - 2, 0);
+        moment.extend([15, 11]);
+        for (words, rules) in [
+            (&words, &[1, 11, 15, 11][..]),
+            (&words, &[1, 0, 1]),
+            (&words, &[1, 2, 3]),
+            (&words, &many_for_one),
+            (&moment, &[2, 11, 15, 11, 15, 15, 11, 1]),
+        ] {
+            TYPES.check(&bare(words), rules, false, &mut tally);
+            for buffer in [127, 128, 129, 511, 512, 513] {
+                let _ = TYPES.check_length(&bare(words), rules, buffer);
+            }
+        }
+    }
+    println!("{tally:?}");
+    assert!(tally.done > 200 && tally.shrunk > 20 && tally.too_short > 200);
+}
+
 #[test]
 fn thirty_two_rules() {
     let mut tally = Tally::default();

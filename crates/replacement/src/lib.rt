@@ -167,6 +167,7 @@ fn fill(
         Attempt::Filled(n) => RebuildAnswer::Length(n),
         Attempt::Denied(r) => RebuildAnswer::Refused(r),
         Attempt::NoRoom => {
+            // The limit was the caller's, so more scratch would not help.
             if out.len() <= 128 {
                 rebuild::clear(out);
                 return RebuildAnswer::Refused(Refusal::BufferTooShort);
