@@ -10,7 +10,7 @@ use lib.ListN.{getD}
 use Rattle.rast.specs.Bytes.{Bytes, ascii, same, _and_}
 use Rattle.rast.specs.Tree.{Ty, Tys, nil, cons, count}
 use Rattle.rast.specs.DeclarationToString.{Expand}
-use Rattle.rast.proofs.BytesLaws.{and-false, and-true}
+use Rattle.rast.proofs.BytesLaws.{and-false, and-true, or-true}
 use Rattle.rast.proofs.SourceEquations.{expand-by}
 use Rattle.encoding.specs.declared.PathAt.{PathAt}
 use Rattle.encoding.specs.HeadWords.{InsidePath}
@@ -40,7 +40,7 @@ use Rattle.classes.proofs.Paths.{class-object, class-pointer}
 use Rattle.classes.proofs.Worded.{word-other, count-other, base-word-other, path-word, path-here}
 use Rattle.shapes.specs.Parts.{expanded, ObjectOrPointerUnderlying}
 use Rattle.shapes.specs.Shapes.{IsObject, IsObjectOrPointer}
-use Rattle.shapes.proofs.Pointers.{or-true, expanded-tree, pointer-is}
+use Rattle.shapes.proofs.Pointers.{expanded-tree, pointer-is}
 use Rattle.initialization.specs.declared.Pointer.{Pointer}
 use Rattle.initialization.specs.declared.Pointer.the-variants.{To, NoPointer}
 use Rattle.initialization.specs.Initialized.{nameAt, Member, OfRuntime, underPointer, Points}

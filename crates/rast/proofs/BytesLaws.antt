@@ -1,4 +1,4 @@
--- Laws of the tests in specs/Bytes: a conjunction is taken apart, and put together; equal bytes.
+-- Laws of the tests in specs/Bytes: a conjunction is taken apart, and put together; a disjunction with what is known; equal bytes.
 use Prim.Native.Nat.{ℕ}
 use mathlib.Core.Path.{_≡_, refl}
 use mathlib.Core.Bool.{Bool, true, false}
@@ -6,7 +6,7 @@ use mathlib.Core.List.{[], _∷_}
 use native.Mathlib.Omega.{arith}
 use borrow.Author.Tests.{eq-eqb}
 use lib.Dec.{T}
-use Rattle.rast.specs.Bytes.{Bytes, _and_, same}
+use Rattle.rast.specs.Bytes.{Bytes, _and_, _or_, same}
 
 -- yes is not no
 pub never : {A : Type 0} → true ≡ false → A
@@ -41,6 +41,19 @@ pub and-false : (a : Bool) → (a and false) ≡ false
 unfolding _and_
 and-false true = refl
 and-false false = refl
+
+pub and-assoc : (a b c : Bool) → (a and b and c) ≡ (a and (b and c))
+unfolding _and_
+and-assoc true b c = refl
+and-assoc false b c = refl
+
+pub or-true : (a : Bool) → (a or true) ≡ true
+or-true true = refl
+or-true false = refl
+
+pub or-false : (a : Bool) → (a or false) ≡ a
+or-false true = refl
+or-false false = refl
 
 -- a conjunction, by what its first part is
 pub and-no : {a : Bool} (b : Bool) → a ≡ false → (a and b) ≡ false

@@ -110,7 +110,7 @@ fn fill_large(
         Attempt::NoRoom => {
             rebuild::clear(out);
             RebuildAnswer::Refused(Refusal::BufferTooShort)
-        },
+        }
     }
 }
 
@@ -173,7 +173,7 @@ fn fill(
                 return RebuildAnswer::Refused(Refusal::BufferTooShort);
             }
             fill_more(what, words, pairs, text, rules, table, k, out)
-        },
+        }
     }
 }
 

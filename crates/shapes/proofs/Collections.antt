@@ -9,7 +9,7 @@ use lib.Dec.{eqb}
 use Rattle.rast.specs.Bytes.{Bytes, ascii, same, _and_, _or_}
 use Rattle.rast.specs.Tree.{Path, Global, Crate, Self, PMemberSelect, Ty, Tys, TypeFromPath, nil, cons, count}
 use Rattle.rast.specs.DeclarationToString.{Expand}
-use Rattle.rast.proofs.BytesLaws.{and-right}
+use Rattle.rast.proofs.BytesLaws.{and-right, or-true, or-false}
 use Rattle.encoding.specs.Refusals.{pick}
 use Rattle.encoding.proofs.Tables.{impossible, same-eq}
 use Rattle.trees.specs.Encode.{words}
@@ -25,7 +25,7 @@ use Rattle.shapes.specs.Parts.{isMap, GetBuiltinCollectionElement, expan
 use Rattle.shapes.specs.Shapes.{IsBuiltinCollection}
 use Rattle.classes.proofs.Applying.{applied-cases, first-found}
 use Rattle.classes.proofs.Children.{some-same}
-use Rattle.shapes.proofs.Pointers.{or-true, or-false, expanded-tree}
+use Rattle.shapes.proofs.Pointers.{expanded-tree}
 
 -- no name is that of a set and of a map
 no-map : (x : Bytes) → isSet x ≡ true → same x (ascii "Map") ≡ true → ⊥

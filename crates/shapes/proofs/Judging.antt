@@ -11,6 +11,7 @@ use lib.ListN.{getD}
 use Rattle.rast.specs.Bytes.{Bytes, _and_, _or_}
 use Rattle.rast.specs.Tree.{PrimitiveTy, U8, U16, U32, U64, U128, I8, I16, I32, I64, I128, USIZE, Bool·, Ty, Primitive, TIdentifier, TypeFromPath, TypeApp, Borrowed, BorrowedMut, ImplType, DynType, TupleType, FnType, IntersectionType, Array, TSynonym, TMetaData}
 use Rattle.rast.specs.DeclarationToString.{Expand}
+use Rattle.rast.proofs.BytesLaws.{or-true, or-false}
 use Rattle.encoding.specs.Tables.{nameBytes}
 use Rattle.encoding.specs.Reading.{Reading, got}
 use Rattle.encoding.specs.Types.{sizeOf, typeAt}
@@ -31,7 +32,6 @@ use Rattle.shapes.specs.Parts.{removedAt, ownedAt, ObjectOrPointerUnderl
 use Rattle.shapes.specs.Shapes.{isFixedNumber, isNumber, isBool, EndsWithNameThatCanAcceptGenerics, IsAutoSize, CanReadWithoutClone, IsRcOrBorrowedRc, IsUninitArray, IsBox, NeedsAsRefForBorrow, IsPointer, IsRc}
 use Rattle.classes.proofs.Children.{ref-below, mut-below, impl-below, dyn-below, display-below, meta-below}
 use Rattle.classes.proofs.Finding.{located, nowhere, first-keeps}
-use Rattle.shapes.proofs.Pointers.{or-true, or-false}
 use Rattle.shapes.proofs.Elements.{holdsUninit, holds-unsized, holds-sized, holds-first, holds-none, uninit-array-is, uninit-array-none}
 use Rattle.wrappers.proofs.Going.{Going, going-to, going-meta, arrived, arrived-by}
 use Rattle.shapes.proofs.Parts.{pointer-keeps}

@@ -26,14 +26,6 @@ and-swap true false = refl
 and-swap false true = refl
 and-swap false false = refl
 
-pub or-true : (a : Bool) → (a or true) ≡ true
-or-true true = refl
-or-true false = refl
-
-pub or-false : (a : Bool) → (a or false) ≡ a
-or-false true = refl
-or-false false = refl
-
 pub multi-array-is : (t : Ty Bytes) → IsMultiArray t ≡ isOf ArrayClass (Expand t)
 unfolding IsMultiArray isOf inClass arity
 multi-array-is t = applied-alike _ _ (λ p ts. and-swap (eqb (count ts) 1) (runtimeMember (begins (ascii "Array")) p)) (Expand t)

@@ -22,10 +22,6 @@ use Rattle.encoding.proofs.Tables.{impossible, everyBelow, every-at, every-at-m
 use Rattle.encoding.proofs.Names.{every-agree}
 use Rattle.measure.proofs.PathNames.{part-next, part-none}
 
-pub or-false : (a : Bool) → (a or false) ≡ a
-or-false true = refl
-or-false false = refl
-
 -- ---- words
 
 word-start : (x : ℕ) → isWordStart x ≡ true → isWordByte x ≡ true

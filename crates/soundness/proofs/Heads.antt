@@ -10,7 +10,7 @@ use lib.Dec.{eqb, ltb}
 use Rattle.rast.specs.Bytes.{Bytes, _and_}
 use Rattle.rast.specs.Tree.{Ty, Tys, TypeApp, Borrowed, BorrowedMut, ImplType, DynType, TupleType, FnType, IntersectionType, TSynonym, nil, cons}
 use Rattle.rast.specs.Sound.{sound, sounds, isNamed, isIntersection, isEmpty}
-use Rattle.rast.proofs.BytesLaws.{and-true}
+use Rattle.rast.proofs.BytesLaws.{and-true, and-assoc}
 use Rattle.encoding.specs.declared.Head.{Head}
 use Rattle.encoding.specs.declared.Head.the-variants.{Plain, Name, FromPath, Apply, Ref, RefMut, Impl, Dyn, Tuple, Function, Both, ArrayOf, Synonym, Meta}
 use Rattle.encoding.specs.Refusals.{pick}
@@ -20,7 +20,6 @@ use Rattle.encoding.specs.Types.{readTypes, readNode}
 use Rattle.encoding.proofs.Types.{made₂-got, snoc}
 use Rattle.measure.proofs.Texts.{types-snoc, types-two}
 use Rattle.soundness.specs.Judging.{unlessJudged, shapeFits, soundAs, soundRest, soundFrom, headFits, wordsSound, headSound, firstJudged, lastJudged, firstAsk, lastAsk}
-use Rattle.soundness.proofs.Names.{and-assoc}
 
 -- ---- types, one behind the other
 

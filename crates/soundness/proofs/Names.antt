@@ -1,14 +1,14 @@
 -- Laws of what is judged, and of names that were found sound.
 use Prim.Native.Nat.{ℕ, zero, suc, _-_, _%_, _≤_, _<_}
 use mathlib.Core.Path.{_≡_, refl, ap, sym, _∙_, subst}
-use mathlib.Core.Bool.{Bool, true, false, not}
+use mathlib.Core.Bool.{Bool, true, false}
 use mathlib.Core.List.{List}
 use native.Mathlib.Omega.{arith}
 use borrow.Author.Tests.{eqb-true, eqb-false, ne-eqb}
 use lib.Dec.{eqb}
 use lib.ListN.{getD, set, replicate, length-set}
 use lib.Seq.{getD-set-same, getD-set-other}
-use Rattle.rast.specs.Bytes.{Bytes, same, _and_}
+use Rattle.rast.specs.Bytes.{Bytes}
 use Rattle.rast.specs.Sound.{soundName, soundSize}
 use Rattle.encoding.specs.Refusals.{pick}
 use Rattle.encoding.specs.Tables.{nameBytes, nameCount}
@@ -18,11 +18,6 @@ use Rattle.soundness.specs.declared.NameCheck.the-variants.{Fine, Poor, 
 use Rattle.soundness.specs.Judging.{Known, unlessJudged, Checked, fine, poor, no-name}
 use Rattle.encoding.proofs.Tables.{impossible}
 use Rattle.sound_names.proofs.Names.{fixed-sound, size-named, size-of-name}
-
-pub and-assoc : (a b c : Bool) → (a and b and c) ≡ (a and (b and c))
-unfolding _and_
-and-assoc true b c = refl
-and-assoc false b c = refl
 
 -- ---- what is judged, and what is not
 

@@ -9,7 +9,7 @@ use lib.ListN.{length, getD, take, drop}
 use Rattle.rast.specs.Bytes.{Bytes, _and_}
 use Rattle.rast.specs.Tree.{Path, Global, Crate, Self, PMemberSelect, MSels}
 use Rattle.rast.specs.Sound.{soundName, soundNames, isGlobal, soundPath}
-use Rattle.rast.proofs.BytesLaws.{and-true}
+use Rattle.rast.proofs.BytesLaws.{and-true, and-assoc}
 use Rattle.encoding.specs.declared.Refusal.{Refusal}
 use Rattle.encoding.specs.declared.Refusal.the-variants.{UnknownWord}
 use Rattle.encoding.specs.declared.PathAt.{PathAt}
@@ -29,7 +29,7 @@ use Rattle.soundness.specs.declared.OwnScan.{OwnScan}
 use Rattle.soundness.specs.declared.OwnScan.the-variants.{Leaf, NotSound, NoNode}
 use Rattle.soundness.specs.Judging.{allNamesSound, unlessJudged, Onward, wordsSound, headSound, Scanned, not-sound, rootScan}
 use Rattle.encoding.proofs.Names.{part-to}
-use Rattle.soundness.proofs.Names.{and-assoc}
+use Rattle.soundness.proofs.Names.{judged-sound}
 use Rattle.soundness.proofs.Scans.{scanned-leaf, scanned-unsound, scanned-stop}
 
 -- ---- the names one by one
@@ -147,12 +147,7 @@ module _ (bound : ℕ) (ws : List ℕ) (name : ℕ → Bytes) (ask start end : �
     onward-end e = names-all bound ws start end i names-to (omega arith)
 
     pub onward-fit : i ≡ end → unlessJudged ask (allNamesSound name (take (end - start) (drop start ws))) ≡ true
-    unfolding unlessJudged
-    onward-fit e = sym (o .fit) ∙ rw (names-end name ws i end (omega arith)) (go (eqb ask 0))
-      where
-        go : (b : Bool) → pick b true true ≡ true
-        go true = refl
-        go false = refl
+    onward-fit e = sym (o .fit) ∙ judged-sound ask (names-end name ws i end (omega arith))
 
 -- ---- the head of a path
 

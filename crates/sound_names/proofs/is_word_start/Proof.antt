@@ -3,7 +3,7 @@ use borrow.Author.Tests.{le-leb, lt-leb, ne-eqb}
 use lib.Dec.{leb}
 use Rattle.rast.specs.Bytes.{_and_}
 use Rattle.rast.specs.Sound.{within, isLetter, isWordStart}
-use Rattle.sound_names.proofs.Names.{or-false}
+use Rattle.rast.proofs.BytesLaws.{or-false}
 use native.Mathlib.Omega.{arith}
 use borrow.Author.Needs.{needs}
 use Rattle.sound_names.proofs.is_word_start.Statement.{statement}
