@@ -4,13 +4,13 @@ use mathlib.Core.Bool.{Bool}
 use mathlib.Core.List.{List}
 use Rattle.encoding.specs.declared.Refusal.{Refusal}
 use Rattle.encoding.specs.Refusals.{Answer, number}
-use Rattle.text.specs.declared.TextAnswer.{TextAnswer}
-use Rattle.text.specs.declared.TextAnswer.the-variants.{Length, Refused}
-use Rattle.soundness.specs.declared.SoundAnswer.{SoundAnswer}
-use Rattle.soundness.specs.declared.SoundAnswer.the-variants.{Sound, Unsound, Refused as Refused·}
-use Rattle.soundness.specs.Calls.{soundAnswer}
-use Rattle.rebuild.specs.declared.RebuildAnswer.{RebuildAnswer}
-use Rattle.rebuild.specs.declared.RebuildAnswer.the-variants.{Length as Rebuilt, Refused as NotRebuilt}
+use Rattle.text_calls.specs.declared.TextAnswer.{TextAnswer}
+use Rattle.text_calls.specs.declared.TextAnswer.the-variants.{Length, Refused}
+use Rattle.sound_type.specs.declared.SoundAnswer.{SoundAnswer}
+use Rattle.sound_type.specs.declared.SoundAnswer.the-variants.{Sound, Unsound, Refused as Refused·}
+use Rattle.sound_type.specs.Calls.{soundAnswer}
+use Rattle.rebuild_type.specs.declared.RebuildAnswer.{RebuildAnswer}
+use Rattle.rebuild_type.specs.declared.RebuildAnswer.the-variants.{Length as Rebuilt, Refused as NotRebuilt}
 use Rattle.shapes.specs.declared.ShapeAnswer.{ShapeAnswer}
 use Rattle.shapes.specs.declared.ShapeAnswer.the-variants.{Yes, No, Refused as NoShape}
 use Rattle.shapes.specs.Asked.{shapeAnswer}

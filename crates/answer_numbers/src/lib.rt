@@ -6,10 +6,10 @@ ghost use Rattle.answer_numbers.specs.Numbers.{refusedNumber, textNumber
 ghost use Rattle.answer_numbers.specs.Limits.{Small};
 use encoding::Refusal;
 use parts::PartAnswer;
-use rebuild::RebuildAnswer;
+use rebuild_type::RebuildAnswer;
 use shapes::ShapeAnswer;
-use soundness::SoundAnswer;
-use text::TextAnswer;
+use sound_type::SoundAnswer;
+use text_calls::TextAnswer;
 use visits::VisitAnswer;
 
 // 2^63 and the refusal's number.

@@ -5,8 +5,8 @@ use mathlib.Core.List.{List}
 use mathlib.Core.Option.{Option}
 use native.Mathlib.Omega.{arith}
 use Rattle.rast.specs.Bytes.{Bytes}
-use Rattle.trees.specs.Places.{Place}
-use Rattle.classes.proofs.Children.{Keeps}
+use Rattle.tree_words.specs.Places.{Place}
+use Rattle.known_paths.proofs.Children.{Keeps}
 use Rattle.parts.specs.declared.PartAnswer.{PartAnswer}
 use Rattle.parts.specs.Answers.{partOf, partAnswer}
 use Rattle.parts.proofs.Spans.{part-few, part-within}

@@ -1,16 +1,16 @@
 // The exported calls, for C and Rust. Each calls one proved function and turns its answer into a number.
 ghost use mathlib.Core.Path.{_≡_};
-ghost use Rattle.text.specs.Calls.{filled, typeText, pathText};
-ghost use Rattle.declaration_call.specs.Calls.{declarationText};
-ghost use Rattle.soundness.specs.Calls.{typeIsSound};
+ghost use Rattle.text_calls.specs.Calls.{filled, typeText, pathText};
+ghost use Rattle.text_declaration_call.specs.Calls.{declarationText};
+ghost use Rattle.sound_type.specs.Calls.{typeIsSound};
 ghost use Rattle.encoding.specs.Refusals.{mapAnswer};
 ghost use Rattle.encoding.specs.Types.{typeOf};
-ghost use Rattle.rebuild.specs.Calls.{laidDown, typeRebuilt};
+ghost use Rattle.rebuild_type.specs.Calls.{laidDown, typeRebuilt};
 ghost use Rattle.shapes.specs.Shapes.{EndsWithNameThatCanAcceptGenerics, IsAutoSize, CanReadWithoutClone, IsRcOrBorrowedRc, IsMultiArray, IsMaybeUninit, IsUninitArray, IsBox, NeedsAsRefForBorrow, IsObject, IsPointer, IsObjectOrPointer, IsBuiltinCollection, IsRc, IsBoxDyn};
 ghost use Rattle.shapes.specs.Parts.{RemoveSynonyms, ExpandAt, ToOwned, MultiArrayUnderlying, BoxUnderlying, ObjectOrPointerUnderlying, RcUnderlying, BoxDynUnderlying, GetBuiltinCollectionElement, ExtractMaybePlacebo, ExtractMaybeUninitArrayElement};
 ghost use Rattle.rebuild_declaration.specs.Calls.{declarationRebuilt};
 ghost use Rattle.parts.specs.Answers.{partOf};
-ghost use Rattle.initialization.specs.Calls.{typeInitialized};
+ghost use Rattle.rebuild_initial.specs.Calls.{typeInitialized};
 ghost use Rattle.visits.specs.Visited.{typeVisits, declarationVisits};
 ghost use Rattle.visits.specs.Calls.{filled as listed};
 ghost use Rattle.answer_numbers.specs.Numbers.{textCall, soundCall, rebuildCall, visitCall, shapeCall, partCall};
@@ -27,7 +27,7 @@ pub extern "C" fn tillercoral_type_text(
 ) -> u64
     ensures { λ n. ⌜ (n, now (out .exit)) ≡ textCall (filled (now (out .entry)) (typeText (now (words .entry)) (now (pairs .entry)) (now (text .entry)) level)) ⌝ }
 {
-    answer_numbers::text_number(text::type_text(words, pairs, text, level, out))
+    answer_numbers::text_number(text_calls::type_text(words, pairs, text, level, out))
 }
 
 #[no_mangle]
@@ -40,7 +40,7 @@ pub extern "C" fn tillercoral_path_text(
 ) -> u64
     ensures { λ n. ⌜ (n, now (out .exit)) ≡ textCall (filled (now (out .entry)) (pathText (now (words .entry)) (now (pairs .entry)) (now (text .entry)) level)) ⌝ }
 {
-    answer_numbers::text_number(text::path_text(words, pairs, text, level, out))
+    answer_numbers::text_number(text_calls::path_text(words, pairs, text, level, out))
 }
 
 #[no_mangle]
@@ -53,14 +53,20 @@ pub extern "C" fn tillercoral_declaration_text(
 ) -> u64
     ensures { λ n. ⌜ (n, now (out .exit)) ≡ textCall (filled (now (out .entry)) (declarationText (now (words .entry)) (now (pairs .entry)) (now (text .entry)) level)) ⌝ }
 {
-    answer_numbers::text_number(declaration_call::declaration_text(words, pairs, text, level, out))
+    answer_numbers::text_number(text_declaration_call::declaration_text(
+        words,
+        pairs,
+        text,
+        level,
+        out,
+    ))
 }
 
 #[no_mangle]
 pub extern "C" fn tillercoral_type_is_sound(words: &[u32], pairs: &[u32], text: &[u8]) -> u64
     ensures { λ n. ⌜ n ≡ soundCall (typeIsSound (now (words .entry)) (now (pairs .entry)) (now (text .entry))) ⌝ }
 {
-    answer_numbers::sound_number(soundness::type_is_sound(words, pairs, text))
+    answer_numbers::sound_number(sound_type::type_is_sound(words, pairs, text))
 }
 
 // ---- rebuilt trees
@@ -75,7 +81,7 @@ pub extern "C" fn tillercoral_type_rebuild(
 ) -> u64
     ensures { λ n. ⌜ (n, now (out .exit)) ≡ rebuildCall (laidDown (now (out .entry)) (typeRebuilt (now (words .entry)) (now (pairs .entry)) (now (text .entry)) (now (rules .entry)))) ⌝ }
 {
-    answer_numbers::rebuild_number(replacement::type_rebuild(words, pairs, text, rules, out))
+    answer_numbers::rebuild_number(rebuild_calls::type_rebuild(words, pairs, text, rules, out))
 }
 
 #[no_mangle]
@@ -88,7 +94,13 @@ pub extern "C" fn tillercoral_declaration_rebuild(
 ) -> u64
     ensures { λ n. ⌜ (n, now (out .exit)) ≡ rebuildCall (laidDown (now (out .entry)) (declarationRebuilt (now (words .entry)) (now (pairs .entry)) (now (text .entry)) (now (rules .entry)))) ⌝ }
 {
-    answer_numbers::rebuild_number(replacement::declaration_rebuild(words, pairs, text, rules, out))
+    answer_numbers::rebuild_number(rebuild_calls::declaration_rebuild(
+        words,
+        pairs,
+        text,
+        rules,
+        out,
+    ))
 }
 
 #[no_mangle]
@@ -100,7 +112,7 @@ pub extern "C" fn tillercoral_type_at_initialization(
 ) -> u64
     ensures { λ n. ⌜ (n, now (out .exit)) ≡ rebuildCall (laidDown (now (out .entry)) (typeInitialized (now (words .entry)) (now (pairs .entry)) (now (text .entry)))) ⌝ }
 {
-    answer_numbers::rebuild_number(initialization::type_at_initialization(words, pairs, text, out))
+    answer_numbers::rebuild_number(rebuild_initial::type_at_initialization(words, pairs, text, out))
 }
 
 // ---- visit lists

@@ -7,7 +7,7 @@ use borrow.Author.Tests.{eqb-true, le-leb, lt-leb, eq-eqb, ne-eqb}
 use lib.Dec.{eqb}
 use lib.ListN.{length}
 use lib.Seq.{sets}
-use Rattle.output.proofs.Laws.{sets-front}
+use Rattle.buffer.proofs.Laws.{sets-front}
 use Rattle.rast.specs.Bytes.{Bytes}
 use Rattle.encoding.specs.declared.Refusal.{Refusal}
 use Rattle.encoding.specs.declared.Refusal.the-variants.{LeftOver, BufferTooShort}

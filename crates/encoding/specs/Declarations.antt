@@ -1,4 +1,4 @@
--- The declaration that an encoding holds: heads 25 to 28, and what follows each, in the order that document 01 gives.
+-- The declaration that an encoding holds: the heads of a form, and what follows each, in the order that document 01 gives.
 use Prim.Native.Nat.{ℕ, zero, suc}
 use mathlib.Core.List.{List, [], _∷_}
 use lib.Dec.{eqb}
@@ -12,19 +12,7 @@ use Rattle.encoding.specs.Reading.{Reading, got, stop, _>>=_, readWord, 
 use Rattle.encoding.specs.Tables.{checkTables, nameBytes, nameCount}
 use Rattle.encoding.specs.Heads.{readPath}
 use Rattle.encoding.specs.Types.{pathOf, typeAt}
-
--- the heads of declarations; their numbers stand here alone
-abbrev pub structHead : ℕ
-structHead = 25
-
-abbrev pub enumHead : ℕ
-enumHead = 26
-
-abbrev pub synonymHead : ℕ
-synonymHead = 27
-
-abbrev pub useHead : ℕ
-useHead = 28
+use Rattle.encoding.specs.Forms.{Form, Entries, plain, present}
 
 -- n things, each read by `item`
 unfoldable pub readList : {A : Type 0} → (ℕ → Reading A) → ℕ → ℕ → Reading (List A)
@@ -51,9 +39,9 @@ module _ {N : Type 0} (bound : ℕ) (ws : List ℕ) (name : ℕ → N) (type : �
   unfoldable pub readAttribute : ℕ → Reading (Attribute N)
   readAttribute at = readName at >>= λ x p. readCounted ws readName p >>= λ xs q. got (record { name = x; derived = xs }) q
 
-  -- "n times (name, m, m types)": one of them
-  unfoldable pub readParameter : ℕ → Reading (TypeParamDecl N)
-  readParameter at = readName at >>= λ x p. readCounted ws type p >>= λ ts q. got (record { name = x; constraints = ts }) q
+  -- "n times (name, m, m types)": one of them, as a form has its entries
+  unfoldable pub readEntryOf : Entries → ℕ → Reading (TypeParamDecl N)
+  readEntryOf plain at = readName at >>= λ x p. readCounted ws type p >>= λ ts q. got (record { name = x; constraints = ts }) q
 
   -- "n times (visibility, name if named, type)": one of them, and of a named one what stands behind the visibility
   unfoldable pub readFormal : ℕ → Reading (Formal N)
@@ -77,35 +65,41 @@ module _ {N : Type 0} (bound : ℕ) (ws : List ℕ) (name : ℕ → N) (type : �
       readName at >>= λ d p. readName p >>= λ x q. readFields q >>= λ fs r.
       got (record { docString = d; name = x; fields = fs }) r
 
-  -- "25 `Struct`: doc, attributes, name, parameters, fields"
-  unfoldable pub readStruct : ℕ → Reading (Struct N)
-  readStruct at =
-      readName at >>= λ d p. readCounted ws readAttribute p >>= λ l q. readName q >>= λ x r. readCounted ws readParameter r >>= λ ps s.
-      readFields s >>= λ fs t. got (record { docString = d; attributes = l; name = x; typeParams = ps; fields = fs }) t
-
-  -- "26 `Enum`: doc, attributes, name, parameters, n, n times (doc, name, fields)"
-  unfoldable pub readEnum : ℕ → Reading (Enum N)
-  readEnum at =
-      readName at >>= λ d p. readCounted ws readAttribute p >>= λ l q. readName q >>= λ x r. readCounted ws readParameter r >>= λ ps s.
-      readCounted ws readCase s >>= λ cs t. got (record { docString = d; attributes = l; name = x; typeParams = ps; variants = cs }) t
-
-  -- "27 `TypeSynonym`: doc, attributes, name, parameters, type"
-  unfoldable pub readTypeSynonym : ℕ → Reading (TypeSynonym N)
-  readTypeSynonym at =
-      readName at >>= λ d p. readCounted ws readAttribute p >>= λ l q. readName q >>= λ x r. readCounted ws readParameter r >>= λ ps s.
-      type s >>= λ t u. got (record { docString = d; attributes = l; name = x; typeParams = ps; tpe = t }) u
-
   -- "28 `Use`: visibility, path"
   unfoldable pub readUse : ℕ → Reading (Use N)
   readUse at = readVisibility ws at >>= λ v p. readPath bound ws p >>= λ x q. got (record { visibility = v; path = pathOf ws name x }) q
 
+-- what has parameters, and the heads, in a form
+module _ {N : Type 0} (form : Form) (bound : ℕ) (ws : List ℕ) (name : ℕ → N) (type : ℕ → Reading (Ty N)) where
+  unfoldable pub readParameter : ℕ → Reading (TypeParamDecl N)
+  unfolding readEntryOf
+  readParameter at = readEntryOf bound ws name type (form .entries) at
+
+  -- "25 `Struct`: doc, attributes, name, parameters, fields"
+  unfoldable pub readStruct : ℕ → Reading (Struct N)
+  readStruct at =
+      readName bound ws name type at >>= λ d p. readCounted ws (readAttribute bound ws name type) p >>= λ l q. readName bound ws name type q >>= λ x r. readCounted ws readParameter r >>= λ ps s.
+      readFields bound ws name type s >>= λ fs t. got (record { docString = d; attributes = l; name = x; typeParams = ps; fields = fs }) t
+
+  -- "26 `Enum`: doc, attributes, name, parameters, n, n times (doc, name, fields)"
+  unfoldable pub readEnum : ℕ → Reading (Enum N)
+  readEnum at =
+      readName bound ws name type at >>= λ d p. readCounted ws (readAttribute bound ws name type) p >>= λ l q. readName bound ws name type q >>= λ x r. readCounted ws readParameter r >>= λ ps s.
+      readCounted ws (readCase bound ws name type) s >>= λ cs t. got (record { docString = d; attributes = l; name = x; typeParams = ps; variants = cs }) t
+
+  -- "27 `TypeSynonym`: doc, attributes, name, parameters, type"
+  unfoldable pub readTypeSynonym : ℕ → Reading (TypeSynonym N)
+  readTypeSynonym at =
+      readName bound ws name type at >>= λ d p. readCounted ws (readAttribute bound ws name type) p >>= λ l q. readName bound ws name type q >>= λ x r. readCounted ws readParameter r >>= λ ps s.
+      type s >>= λ t u. got (record { docString = d; attributes = l; name = x; typeParams = ps; tpe = t }) u
+
   -- what follows the head w
   unfoldable pub declarationAfter : ℕ → ℕ → Reading (Declaration N)
   declarationAfter w p =
-      pick (eqb w structHead) (readStruct p >>= λ s q. got (StructDecl s) q)
-      (pick (eqb w enumHead) (readEnum p >>= λ e q. got (EnumDecl e) q)
-      (pick (eqb w synonymHead) (readTypeSynonym p >>= λ t q. got (TypeDecl t) q)
-      (pick (eqb w useHead) (readUse p >>= λ u q. got (UseDecl u) q)
+      pick (eqb w (form .structHead)) (readStruct p >>= λ s q. got (StructDecl s) q)
+      (pick (eqb w (form .enumHead)) (readEnum p >>= λ e q. got (EnumDecl e) q)
+      (pick (eqb w (form .synonymHead)) (readTypeSynonym p >>= λ t q. got (TypeDecl t) q)
+      (pick (eqb w (form .useHead)) (readUse bound ws name type p >>= λ u q. got (UseDecl u) q)
       (stop UnknownWord))))
 
   unfoldable pub readDeclaration : ℕ → Reading (Declaration N)
@@ -113,7 +107,7 @@ module _ {N : Type 0} (bound : ℕ) (ws : List ℕ) (name : ℕ → N) (type : �
 
 -- the declaration that stands at a position of an encoding
 abbrev pub declarationAt : List ℕ → List ℕ → Bytes → ℕ → Reading (Declaration Bytes)
-declarationAt ws pairs text at = readDeclaration (nameCount pairs) ws (nameBytes pairs text) (typeAt ws pairs text) at
+declarationAt ws pairs text at = readDeclaration present (nameCount pairs) ws (nameBytes pairs text) (typeAt ws pairs text) at
 
 -- the declaration that an encoding holds
 unfoldable pub declarationOf : List ℕ → List ℕ → Bytes → Answer (Declaration Bytes)

@@ -4,6 +4,7 @@ use mathlib.Core.Path.{_≡_}
 use mathlib.Core.List.{List}
 use lib.Dec.{ltb, eqb}
 use lib.ListN.{length, getD}
+use Rattle.encoding.specs.Words.{plainKinds, identifierKind, fromPathKind, typeAppKind, borrowedKind, borrowedMutKind, implKind, dynKind, tupleKind, fnKind, intersectionKind, arrayKind, synonymKind, metaDataKind, leafKinds, rootCount}
 use Rattle.encoding.specs.declared.PathAt.{PathAt}
 use Rattle.encoding.specs.declared.Head.{Head}
 use Rattle.encoding.specs.declared.Head.the-variants.{Plain, Name, FromPath, Apply, Ref, RefMut, Impl, Dyn, Tuple, Function, Both, ArrayOf, Synonym, Meta}
@@ -14,19 +15,19 @@ use Rattle.encoding.specs.Heads.{readHead}
 -- document 01's number for each head
 abbrev pub headKind : Head → ℕ
 headKind (Plain w) = w
-headKind (Name x) = 12
-headKind (FromPath p) = 13
-headKind (Apply n) = 14
-headKind Ref = 15
-headKind RefMut = 16
-headKind Impl = 17
-headKind Dyn = 18
-headKind (Tuple n) = 19
-headKind (Function n) = 20
-headKind Both = 21
-headKind (ArrayOf s) = 22
-headKind Synonym = 23
-headKind (Meta x) = 24
+headKind (Name x) = identifierKind
+headKind (FromPath p) = fromPathKind
+headKind (Apply n) = typeAppKind
+headKind Ref = borrowedKind
+headKind RefMut = borrowedMutKind
+headKind Impl = implKind
+headKind Dyn = dynKind
+headKind (Tuple n) = tupleKind
+headKind (Function n) = fnKind
+headKind Both = intersectionKind
+headKind (ArrayOf s) = arrayKind
+headKind Synonym = synonymKind
+headKind (Meta x) = metaDataKind
 
 -- how many types follow a head
 abbrev pub kids : Head → ℕ
@@ -55,33 +56,33 @@ pub record HeadHere (ws : List ℕ) (at : ℕ) : Type 0 where
 -- how many types follow such a head, by its words: `kids` (`words-kids`)
 unfoldable pub typesBelow : List ℕ → ℕ → ℕ
 typesBelow ws at =
-    pick (ltb (getD ws at 0) 14) 0
-    (pick (eqb (getD ws at 0) 14) (getD ws (at + 1) 0 + 1)
-    (pick (eqb (getD ws at 0) 19) (getD ws (at + 1) 0)
-    (pick (eqb (getD ws at 0) 20) (getD ws (at + 1) 0 + 1)
-    (pick (eqb (getD ws at 0) 21) 2
-    (pick (eqb (getD ws at 0) 23) 2 1)))))
+    pick (ltb (getD ws at 0) leafKinds) 0
+    (pick (eqb (getD ws at 0) typeAppKind) (getD ws (at + 1) 0 + 1)
+    (pick (eqb (getD ws at 0) tupleKind) (getD ws (at + 1) 0)
+    (pick (eqb (getD ws at 0) fnKind) (getD ws (at + 1) 0 + 1)
+    (pick (eqb (getD ws at 0) intersectionKind) 2
+    (pick (eqb (getD ws at 0) synonymKind) 2 1)))))
 
 -- where its own words end, likewise (`words-end`)
 unfoldable pub ownEnd : List ℕ → ℕ → ℕ
 ownEnd ws at =
-    pick (eqb (getD ws at 0) 12) (at + 2)
-    (pick (eqb (getD ws at 0) 13) (at + 3 + getD ws (at + 2) 0)
-    (pick (eqb (getD ws at 0) 14) (at + 2)
-    (pick (eqb (getD ws at 0) 19) (at + 2)
-    (pick (eqb (getD ws at 0) 20) (at + 2)
-    (pick (eqb (getD ws at 0) 22) (at + 2)
-    (pick (eqb (getD ws at 0) 24) (at + 2) (at + 1)))))))
+    pick (eqb (getD ws at 0) identifierKind) (at + 2)
+    (pick (eqb (getD ws at 0) fromPathKind) (at + 3 + getD ws (at + 2) 0)
+    (pick (eqb (getD ws at 0) typeAppKind) (at + 2)
+    (pick (eqb (getD ws at 0) tupleKind) (at + 2)
+    (pick (eqb (getD ws at 0) fnKind) (at + 2)
+    (pick (eqb (getD ws at 0) arrayKind) (at + 2)
+    (pick (eqb (getD ws at 0) metaDataKind) (at + 2) (at + 1)))))))
 
 -- what is true of a path that was read: its root is one of three, and its names stand within the words and are names
 pub record InsidePath (bound : ℕ) (ws : List ℕ) (p : PathAt) : Type 0 where
-  pub root : p .root < 3
+  pub root : p .root < rootCount
   pub inside : p .start + p .count ≤ length ws
   pub below : (i : ℕ) → p .start ≤ i → i < p .start + p .count → getD ws i 0 < bound
 
 -- what is true of a head that was read
 abbrev pub InsideHead : ℕ → List ℕ → Head → Type 0
-InsideHead bound ws (Plain w) = w < 12
+InsideHead bound ws (Plain w) = w < plainKinds
 InsideHead bound ws (Name x) = x < bound
 InsideHead bound ws (FromPath p) = InsidePath bound ws p
 InsideHead bound ws (Apply n) = Unit {0}

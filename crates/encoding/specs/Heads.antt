@@ -2,6 +2,7 @@
 use Prim.Native.Nat.{ℕ, _+_}
 use mathlib.Core.List.{List}
 use lib.Dec.{ltb, eqb}
+use Rattle.encoding.specs.Words.{plainKinds, identifierKind, fromPathKind, typeAppKind, borrowedKind, borrowedMutKind, implKind, dynKind, tupleKind, fnKind, intersectionKind, arrayKind, synonymKind, metaDataKind, flagCount, rootCount}
 use Rattle.encoding.specs.declared.Refusal.the-variants.{UnknownWord}
 use Rattle.encoding.specs.declared.PathAt.{PathAt}
 use Rattle.encoding.specs.declared.Head.{Head}
@@ -12,7 +13,7 @@ use Rattle.encoding.specs.Reading.{Reading, got, stop, _>>=_, readWord, 
 -- a path: its root, how many names, and the names; it is kept by the place of its names
 unfoldable pub readPath : ℕ → List ℕ → ℕ → Reading PathAt
 readPath bound ws at =
-    readBelow 3 ws at >>= λ root p. readWord ws p >>= λ n q. readNames bound ws n q >>= λ u r.
+    readBelow rootCount ws at >>= λ root p. readWord ws p >>= λ n q. readNames bound ws n q >>= λ u r.
     got (record { root = root; start = q; count = n }) r
 
 unfoldable pub pathHead : ℕ → List ℕ → ℕ → Reading Head
@@ -21,20 +22,20 @@ pathHead bound ws p = readPath bound ws p >>= λ x q. got (FromPath x) q
 -- what follows the kind w
 unfoldable pub headAfter : ℕ → List ℕ → ℕ → ℕ → Reading Head
 headAfter bound ws w p =
-    pick (ltb w 12) (got (Plain w) p)
-    (pick (eqb w 12) (readBelow bound ws p >>= λ x q. got (Name x) q)
-    (pick (eqb w 13) (pathHead bound ws p)
-    (pick (eqb w 14) (readWord ws p >>= λ n q. got (Apply n) q)
-    (pick (eqb w 15) (got Ref p)
-    (pick (eqb w 16) (got RefMut p)
-    (pick (eqb w 17) (got Impl p)
-    (pick (eqb w 18) (got Dyn p)
-    (pick (eqb w 19) (readWord ws p >>= λ n q. got (Tuple n) q)
-    (pick (eqb w 20) (readWord ws p >>= λ n q. got (Function n) q)
-    (pick (eqb w 21) (got Both p)
-    (pick (eqb w 22) (readBelow (bound + 1) ws p >>= λ s q. got (ArrayOf s) q)
-    (pick (eqb w 23) (got Synonym p)
-    (pick (eqb w 24) (readBelow 4 ws p >>= λ x q. got (Meta x) q)
+    pick (ltb w plainKinds) (got (Plain w) p)
+    (pick (eqb w identifierKind) (readBelow bound ws p >>= λ x q. got (Name x) q)
+    (pick (eqb w fromPathKind) (pathHead bound ws p)
+    (pick (eqb w typeAppKind) (readWord ws p >>= λ n q. got (Apply n) q)
+    (pick (eqb w borrowedKind) (got Ref p)
+    (pick (eqb w borrowedMutKind) (got RefMut p)
+    (pick (eqb w implKind) (got Impl p)
+    (pick (eqb w dynKind) (got Dyn p)
+    (pick (eqb w tupleKind) (readWord ws p >>= λ n q. got (Tuple n) q)
+    (pick (eqb w fnKind) (readWord ws p >>= λ n q. got (Function n) q)
+    (pick (eqb w intersectionKind) (got Both p)
+    (pick (eqb w arrayKind) (readBelow (bound + 1) ws p >>= λ s q. got (ArrayOf s) q)
+    (pick (eqb w synonymKind) (got Synonym p)
+    (pick (eqb w metaDataKind) (readBelow flagCount ws p >>= λ x q. got (Meta x) q)
     (stop UnknownWord))))))))))))))
 
 unfoldable pub readHead : ℕ → List ℕ → ℕ → Reading Head

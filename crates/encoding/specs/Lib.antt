@@ -1,3 +1,4 @@
+pub mod Words
 pub mod Refusals
 pub mod Filled
 pub mod Reading
@@ -7,4 +8,5 @@ pub mod Heads
 pub mod HeadWords
 pub mod Scans
 pub mod Types
+pub mod Forms
 pub mod Declarations

@@ -1,6 +1,7 @@
 -- The code's answers, from the readings that they stand for, and a reading of something else from one.
 use Prim.Native.Nat.{ℕ}
 use lib.Dec.{eqb}
+use Rattle.encoding.specs.Words.{identifierKind, typeAppKind, tupleKind, fnKind, arrayKind}
 use Rattle.encoding.specs.declared.PathAt.{PathAt}
 use Rattle.encoding.specs.declared.Head.{Head}
 use Rattle.encoding.specs.declared.Head.the-variants.{Name, Apply, Tuple, Function, ArrayOf, Meta}
@@ -35,7 +36,7 @@ headScan (stop r) = NoHead r
 -- the head of a kind that has one own word
 unfoldable pub headOf : ℕ → ℕ → Head
 headOf w x =
-    pick (eqb w 12) (Name x) (pick (eqb w 14) (Apply x) (pick (eqb w 19) (Tuple x) (pick (eqb w 20) (Function x) (pick (eqb w 22) (ArrayOf x) (Meta x)))))
+    pick (eqb w identifierKind) (Name x) (pick (eqb w typeAppKind) (Apply x) (pick (eqb w tupleKind) (Tuple x) (pick (eqb w fnKind) (Function x) (pick (eqb w arrayKind) (ArrayOf x) (Meta x)))))
 
 abbrev pub ownWord : ℕ → WordScan → HeadScan
 ownWord w (Word x n) = Own (headOf w x) n

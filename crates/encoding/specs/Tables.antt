@@ -5,6 +5,7 @@ use mathlib.Core.List.{List, [], _∷_}
 use lib.Dec.{leb, ltb}
 use lib.ListN.{length, getD, take, drop}
 use Rattle.rast.specs.Bytes.{Bytes, ascii, _and_, _or_}
+use Rattle.encoding.specs.Words.{firstPair, maxWords, maxPairs, maxText, maxLevel}
 use Rattle.encoding.specs.declared.Refusal.the-variants.{Overlong, BadPair, BadLevel}
 use Rattle.encoding.specs.declared.Check.{Check}
 use Rattle.encoding.specs.declared.Check.the-variants.{Passed, Failed}
@@ -12,11 +13,11 @@ use Rattle.encoding.specs.Refusals.{pick}
 
 -- levels 0 to 16
 unfoldable pub checkLevel : ℕ → Check
-checkLevel level = pick (ltb 16 level) (Failed BadLevel) Passed
+checkLevel level = pick (ltb maxLevel level) (Failed BadLevel) Passed
 
 -- a limit on words, whole pairs or text bytes is passed
 unfoldable pub overlong : List ℕ → List ℕ → Bytes → Bool
-overlong words pairs text = ltb 8192 (length words) or ltb 1024 (length pairs / 2) or ltb 16384 (length text)
+overlong words pairs text = ltb maxWords (length words) or ltb maxPairs (length pairs / 2) or ltb maxText (length text)
 
 -- each pair, offset and length, begins at or behind the end of the one before and ends inside the text; half a pair does not
 unfoldable pub goodPairs : List ℕ → ℕ → ℕ → Bool
@@ -44,8 +45,8 @@ pairBytes pairs text i = take (getD pairs (2 * i + 1) 0) (drop (getD pairs (2 * 
 
 -- the bytes of a name by its number: 16 + i is pair i
 unfoldable pub nameBytes : List ℕ → Bytes → ℕ → Bytes
-nameBytes pairs text x = pick (ltb x 16) (getD fixedNames x []) (pairBytes pairs text (x - 16))
+nameBytes pairs text x = pick (ltb x firstPair) (getD fixedNames x []) (pairBytes pairs text (x - firstPair))
 
 -- how many name numbers there are
 abbrev pub nameCount : List ℕ → ℕ
-nameCount pairs = length pairs / 2 + 16
+nameCount pairs = length pairs / 2 + firstPair

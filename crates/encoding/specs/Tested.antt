@@ -6,6 +6,7 @@ use mathlib.Core.List.{List, []}
 use lib.Dec.{ltb}
 use lib.ListN.{length, getD, take, drop}
 use Rattle.rast.specs.Bytes.{Bytes}
+use Rattle.encoding.specs.Words.{firstPair}
 use Rattle.encoding.specs.declared.Check.{Check}
 use Rattle.encoding.specs.declared.Check.the-variants.{Passed, Failed}
 use Rattle.encoding.specs.Refusals.{pick}
@@ -26,13 +27,13 @@ digitAt table place = table / 2 ^ (4 * place) % 16
 
 -- the letters hold each fixed name from its start on
 pub record HoldsNames (letters : Bytes) (starts : List ℕ) : Type 0 where
-  pub part : (k : ℕ) → k < 16 → take (length (getD fixedNames k [])) (drop (getD starts k 0) letters) ≡ getD fixedNames k []
-  pub inside : (k : ℕ) → k < 16 → getD starts k 0 + length (getD fixedNames k []) ≤ 75
+  pub part : (k : ℕ) → k < firstPair → take (length (getD fixedNames k [])) (drop (getD starts k 0) letters) ≡ getD fixedNames k []
+  pub inside : (k : ℕ) → k < firstPair → getD starts k 0 + length (getD fixedNames k []) ≤ 75
   pub size : length letters ≡ 75
 
 -- how long a name is, by the table of pairs alone
 unfoldable pub nameLength : List ℕ → ℕ → ℕ
-nameLength pairs x = pick (ltb x 16) (length (getD fixedNames x [])) (getD pairs (2 * (x - 16) + 1) 0)
+nameLength pairs x = pick (ltb x firstPair) (length (getD fixedNames x [])) (getD pairs (2 * (x - firstPair) + 1) 0)
 
 -- the pairs keep the table's rule
 abbrev pub Good : List ℕ → Bytes → Type 0

@@ -6,6 +6,7 @@ use lib.Dec.{eqb, leb}
 use lib.ListN.{length, getD, take, drop}
 use Rattle.rast.specs.Bytes.{Bytes}
 use Rattle.rast.specs.Tree.{Path, Global, Crate, Self, MSels, PrimitiveTy, U8, U16, U32, U64, U128, I8, I16, I32, I64, I128, USIZE, Bool·, Ty, Tys, Primitive, TIdentifier, TypeFromPath, TypeApp, Borrowed, BorrowedMut, ImplType, DynType, TupleType, FnType, IntersectionType, Array, TSynonym, TMetaData, nil, cons}
+use Rattle.encoding.specs.Words.{maxDepth}
 use Rattle.encoding.specs.declared.Refusal.the-variants.{TooDeep}
 use Rattle.encoding.specs.declared.PathAt.{PathAt}
 use Rattle.encoding.specs.declared.Head.{Head}
@@ -60,7 +61,7 @@ readType bound ws name (suc deep) at = readHead bound ws at >>= λ h p. readNode
 
 -- the type that stands at a position of an encoding
 abbrev pub typeAt : List ℕ → List ℕ → Bytes → ℕ → Reading (Ty Bytes)
-typeAt ws pairs text at = readType (nameCount pairs) ws (nameBytes pairs text) 64 at
+typeAt ws pairs text at = readType (nameCount pairs) ws (nameBytes pairs text) maxDepth at
 
 -- the type that an encoding holds, and the path
 unfoldable pub typeOf : List ℕ → List ℕ → Bytes → Answer (Ty Bytes)

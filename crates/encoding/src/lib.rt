@@ -7,8 +7,9 @@ ghost use lib.ListN.{length, getD, take, drop};
 ghost use Rattle.rast.specs.Bytes.{same};
 ghost use Rattle.rast.specs.Tree.{U8};
 ghost use Rattle.rast.specs.ToString.{Primitive·ToString};
-ghost use Rattle.output.specs.Wrote.{Wrote};
+ghost use Rattle.buffer.specs.Wrote.{Wrote};
 ghost use Rattle.encoding.specs.Refusals.{number};
+ghost use Rattle.encoding.specs.Words.{plainKinds, firstPair};
 ghost use Rattle.encoding.specs.Tables.{checkLevel, checkTables, goodPairs, fixedNames, nameBytes, nameCount};
 ghost use Rattle.encoding.specs.Tested.{checkCall, HoldsNames, digitAt, nameLength, Good};
 ghost use Rattle.encoding.specs.Reading.{readWord, readBelow, readNames};
@@ -16,6 +17,30 @@ ghost use Rattle.encoding.specs.Types.{primitives};
 ghost use Rattle.encoding.specs.Heads.{readPath, pathHead, headAfter, readHead};
 ghost use Rattle.encoding.specs.HeadWords.{HeadHere, typesBelow, ownEnd};
 ghost use Rattle.encoding.specs.Scans.{wordScan, ended, pathScan, headScan, headOf, ownWord};
+use crate::words::ARRAY;
+use crate::words::BORROWED;
+use crate::words::BORROWED_MUT;
+use crate::words::DYN_TYPE;
+use crate::words::FIRST_PAIR;
+use crate::words::FIXED_NAMES;
+use crate::words::FLAGS;
+use crate::words::FN_TYPE;
+use crate::words::IMPL_TYPE;
+use crate::words::INTERSECTION_TYPE;
+use crate::words::MAX_LEVEL;
+use crate::words::MAX_PAIRS;
+use crate::words::MAX_TEXT;
+use crate::words::MAX_WORDS;
+use crate::words::PLAIN_KINDS;
+use crate::words::ROOTS;
+use crate::words::T_IDENTIFIER;
+use crate::words::T_META_DATA;
+use crate::words::T_SYNONYM;
+use crate::words::TUPLE_TYPE;
+use crate::words::TYPE_APP;
+use crate::words::TYPE_FROM_PATH;
+
+pub mod words;
 
 // Document 01's refusals. `Refusals.number` gives the number of each.
 pub enum Refusal {
@@ -59,7 +84,7 @@ pub enum Check {
 fn check_level(level: u32) -> Check
     ensures { λ r. ⌜ r ≡ checkLevel level ⌝ }
 {
-    if 16 < level {
+    if MAX_LEVEL < level {
         return Check::Failed(Refusal::BadLevel);
     }
     Check::Passed
@@ -93,13 +118,13 @@ fn pairs_hold(pairs: &[u32], size: usize) -> bool
 pub fn check_tables(words: &[u32], pairs: &[u32], text: &[u8]) -> Check
     ensures { λ r. ⌜ r ≡ checkTables (now (words .entry)) (now (pairs .entry)) (now (text .entry)) ⌝ }
 {
-    if 8192 < words.len() {
+    if MAX_WORDS < words.len() {
         return Check::Failed(Refusal::Overlong);
     }
-    if 1024 < pairs.len() / 2 {
+    if MAX_PAIRS < pairs.len() / 2 {
         return Check::Failed(Refusal::Overlong);
     }
-    if 16384 < text.len() {
+    if MAX_TEXT < text.len() {
         return Check::Failed(Refusal::Overlong);
     }
     if pairs_hold(pairs, text.len()) {
@@ -120,7 +145,7 @@ pub fn check_call(words: &[u32], pairs: &[u32], text: &[u8], level: u32) -> Chec
 
 // The sixteen fixed names stand one behind the other in `fixed_names`: where each starts. The string is laid out in pieces of 16, 8, 2 and 1
 // bytes, and their order is such that each name lies in one piece: a load over two pieces that were just stored would wait for both.
-const STARTS: [u8; 16] = [0, 48, 72, 70, 12, 51, 43, 54, 57, 32, 16, 64, 29, 0, 74, 60];
+const STARTS: [u8; FIXED_NAMES] = [0, 48, 72, 70, 12, 51, 43, 54, 57, 32, 16, 64, 29, 0, 74, 60];
 
 // How long each fixed name is, a hexadecimal digit for each from the right. An array would be laid out at each use, and what is read from it would wait for that;
 // the branches by a name's length would wait with it.
@@ -136,7 +161,7 @@ pub fn digit(table: u64, place: u32) -> usize
 
 // How long a fixed name is.
 fn fixed_length(name: u32) -> usize
-    requires { ⌜ name < 16 ⌝ }
+    requires { ⌜ name < firstPair ⌝ }
     ensures { λ r. ⌜ r ≡ length (getD fixedNames name []) ⌝ }
 {
     digit(LENGTHS, name)
@@ -146,15 +171,15 @@ fn fixed_length(name: u32) -> usize
 pub fn name_count(pairs: &[u32]) -> usize
     ensures { λ r. ⌜ r ≡ nameCount (now (pairs .entry)) ⌝ }
 {
-    pairs.len() / 2 + 16
+    pairs.len() / 2 + FIXED_NAMES
 }
 
 // A word of the pair of a name that stands in the text: 0 for its start there, 1 for its length.
 pub fn pair_word(pairs: &[u32], name: u32, k: usize) -> usize
-    requires { ⌜ (16 ≤ name) × (name < nameCount (now pairs)) × (k < 2) ⌝ }
-    ensures { λ r. ⌜ (r ≡ getD (now (pairs .entry)) (2 * (name - 16) + k) 0) × (r < 2 ^ 32) ⌝ }
+    requires { ⌜ (firstPair ≤ name) × (name < nameCount (now pairs)) × (k < 2) ⌝ }
+    ensures { λ r. ⌜ (r ≡ getD (now (pairs .entry)) (2 * (name - firstPair) + k) 0) × (r < 2 ^ 32) ⌝ }
 {
-    let i = (name - 16) as usize;
+    let i = (name - FIRST_PAIR) as usize;
     pairs[2 * i + k] as usize
 }
 
@@ -163,7 +188,7 @@ pub fn name_length(pairs: &[u32], name: u32) -> usize
     requires { ⌜ name < nameCount (now pairs) ⌝ }
     ensures { λ r. ⌜ r ≡ nameLength (now (pairs .entry)) name ⌝ }
 {
-    if name < 16 {
+    if name < FIRST_PAIR {
         return fixed_length(name);
     }
     pair_word(pairs, name, 1)
@@ -172,7 +197,7 @@ pub fn name_length(pairs: &[u32], name: u32) -> usize
 // The fixed names, where they can be lent: a path lays them out once for all its names.
 pub struct FixedNames {
     pub letters: [u8; 75],
-    pub starts: [u8; 16],
+    pub starts: [u8; FIXED_NAMES],
 }
 
 pub fn fixed_names() -> FixedNames
@@ -187,21 +212,21 @@ pub fn fixed_names() -> FixedNames
 // The bytes of a fixed name.
 pub fn put_fixed(
     letters: &[u8; 75],
-    starts: &[u8; 16],
+    starts: &[u8; FIXED_NAMES],
     name: u32,
     out: &mut [u8],
     pos: usize,
 ) -> usize
-    requires { ⌜ HoldsNames (now letters) (now starts) × (name < 16) × (pos + length (getD fixedNames name []) ≤ length (now out)) ⌝ }
+    requires { ⌜ HoldsNames (now letters) (now starts) × (name < firstPair) × (pos + length (getD fixedNames name []) ≤ length (now out)) ⌝ }
     ensures { λ r. ⌜ Wrote (now (out .entry)) pos (getD fixedNames name []) (now (out .exit)) r ⌝ }
 {
     let start = starts[name as usize] as usize;
-    output::put_part(letters, start, fixed_length(name), out, pos)
+    buffer::put_part(letters, start, fixed_length(name), out, pos)
 }
 
 // The same, from tables of its own.
 fn put_one_fixed(name: u32, out: &mut [u8], pos: usize) -> usize
-    requires { ⌜ (name < 16) × (pos + length (getD fixedNames name []) ≤ length (now out)) ⌝ }
+    requires { ⌜ (name < firstPair) × (pos + length (getD fixedNames name []) ≤ length (now out)) ⌝ }
     ensures { λ r. ⌜ Wrote (now (out .entry)) pos (getD fixedNames name []) (now (out .exit)) r ⌝ }
 {
     let FixedNames { letters, starts } = fixed_names();
@@ -210,12 +235,12 @@ fn put_one_fixed(name: u32, out: &mut [u8], pos: usize) -> usize
 
 // The bytes of a name that stands in the text.
 pub fn put_pair(pairs: &[u32], text: &[u8], name: u32, out: &mut [u8], pos: usize) -> usize
-    requires { ⌜ (16 ≤ name) × (name < nameCount (now pairs)) × Good (now pairs) (now text)
+    requires { ⌜ (firstPair ≤ name) × (name < nameCount (now pairs)) × Good (now pairs) (now text)
         × (pos + length (nameBytes (now pairs) (now text) name) ≤ length (now out)) ⌝ }
     ensures { λ r. ⌜ Wrote (now (out .entry)) pos (nameBytes (now (pairs .entry)) (now (text .entry)) name) (now (out .exit)) r ⌝ }
 {
     let start = pair_word(pairs, name, 0);
-    output::put_part(text, start, pair_word(pairs, name, 1), out, pos)
+    buffer::put_part(text, start, pair_word(pairs, name, 1), out, pos)
 }
 
 // The bytes of a name.
@@ -224,7 +249,7 @@ pub fn put_name(pairs: &[u32], text: &[u8], name: u32, out: &mut [u8], pos: usiz
         × (pos + length (nameBytes (now pairs) (now text) name) ≤ length (now out)) ⌝ }
     ensures { λ r. ⌜ Wrote (now (out .entry)) pos (nameBytes (now (pairs .entry)) (now (text .entry)) name) (now (out .exit)) r ⌝ }
 {
-    if name < 16 {
+    if name < FIRST_PAIR {
         return put_one_fixed(name, out, pos);
     }
     put_pair(pairs, text, name, out, pos)
@@ -235,7 +260,7 @@ const PRIMITIVE_LENGTHS: u64 = 0x454333243332;
 
 // How long a plain type's text is.
 pub fn primitive_length(kind: u32) -> usize
-    requires { ⌜ kind < 12 ⌝ }
+    requires { ⌜ kind < plainKinds ⌝ }
     ensures { λ r. ⌜ (r ≡ length (Primitive·ToString (getD primitives kind U8))) × (r ≤ 5) ⌝ }
 {
     digit(PRIMITIVE_LENGTHS, kind)
@@ -284,7 +309,7 @@ pub fn all_bytes(s: &[u8]) -> &[u8]
 
 // The bytes of a name that stands in the text.
 pub fn pair_bytes<'a>(pairs: &[u32], text: &'a [u8], name: u32) -> &'a [u8]
-    requires { ⌜ (16 ≤ name) × (name < nameCount (now pairs)) × Good (now pairs) (now text) ⌝ }
+    requires { ⌜ (firstPair ≤ name) × (name < nameCount (now pairs)) × Good (now pairs) (now text) ⌝ }
     ensures { λ r. ⌜ now r ≡ nameBytes (now (pairs .entry)) (now (text .entry)) name ⌝ }
 {
     let start = pair_word(pairs, name, 0);
@@ -293,10 +318,10 @@ pub fn pair_bytes<'a>(pairs: &[u32], text: &'a [u8], name: u32) -> &'a [u8]
 
 // Whether a name is the fixed name `k`, whose bytes are `bytes`.
 pub fn is_name(pairs: &[u32], text: &[u8], name: u32, k: u32, bytes: &[u8]) -> bool
-    requires { ⌜ (name < nameCount (now pairs)) × Good (now pairs) (now text) × (k < 16) × (now bytes ≡ getD fixedNames k []) ⌝ }
+    requires { ⌜ (name < nameCount (now pairs)) × Good (now pairs) (now text) × (k < firstPair) × (now bytes ≡ getD fixedNames k []) ⌝ }
     ensures { λ r. ⌜ r ≡ same (nameBytes (now (pairs .entry)) (now (text .entry)) name) (getD fixedNames k []) ⌝ }
 {
-    if name < 16 {
+    if name < FIRST_PAIR {
         return name == k;
     }
     same_bytes(pair_bytes(pairs, text, name), bytes)
@@ -403,7 +428,7 @@ pub fn scan_names(words: &[u32], bound: usize, at: usize, count: u32) -> Scan
 pub fn scan_path(words: &[u32], bound: usize, at: usize) -> PathScan
     ensures { λ r. ⌜ r ≡ pathScan (readPath bound (now (words .entry)) at) ⌝ }
 {
-    match scan_below(words, 3, at) {
+    match scan_below(words, ROOTS, at) {
         WordScan::Word {
             value: root,
             next: p,
@@ -429,11 +454,11 @@ fn head_of(w: u32, x: u32) -> Head
     ensures { λ r. ⌜ r ≡ headOf w x ⌝ }
 {
     match w {
-        12 => Head::Name(x),
-        14 => Head::Apply(x),
-        19 => Head::Tuple(x),
-        20 => Head::Function(x),
-        22 => Head::ArrayOf(x),
+        T_IDENTIFIER => Head::Name(x),
+        TYPE_APP => Head::Apply(x),
+        TUPLE_TYPE => Head::Tuple(x),
+        FN_TYPE => Head::Function(x),
+        ARRAY => Head::ArrayOf(x),
         _ => Head::Meta(x),
     }
 }
@@ -464,43 +489,43 @@ fn scan_path_head(words: &[u32], bound: usize, at: usize) -> HeadScan
     }
 }
 
-// The head of kind `w`, 12 or above, whose further words begin at `at`.
+// The head of kind `w`, no plain type, whose further words begin at `at`.
 fn scan_after(words: &[u32], bound: usize, w: u32, at: usize) -> HeadScan
-    requires { ⌜ (12 ≤ w) × (bound < 2 ^ 63) ⌝ }
+    requires { ⌜ (plainKinds ≤ w) × (bound < 2 ^ 63) ⌝ }
     ensures { λ r. ⌜ r ≡ headScan (headAfter bound (now (words .entry)) w at) ⌝ }
 {
     match w {
-        12 => own_word(w, scan_below(words, bound, at)),
-        13 => scan_path_head(words, bound, at),
-        14 => own_word(w, scan_word(words, at)),
-        15 => HeadScan::Own {
+        T_IDENTIFIER => own_word(w, scan_below(words, bound, at)),
+        TYPE_FROM_PATH => scan_path_head(words, bound, at),
+        TYPE_APP => own_word(w, scan_word(words, at)),
+        BORROWED => HeadScan::Own {
             head: Head::Ref,
             next: at,
         },
-        16 => HeadScan::Own {
+        BORROWED_MUT => HeadScan::Own {
             head: Head::RefMut,
             next: at,
         },
-        17 => HeadScan::Own {
+        IMPL_TYPE => HeadScan::Own {
             head: Head::Impl,
             next: at,
         },
-        18 => HeadScan::Own {
+        DYN_TYPE => HeadScan::Own {
             head: Head::Dyn,
             next: at,
         },
-        19 => own_word(w, scan_word(words, at)),
-        20 => own_word(w, scan_word(words, at)),
-        21 => HeadScan::Own {
+        TUPLE_TYPE => own_word(w, scan_word(words, at)),
+        FN_TYPE => own_word(w, scan_word(words, at)),
+        INTERSECTION_TYPE => HeadScan::Own {
             head: Head::Both,
             next: at,
         },
-        22 => own_word(w, scan_below(words, bound + 1, at)),
-        23 => HeadScan::Own {
+        ARRAY => own_word(w, scan_below(words, bound + 1, at)),
+        T_SYNONYM => HeadScan::Own {
             head: Head::Synonym,
             next: at,
         },
-        24 => own_word(w, scan_below(words, 4, at)),
+        T_META_DATA => own_word(w, scan_below(words, FLAGS, at)),
         _ => HeadScan::NoHead(Refusal::UnknownWord),
     }
 }
@@ -514,7 +539,7 @@ pub fn scan_head(words: &[u32], bound: usize, at: usize) -> HeadScan
         return HeadScan::NoHead(Refusal::EndsEarly);
     }
     let w = words[at];
-    if w < 12 {
+    if w < PLAIN_KINDS {
         return HeadScan::Own {
             head: Head::Plain(w),
             next: at + 1,
@@ -549,43 +574,6 @@ fn path_end(words: &[u32], at: usize) -> usize
     at + 3 + words[at + 2] as usize
 }
 
-// How many types follow the head at `at`.
-pub fn types_below(words: &[u32], at: usize) -> usize
-    requires { ⌜ HeadHere (now words) at ⌝ }
-    ensures { λ r. ⌜ r ≡ typesBelow (now (words .entry)) at ⌝ }
-{
-    let w = kind_at(words, at);
-    if w < 14 {
-        return 0;
-    }
-    match w {
-        14 => second_word(words, at) + 1,
-        19 => second_word(words, at),
-        20 => second_word(words, at) + 1,
-        21 => 2,
-        23 => 2,
-        _ => 1,
-    }
-}
-
-// Where the own words of the head at `at` end.
-pub fn own_end(words: &[u32], at: usize) -> usize
-    requires { ⌜ HeadHere (now words) at ⌝ }
-    ensures { λ r. ⌜ r ≡ ownEnd (now (words .entry)) at ⌝ }
-{
-    let w = kind_at(words, at);
-    match w {
-        12 => at + 2,
-        13 => path_end(words, at),
-        14 => at + 2,
-        19 => at + 2,
-        20 => at + 2,
-        22 => at + 2,
-        24 => at + 2,
-        _ => at + 1,
-    }
-}
-
 // Behind a head: where its own words end, and how many types are due there.
 pub struct Onward {
     pub next: usize,
@@ -598,24 +586,24 @@ fn go_on(next: usize, due: usize) -> Onward
     Onward { next, due }
 }
 
-// The first of `due` types has its head, of kind `w`, at `at`. One match says both what `types_below` and what `own_end` say.
+// The first of `due` types has its head, of kind `w`, at `at`. Where its own words end, and how many types are then due.
 pub fn pass_kind(words: &[u32], w: u32, at: usize, due: usize) -> Onward
     requires { ⌜ (w ≡ getD (now words) at 0) × (at < length (now words)) × HeadHere (now words) at × (0 < due) × (due - 1 + typesBelow (now words) at < 2 ^ 63) ⌝ }
     ensures { λ r. ⌜ (r .next ≡ ownEnd (now (words .entry)) at) × (r .due ≡ due - 1 + typesBelow (now (words .entry)) at) ⌝ }
 {
-    if w < 12 {
+    if w < PLAIN_KINDS {
         return go_on(at + 1, due - 1);
     }
     match w {
-        12 => go_on(at + 2, due - 1),
-        13 => go_on(path_end(words, at), due - 1),
-        14 => go_on(at + 2, due + second_word(words, at)),
-        19 => go_on(at + 2, due - 1 + second_word(words, at)),
-        20 => go_on(at + 2, due + second_word(words, at)),
-        21 => go_on(at + 1, due + 1),
-        22 => go_on(at + 2, due),
-        23 => go_on(at + 1, due + 1),
-        24 => go_on(at + 2, due),
+        T_IDENTIFIER => go_on(at + 2, due - 1),
+        TYPE_FROM_PATH => go_on(path_end(words, at), due - 1),
+        TYPE_APP => go_on(at + 2, due + second_word(words, at)),
+        TUPLE_TYPE => go_on(at + 2, due - 1 + second_word(words, at)),
+        FN_TYPE => go_on(at + 2, due + second_word(words, at)),
+        INTERSECTION_TYPE => go_on(at + 1, due + 1),
+        ARRAY => go_on(at + 2, due),
+        T_SYNONYM => go_on(at + 1, due + 1),
+        T_META_DATA => go_on(at + 2, due),
         _ => go_on(at + 1, due),
     }
 }

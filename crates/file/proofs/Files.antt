@@ -9,16 +9,16 @@ use lib.Dec.{leb, ltb, eqb}
 use lib.ListN.{length, take, drop, length-drop}
 use lib.Seq.{length-take-le, getD-take, take-all}
 use Rattle.rast.specs.Bytes.{Bytes, _or_}
-use Rattle.output.specs.Wrote.{Wrote}
-use Rattle.output.proofs.Laws.{wrote-front}
+use Rattle.buffer.specs.Wrote.{Wrote}
+use Rattle.buffer.proofs.Laws.{wrote-front}
 use Rattle.encoding.specs.declared.Refusal.the-variants.{Overlong, BadFileLength}
 use Rattle.encoding.specs.Refusals.{pick, refused}
-use Rattle.numbers.specs.Numbers.{numberAt, numbersAt}
-use Rattle.numbers.proofs.Fronts.{front-back}
-use Rattle.text.specs.declared.TextAnswer.the-variants.{Refused}
-use Rattle.text.specs.Calls.{filled}
+use Rattle.little_endian.specs.Numbers.{numberAt, numbersAt}
+use Rattle.little_endian.proofs.Fronts.{front-back}
+use Rattle.text_calls.specs.declared.TextAnswer.the-variants.{Refused}
+use Rattle.text_calls.specs.Calls.{filled}
 use Rattle.encoding.specs.Filled.{filledBy}
-use Rattle.declaration_call.specs.Calls.{declarationText}
+use Rattle.text_declaration_call.specs.Calls.{declarationText}
 use Rattle.file.specs.File.{encodedText, describedText, fileText, printed, printedFile}
 
 -- ---- what is lent to the call

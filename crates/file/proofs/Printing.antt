@@ -10,15 +10,15 @@ use lib.Dec.{ltb}
 use lib.ListN.{length, set, take, drop, length-append, take-append-drop}
 use lib.Seq.{drop-append-le, length-take-le}
 use Rattle.rast.specs.Bytes.{Bytes, ascii}
-use Rattle.output.specs.Wrote.{Wrote}
-use Rattle.output.proofs.Laws.{wrote-then, wrote-as, sets-front}
+use Rattle.buffer.specs.Wrote.{Wrote}
+use Rattle.buffer.proofs.Laws.{wrote-then, wrote-as, sets-front}
 use Rattle.encoding.specs.declared.Refusal.{Refusal}
 use Rattle.encoding.specs.declared.Refusal.the-variants.{Overlong, BadPair, EndsEarly, UnknownWord, TooDeep, LeftOver, NoSuchPart, BufferTooShort, BadFileLength, RepeatedRule, BadLevel}
 use Rattle.encoding.specs.Refusals.{pick, number, Answer}
-use Rattle.text.specs.declared.TextAnswer.{TextAnswer}
-use Rattle.text.specs.declared.TextAnswer.the-variants.{Length, Refused}
-use Rattle.text.specs.Calls.{filled}
-use Rattle.text.proofs.Calls.{Unfilled, no-text, no-room, length-filled, refusal-unfilled}
+use Rattle.text_calls.specs.declared.TextAnswer.{TextAnswer}
+use Rattle.text_calls.specs.declared.TextAnswer.the-variants.{Length, Refused}
+use Rattle.text_calls.specs.Calls.{filled}
+use Rattle.text_calls.proofs.Calls.{Unfilled, no-text, no-room, length-filled, refusal-unfilled}
 use Rattle.file.specs.File.{decimal, refusalLine, printed, atFront}
 
 -- ---- numbers and refusals

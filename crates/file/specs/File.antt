@@ -7,8 +7,8 @@ use Rattle.rast.specs.Bytes.{Bytes, ascii, _or_}
 use Rattle.encoding.specs.declared.Refusal.{Refusal}
 use Rattle.encoding.specs.declared.Refusal.the-variants.{Overlong, BufferTooShort, BadFileLength}
 use Rattle.encoding.specs.Refusals.{pick, number, Answer, given, refused}
-use Rattle.numbers.specs.Numbers.{numberAt, numbersAt}
-use Rattle.declaration_call.specs.Calls.{declarationText}
+use Rattle.little_endian.specs.Numbers.{numberAt, numbersAt}
+use Rattle.text_declaration_call.specs.Calls.{declarationText}
 
 -- behind the header, the pairs, the words and the text: the declaration's text at level 0
 abbrev pub encodedText : ℕ → ℕ → Bytes → Answer Bytes

@@ -5,11 +5,11 @@
 ghost use mathlib.Core.Path.{_≡_};
 ghost use Prim.Native.Nat.{_+_, _*_, _≤_, _<_};
 ghost use lib.ListN.{length};
-ghost use Rattle.output.specs.Wrote.{Wrote};
-ghost use Rattle.text.specs.Calls.{filled};
+ghost use Rattle.buffer.specs.Wrote.{Wrote};
+ghost use Rattle.text_calls.specs.Calls.{filled};
 ghost use Rattle.file.specs.File.{decimal, refusalLine, encodedText, fileText, printedFile, atFront};
 use encoding::Refusal;
-use text::TextAnswer;
+use text_calls::TextAnswer;
 
 const HEADER_BYTES: usize = 12;
 
@@ -33,10 +33,10 @@ fn encoded_text(file: &[u8], pairs: usize, words: usize, size: usize, out: &mut 
     let pair_numbers = 2 * pairs;
     let words_at = HEADER_BYTES + 8 * pairs;
     let text_at = words_at + 4 * words;
-    numbers::read_numbers(file, HEADER_BYTES, &mut pair_array[..pair_numbers]);
-    numbers::read_numbers(file, words_at, &mut word_array[..words]);
-    output::put_part(file, text_at, size, &mut text_array[..size], 0);
-    declaration_call::declaration_text(
+    little_endian::read_numbers(file, HEADER_BYTES, &mut pair_array[..pair_numbers]);
+    little_endian::read_numbers(file, words_at, &mut word_array[..words]);
+    buffer::put_part(file, text_at, size, &mut text_array[..size], 0);
+    text_declaration_call::declaration_text(
         &word_array[..words],
         &pair_array[..pair_numbers],
         &text_array[..size],
@@ -52,9 +52,9 @@ fn file_text(file: &[u8], out: &mut [u8]) -> TextAnswer
     if file.len() < HEADER_BYTES {
         return TextAnswer::Refused(Refusal::BadFileLength);
     }
-    let pairs = numbers::number_at(file, 0) as usize;
-    let words = numbers::number_at(file, 4) as usize;
-    let size = numbers::number_at(file, 8) as usize;
+    let pairs = little_endian::number_at(file, 0) as usize;
+    let words = little_endian::number_at(file, 4) as usize;
+    let size = little_endian::number_at(file, 8) as usize;
     if MOST_PAIRS < pairs {
         return TextAnswer::Refused(Refusal::Overlong);
     }
@@ -88,9 +88,9 @@ fn put_refusal(r: Refusal, out: &mut [u8]) -> usize
     requires { ⌜ 11 ≤ length (now out) ⌝ }
     ensures { λ n. ⌜ Wrote (now (out .entry)) 0 (refusalLine r) (now (out .exit)) n ⌝ }
 {
-    let digits = output::put(b"refused ", out, 0);
+    let digits = buffer::put(b"refused ", out, 0);
     let end = put_decimal(encoding::refusal_number(r), out, digits);
-    output::put(b"\n", out, end)
+    buffer::put(b"\n", out, end)
 }
 
 // As `print_file`, into a slice: the text goes into all of it but the last byte, which leaves room for the newline.
@@ -99,7 +99,7 @@ fn print_into(file: &[u8], out: &mut [u8]) -> usize
     ensures { λ r. ⌜ (r, now (out .exit)) ≡ atFront (printedFile (now (file .entry))) (now (out .entry)) ⌝ }
 {
     match file_text(file, &mut out[..MOST_PRINTED]) {
-        TextAnswer::Length(n) => output::put(b"\n", out, n),
+        TextAnswer::Length(n) => buffer::put(b"\n", out, n),
         TextAnswer::Refused(r) => put_refusal(r, out),
     }
 }

@@ -13,29 +13,29 @@ use Rattle.encoding.specs.Tables.{checkLevel, overlong, goodPairs, checkTables,
 use Rattle.encoding.specs.Heads.{readPath, pathHead, headAfter, readHead}
 use Rattle.encoding.specs.Types.{primitives, rootOf, pathOf, sizeOf, readTypes, readNode, readType, typeOf}
 use Rattle.encoding.specs.Declarations.{readList, readCounted, visibilityOf, readVisibility, readName, readFormal, readField, readFields, readStruct, declarationAfter, readDeclaration, declarationOf}
-use Rattle.trees.specs.Encode.{tokenWord, primitiveWord, rootWord, names, pathTokens, tokens, words, encode}
-use Rattle.trees.specs.Renamed.{renamedPath, renamed}
-use Rattle.trees.specs.Numbered.{treeOf}
-use Rattle.replace.specs.Same.{sameToken, sameTokens, sameType, sameBy}
-use Rattle.replace.specs.Replace.{Replace, ruled}
-use Rattle.replace.specs.Laying.{depth, peak}
-use Rattle.replace.specs.Rules.{readRule, readRules, among as amongRules, repeated, checkAll, distinct, rulesOf, mappingOf}
-use Rattle.pieces.specs.Pieces.{runs, attributesTokens, titleTokens, heading, front}
-use Rattle.text.specs.Calls.{typeText}
-use Rattle.declaration_call.specs.Calls.{declarationText}
-use Rattle.numbers.specs.Numbers.{numbersAt}
+use Rattle.tree_words.specs.Encode.{tokenWord, primitiveWord, rootWord, names, pathTokens, tokens, words, encode}
+use Rattle.tree_words.specs.Renamed.{renamedPath, renamed}
+use Rattle.tree_words.specs.Numbered.{treeOf}
+use Rattle.rebuild_spec.specs.Same.{sameToken, sameTokens, sameType, sameBy}
+use Rattle.rebuild_spec.specs.Replace.{Replace, ruled}
+use Rattle.rebuild_spec.specs.Laying.{depth, peak}
+use Rattle.rebuild_spec.specs.Rules.{readRule, readRules, among as amongRules, repeated, checkAll, distinct, rulesOf, mappingOf}
+use Rattle.declaration_walk.specs.Pieces.{runs, attributesTokens, titleTokens, heading, front}
+use Rattle.text_calls.specs.Calls.{typeText}
+use Rattle.text_declaration_call.specs.Calls.{declarationText}
+use Rattle.little_endian.specs.Numbers.{numbersAt}
 use Rattle.file.specs.File.{describedText, fileText, decimal, refusalLine, printed, printedFile}
-use Rattle.soundness.specs.Calls.{typeIsSound}
+use Rattle.sound_type.specs.Calls.{typeIsSound}
 use Rattle.visits.specs.Visited.{visitedFrom, visited, visitedPieces, entered, visitedDeclaration, typeVisits, declarationVisits}
-use Rattle.classes.specs.Paths.{samePath, dafny_runtime, inRuntime, ObjectPath, PtrPath}
-use Rattle.classes.specs.Matches.{onPath, applied, typeIn, argument, unsized}
-use Rattle.classes.specs.Steps.{when, andThen, orElse}
+use Rattle.known_paths.specs.Paths.{samePath, dafny_runtime, inRuntime, ObjectPath, PtrPath}
+use Rattle.known_paths.specs.Matches.{onPath, applied, typeIn, argument, unsized}
+use Rattle.known_paths.specs.Steps.{when, andThen, orElse}
 use Rattle.shapes.specs.Shapes.{IsObject, IsPointer, IsObjectOrPointer, isNumber, IsAutoSize}
 use Rattle.shapes.specs.Parts.{expandedAt, expanded, ExpandAt}
 use Rattle.shapes.specs.Initialization.{MaybeUninitType, PtrType, orThis, newUnderlying, TypeAtInitialization}
 use Rattle.parts.specs.Answers.{spanOf, spanIn, partOf, partWords}
-use Rattle.rebuild.specs.Calls.{laidDown, ruledBy, typeRebuilt}
-use Rattle.initialization.specs.Calls.{typeInitialized}
+use Rattle.rebuild_type.specs.Calls.{laidDown, ruledBy, typeRebuilt}
+use Rattle.rebuild_initial.specs.Calls.{typeInitialized}
 use Rattle.marked_cases.specs.MarkedCases.{AllHold, pairs, text, example, littleEndian, exampleFile, exampleText, documented, markedCases}
 
 pub all-hold : AllHold markedCases

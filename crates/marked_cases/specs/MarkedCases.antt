@@ -7,11 +7,11 @@ use lib.ListN.{replicate}
 use Rattle.rast.specs.Bytes.{Bytes, ascii}
 use Rattle.encoding.specs.Refusals.{given, mapAnswer}
 use Rattle.encoding.specs.Types.{typeOf}
-use Rattle.text.specs.Calls.{typeText}
-use Rattle.declaration_call.specs.Calls.{declarationText}
+use Rattle.text_calls.specs.Calls.{typeText}
+use Rattle.text_declaration_call.specs.Calls.{declarationText}
 use Rattle.file.specs.File.{printedFile}
-use Rattle.soundness.specs.declared.SoundAnswer.the-variants.{Sound, Unsound}
-use Rattle.soundness.specs.Calls.{typeIsSound, soundAnswer}
+use Rattle.sound_type.specs.declared.SoundAnswer.the-variants.{Sound, Unsound}
+use Rattle.sound_type.specs.Calls.{typeIsSound, soundAnswer}
 use Rattle.visits.specs.Visited.{typeVisits, declarationVisits}
 use Rattle.shapes.specs.declared.ShapeAnswer.the-variants.{No}
 use Rattle.shapes.specs.Asked.{shapeAnswer}
@@ -19,9 +19,9 @@ use Rattle.shapes.specs.Shapes.{IsAutoSize}
 use Rattle.shapes.specs.Parts.{ExpandAt}
 use Rattle.parts.specs.declared.PartAnswer.the-variants.{Part}
 use Rattle.parts.specs.Answers.{partOf, partAnswer, partWords}
-use Rattle.rebuild.specs.declared.RebuildAnswer.the-variants.{Length}
-use Rattle.rebuild.specs.Calls.{laidDown, typeRebuilt}
-use Rattle.initialization.specs.Calls.{typeInitialized}
+use Rattle.rebuild_type.specs.declared.RebuildAnswer.the-variants.{Length}
+use Rattle.rebuild_type.specs.Calls.{laidDown, typeRebuilt}
+use Rattle.rebuild_initial.specs.Calls.{typeInitialized}
 
 -- what a definition gives on some input, and what document 01 says that it gives
 pub record Claim : Type 1 where

@@ -11,10 +11,10 @@ use Rattle.encoding.specs.Reading.{readWord, readBelow, readNames, whole}
 use Rattle.encoding.specs.Tables.{overlong, goodPairs, checkTables, fixedNames, pairBytes, nameBytes}
 use Rattle.encoding.specs.Heads.{readPath, pathHead, headAfter, readHead}
 use Rattle.encoding.specs.Types.{primitives, rootOf, pathOf, sizeOf, readTypes, readNode, readType, typeOf}
-use Rattle.trees.specs.Encode.{names, pathTokens, tokens, words}
-use Rattle.classes.specs.Matches.{onPath, applied, typeIn, argument, isDyn, someIs}
-use Rattle.classes.specs.Paths.{samePath, std, inStd, dafny_runtime, inRuntime, RcPath, ArcPath, BoxPath, MaybeUninitPath, MaybePlaceboPath, ObjectPath, PtrPath, runtimeMember}
-use Rattle.classes.specs.Steps.{when, andThen, orElse, typeAtIndex, argumentAt, argumentOf, dynAt, dynOf, elementAt, elementOf}
+use Rattle.tree_words.specs.Encode.{names, pathTokens, tokens, words}
+use Rattle.known_paths.specs.Matches.{onPath, applied, typeIn, argument, isDyn, someIs}
+use Rattle.known_paths.specs.Paths.{samePath, std, inStd, dafny_runtime, inRuntime, RcPath, ArcPath, BoxPath, MaybeUninitPath, MaybePlaceboPath, ObjectPath, PtrPath, runtimeMember}
+use Rattle.known_paths.specs.Steps.{when, andThen, orElse, typeAtIndex, argumentAt, argumentOf, dynAt, dynOf, elementAt, elementOf}
 use Rattle.shapes.specs.Parts.{removedAt, expandedAt, ownedAt, isMap, MaybeUninitTypeUnderlying, uninitElement, RemoveSynonyms, ExpandAt, ToOwned, MultiArrayUnderlying, BoxUnderlying, ObjectOrPointerUnderlying, RcUnderlying, BoxDynUnderlying, GetBuiltinCollectionElement, ExtractMaybePlacebo, ExtractMaybeUninitArrayElement, expanded}
 use Rattle.shapes.specs.Shapes.{IsBox, IsRc, IsBoxDyn, IsMaybeUninit, IsMultiArray, IsObject, IsPointer, IsObjectOrPointer, IsBuiltinCollection}
 use Rattle.parts.specs.declared.Wanted.{Wanted}

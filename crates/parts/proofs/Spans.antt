@@ -19,16 +19,16 @@ use Rattle.encoding.specs.Types.{typeAt, typeOf}
 use Rattle.encoding.proofs.Tables.{impossible}
 use Rattle.encoding.proofs.Names.{part-to}
 use Rattle.encoding.proofs.Types.{type-lies}
-use Rattle.writing.specs.Written.{EndsAt}
-use Rattle.writing.proofs.Accepted.{type-here}
-use Rattle.trees.specs.Renamed.{renamed}
-use Rattle.trees.specs.Encode.{words, encode}
-use Rattle.trees.specs.Places.{Place, place}
-use Rattle.trees.proofs.Renaming.{numbered, words-kept, encode-words, tree-run, type-words}
-use Rattle.wrappers.specs.Asked.{Judges, ExpandsAt}
-use Rattle.classes.specs.declared.Found.{Found}
-use Rattle.classes.specs.declared.Found.the-variants.{At, NoPart}
-use Rattle.classes.specs.Asked.{Finds, found}
+use Rattle.accepted_types.specs.Accepted.{EndsAt}
+use Rattle.accepted_types.proofs.Accepted.{type-here}
+use Rattle.tree_words.specs.Renamed.{renamed}
+use Rattle.tree_words.specs.Encode.{words, encode}
+use Rattle.tree_words.specs.Places.{Place, place}
+use Rattle.tree_words.proofs.Renaming.{numbered, words-kept, encode-words, tree-run, type-words}
+use Rattle.unwrap.specs.Asked.{Judges, ExpandsAt}
+use Rattle.known_paths.specs.declared.Found.{Found}
+use Rattle.known_paths.specs.declared.Found.the-variants.{At, NoPart}
+use Rattle.known_paths.specs.Asked.{Finds, found}
 use Rattle.shapes.specs.Accepted.{acceptance}
 use Rattle.shapes.specs.Parts.{removedAt, ownedAt, RemoveSynonyms, ExpandAt, ToOwned}
 use Rattle.parts.specs.declared.PartAnswer.{PartAnswer}
@@ -37,8 +37,8 @@ use Rattle.parts.specs.declared.Wanted.{Wanted}
 use Rattle.parts.specs.declared.Wanted.the-variants.{Removed, Expanded, Owned, OfMultiArray, OfBox, OfPointer, OfRc, OfBoxDyn, OfCollection, OfPlacebo, OfUninitArray}
 use Rattle.parts.specs.Answers.{Span, spanOf, spanIn, partOf, partAnswer, partWords}
 use Rattle.parts.specs.Asked.{partFor, Spans}
-use Rattle.classes.proofs.Children.{Standing, Keeps}
-use Rattle.classes.proofs.Finding.{located, nowhere}
+use Rattle.known_paths.proofs.Children.{Standing, Keeps}
+use Rattle.known_paths.proofs.Finding.{located, nowhere}
 use Rattle.shapes.proofs.Answers.{Accepted, accepted, not-accepted}
 use Rattle.shapes.proofs.Behind.{finds-expanded}
 use Rattle.shapes.proofs.Parts.{removed-keeps, expanded-keeps, owned-keeps, box-keeps, rc-keeps, placebo-keeps, multi-array-keeps, pointer-keeps, box-dyn-keeps, collection-keeps, uninit-array-keeps}

@@ -8,8 +8,8 @@ use Rattle.rast.specs.Tree.{Ty}
 use Rattle.encoding.specs.declared.Refusal.the-variants.{NoSuchPart}
 use Rattle.encoding.specs.Refusals.{Answer, given, refused}
 use Rattle.encoding.specs.Types.{typeOf}
-use Rattle.trees.specs.Encode.{words}
-use Rattle.trees.specs.Places.{Place, place}
+use Rattle.tree_words.specs.Encode.{words}
+use Rattle.tree_words.specs.Places.{Place, place}
 use Rattle.parts.specs.declared.PartAnswer.{PartAnswer}
 use Rattle.parts.specs.declared.PartAnswer.the-variants.{Part, Refused}
 

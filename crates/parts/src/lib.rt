@@ -2,15 +2,15 @@
 ghost use mathlib.Core.Path.{_≡_};
 ghost use Rattle.encoding.specs.Tested.{Good};
 ghost use Rattle.encoding.specs.Types.{typeAt};
-ghost use Rattle.writing.specs.Written.{Readable};
-ghost use Rattle.classes.specs.Asked.{Finds};
+ghost use Rattle.accepted_types.specs.Accepted.{Readable};
+ghost use Rattle.known_paths.specs.Asked.{Finds};
 ghost use Rattle.shapes.specs.Parts.{RemoveSynonyms, ExpandAt, ToOwned, MultiArrayUnderlying, BoxUnderlying, ObjectOrPointerUnderlying, RcUnderlying, BoxDynUnderlying, GetBuiltinCollectionElement, ExtractMaybePlacebo, ExtractMaybeUninitArrayElement};
 ghost use Rattle.parts.specs.Answers.{partOf, partAnswer, partWords};
 ghost use Rattle.parts.specs.Asked.{partFor, Spans};
-use classes::Class;
-use classes::Found;
 use encoding::Check;
 use encoding::Refusal;
+use known_paths::Class;
+use known_paths::Found;
 
 // A part: where its words start and how many they are, or the refusal.
 pub enum PartAnswer {
@@ -40,15 +40,15 @@ fn find(words: &[u32], pairs: &[u32], text: &[u8], wanted: Wanted, at: usize) ->
 {
     match wanted {
         Wanted::Removed => Found::At(shapes::remove_wrappers(words, pairs, text, at)),
-        Wanted::Expanded => Found::At(wrappers::expand(words, pairs, text, at)),
+        Wanted::Expanded => Found::At(unwrap::expand(words, pairs, text, at)),
         Wanted::Owned => Found::At(shapes::owned(words, pairs, text, at)),
         Wanted::OfMultiArray => shapes::multi_array_part(words, pairs, text, at),
-        Wanted::OfBox => classes::first_argument(words, pairs, text, Class::Boxed, at),
+        Wanted::OfBox => known_paths::first_argument(words, pairs, text, Class::Boxed, at),
         Wanted::OfPointer => shapes::object_or_pointer_part(words, pairs, text, at),
-        Wanted::OfRc => classes::first_argument(words, pairs, text, Class::Counted, at),
+        Wanted::OfRc => known_paths::first_argument(words, pairs, text, Class::Counted, at),
         Wanted::OfBoxDyn => shapes::box_dyn_part(words, pairs, text, at),
         Wanted::OfCollection => shapes::collection_part(words, pairs, text, at),
-        Wanted::OfPlacebo => classes::first_argument(words, pairs, text, Class::Placebo, at),
+        Wanted::OfPlacebo => known_paths::first_argument(words, pairs, text, Class::Placebo, at),
         Wanted::OfUninitArray => shapes::uninit_array_part(words, pairs, text, at),
     }
 }
@@ -63,7 +63,7 @@ fn part_at(words: &[u32], pairs: &[u32], text: &[u8], wanted: Wanted) -> PartAns
     };
     PartAnswer::Part {
         start,
-        length: writing::skip_type(words, pairs, text, start) - start,
+        length: accepted_types::skip_type(words, pairs, text, start) - start,
     }
 }
 
@@ -106,7 +106,7 @@ pub fn expand_at(words: &[u32], pairs: &[u32], text: &[u8]) -> PartAnswer
 {
     match shapes::accept(words, pairs, text) {
         Check::Passed => {
-            let start = wrappers::expand(words, pairs, text, 0);
+            let start = unwrap::expand(words, pairs, text, 0);
             PartAnswer::Part {
                 start,
                 length: words.len() - start,

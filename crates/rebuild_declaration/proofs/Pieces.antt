@@ -6,14 +6,14 @@ use native.Mathlib.Omega.{arith}
 use lib.ListN.{length, length-append, length-map}
 use Rattle.rast.specs.Tree.{Ty}
 use Rattle.rast.specs.Declaration.{Declaration, StructDecl, EnumDecl, TypeDecl, UseDecl, Fields, NamedFields, NamelessFields, EnumCase}
-use Rattle.trees.specs.Encode.{Token, tokenWord, tokens, words, encode}
-use Rattle.replace.specs.Replace.{Replace}
-use Rattle.replace.specs.Laying.{depth, peak}
-use Rattle.replace.proofs.Nodes.{peak-least}
-use Rattle.pieces.specs.Pieces.{Piece, own, type, runs, owned, pieceTokens, pieces, declarationTokens, encodeDeclaration}
-use Rattle.pieces.specs.WithTypes.{fieldsWith, caseWith, withTypes, pieceWith}
-use Rattle.pieces.proofs.WithTypes.{with-pieces}
-use Rattle.pieces.proofs.Encoded.{runs-append}
+use Rattle.tree_words.specs.Encode.{Token, tokenWord, tokens, words, encode}
+use Rattle.rebuild_spec.specs.Replace.{Replace}
+use Rattle.rebuild_spec.specs.Laying.{depth, peak}
+use Rattle.rebuild_spec.proofs.Nodes.{peak-least}
+use Rattle.declaration_walk.specs.Pieces.{Piece, own, type, runs, owned, pieceTokens, pieces, declarationTokens, encodeDeclaration}
+use Rattle.declaration_walk.specs.WithTypes.{fieldsWith, caseWith, withTypes, pieceWith}
+use Rattle.declaration_walk.proofs.WithTypes.{with-pieces}
+use Rattle.declaration_walk.proofs.Encoded.{runs-append}
 use Rattle.rebuild_declaration.specs.Replacer.{ReplaceTypeParams, ReplaceFields, ReplaceStruct, ReplaceEnumCase, ReplaceEnum, ReplaceTypeDecl, ReplaceUse, ReplaceModDecl}
 use Rattle.rebuild_declaration.specs.Laying.{deepestPiece, topPieces}
 use Rattle.rebuild_declaration.specs.Steps.{encodePieces, rebuiltWords, rebuiltDepth}

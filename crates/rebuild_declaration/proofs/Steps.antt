@@ -13,35 +13,35 @@ use Rattle.encoding.specs.Tables.{nameCount}
 use Rattle.encoding.specs.Tested.{Good}
 use Rattle.encoding.proofs.Tables.{impossible}
 use Rattle.encoding.proofs.Types.{bind-got}
-use Rattle.trees.specs.Encode.{Token, tokenWord, encode}
-use Rattle.trees.specs.Numbered.{treeAt}
-use Rattle.trees.specs.Runs.{Run}
-use Rattle.trees.proofs.Renaming.{tree-run, encode-words, words-some}
-use Rattle.writing.specs.Written.{Readable}
-use Rattle.replace.specs.Replace.{Replace}
-use Rattle.replace.specs.Laying.{depth, peak}
-use Rattle.pieces.specs.declared.Walk.{Walk}
-use Rattle.pieces.specs.declared.Next.{Next}
-use Rattle.pieces.specs.declared.Next.the-variants.{OwnWords, TypeDue, Ended, Halted}
-use Rattle.pieces.specs.declared.Start.{Start}
-use Rattle.pieces.specs.declared.Start.the-variants.{Begun, NotBegun}
-use Rattle.pieces.specs.Pieces.{Piece, type, owned, pieces}
-use Rattle.pieces.specs.Walks.{ahead, moved, pastType, inField, FieldNext, fieldType, pastField, Stepped, type-due, readOpening, started}
-use Rattle.pieces.proofs.Ahead.{ahead-none, ahead-twice}
-use Rattle.pieces.proofs.Steps.{own-step, due-step, end-step, halt-step, field-opens}
-use Rattle.pieces.proofs.Openings.{tokens-same}
-use Rattle.pieces.proofs.OpeningRuns.{opening-run}
-use Rattle.pieces.proofs.Passes.{bind-at, stepped, begun, not-begun}
-use Rattle.pieces.proofs.Fronts.{behind-got, whole-left}
-use Rattle.pieces.proofs.RenamedReading.{declaration-spelled}
-use Rattle.pieces.proofs.Scans.{ended-map}
-use Rattle.rebuild.specs.declared.Laying.{Laying}
-use Rattle.rebuild.specs.declared.Laying.the-variants.{To, Over}
-use Rattle.rebuild.specs.declared.Rebuilt.{Rebuilt}
-use Rattle.rebuild.specs.declared.Rebuilt.the-variants.{Done, Full}
-use Rattle.rebuild.specs.Laid.{Grown, Lays, rebuilt, full, mapping, Ruled, TypeRebuilds}
-use Rattle.rebuild.proofs.Growing.{grown-then, grown-nothing, lays-to, lays-over}
-use Rattle.rebuild.proofs.Types.{came, filled}
+use Rattle.tree_words.specs.Encode.{Token, tokenWord, encode}
+use Rattle.tree_words.specs.Numbered.{treeAt}
+use Rattle.tree_words.specs.Runs.{Run}
+use Rattle.tree_words.proofs.Renaming.{tree-run, encode-words, words-some}
+use Rattle.accepted_types.specs.Accepted.{Readable}
+use Rattle.rebuild_spec.specs.Replace.{Replace}
+use Rattle.rebuild_spec.specs.Laying.{depth, peak}
+use Rattle.declaration_walk.specs.declared.Walk.{Walk}
+use Rattle.declaration_walk.specs.declared.Next.{Next}
+use Rattle.declaration_walk.specs.declared.Next.the-variants.{OwnWords, TypeDue, Ended, Halted}
+use Rattle.declaration_walk.specs.declared.Start.{Start}
+use Rattle.declaration_walk.specs.declared.Start.the-variants.{Begun, NotBegun}
+use Rattle.declaration_walk.specs.Pieces.{Piece, type, owned, pieces}
+use Rattle.declaration_walk.specs.Walks.{ahead, moved, pastType, inField, FieldNext, fieldType, pastField, Stepped, type-due, readOpening, started}
+use Rattle.declaration_walk.proofs.Ahead.{ahead-none, ahead-twice}
+use Rattle.declaration_walk.proofs.Steps.{own-step, due-step, end-step, halt-step, field-opens}
+use Rattle.declaration_walk.proofs.Openings.{tokens-same}
+use Rattle.declaration_walk.proofs.OpeningRuns.{opening-run}
+use Rattle.declaration_walk.proofs.Passes.{bind-at, stepped, begun, not-begun}
+use Rattle.declaration_walk.proofs.Fronts.{behind-got, whole-left}
+use Rattle.declaration_walk.proofs.RenamedReading.{declaration-spelled}
+use Rattle.declaration_walk.proofs.Scans.{ended-map}
+use Rattle.rebuild_type.specs.declared.Laying.{Laying}
+use Rattle.rebuild_type.specs.declared.Laying.the-variants.{To, Over}
+use Rattle.rebuild_type.specs.declared.Rebuilt.{Rebuilt}
+use Rattle.rebuild_type.specs.declared.Rebuilt.the-variants.{Done, Full}
+use Rattle.rebuild_type.specs.Laid.{Grown, Lays, rebuilt, full, mapping, Ruled, TypeRebuilds}
+use Rattle.rebuild_type.proofs.Growing.{grown-then, grown-nothing, lays-to, lays-over}
+use Rattle.rebuild_type.proofs.Types.{came, filled}
 use Rattle.rebuild_declaration.specs.declared.Advance.{Advance}
 use Rattle.rebuild_declaration.specs.declared.Advance.the-variants.{Further, Finished, NoSpace}
 use Rattle.rebuild_declaration.specs.Steps.{leftIn, Ready, PiecesLaid, PiecesOver, Advanced, further, finished, noSpace, fieldAdvance, PiecesRebuild, DeclarationRebuilds}

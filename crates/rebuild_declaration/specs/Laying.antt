@@ -2,10 +2,10 @@
 use Prim.Native.Nat.{ℕ, _+_, max}
 use mathlib.Core.List.{List, [], _∷_}
 use Rattle.rast.specs.Tree.{Ty}
-use Rattle.trees.specs.Encode.{words}
-use Rattle.replace.specs.Replace.{Replace}
-use Rattle.replace.specs.Laying.{depth, peak}
-use Rattle.pieces.specs.Pieces.{Piece, own, type}
+use Rattle.tree_words.specs.Encode.{words}
+use Rattle.rebuild_spec.specs.Replace.{Replace}
+use Rattle.rebuild_spec.specs.Laying.{depth, peak}
+use Rattle.declaration_walk.specs.Pieces.{Piece, own, type}
 
 -- the deepest type among pieces
 unfoldable pub deepestPiece : {N : Type 0} → List (Piece N) → ℕ

@@ -2,7 +2,7 @@
 use mathlib.Core.List.{List, map}
 use Rattle.rast.specs.Tree.{Ty}
 use Rattle.rast.specs.Declaration.{TypeParamDecl, Field, NamelessField, Fields, NamedFields, NamelessFields, EnumCase, Struct, Enum, TypeSynonym, Use, Declaration, StructDecl, EnumDecl, TypeDecl, UseDecl}
-use Rattle.replace.specs.Replace.{Replace}
+use Rattle.rebuild_spec.specs.Replace.{Replace}
 
 module _ {N : Type 0} (mapping : Ty N → Ty N) where
   -- `ReplaceType`

@@ -9,17 +9,17 @@ use Rattle.rast.specs.Declaration.{Declaration}
 use Rattle.encoding.specs.Reading.{Reading, got}
 use Rattle.encoding.specs.Tables.{nameCount}
 use Rattle.encoding.specs.Tested.{Good}
-use Rattle.trees.specs.Encode.{tokenWord}
-use Rattle.trees.specs.Numbered.{treeAt}
-use Rattle.writing.specs.Written.{Readable}
-use Rattle.replace.specs.Replace.{Replace}
-use Rattle.pieces.specs.declared.Walk.{Walk}
-use Rattle.pieces.specs.Pieces.{Piece, runs, pieceTokens}
-use Rattle.pieces.specs.Walks.{ahead, leftOf, pastField}
-use Rattle.pieces.specs.WithTypes.{pieceWith}
-use Rattle.rebuild.specs.declared.Rebuilt.{Rebuilt}
-use Rattle.rebuild.specs.declared.Rebuilt.the-variants.{Done, Full}
-use Rattle.rebuild.specs.Laid.{Grown, Rebuilds, Ruled}
+use Rattle.tree_words.specs.Encode.{tokenWord}
+use Rattle.tree_words.specs.Numbered.{treeAt}
+use Rattle.accepted_types.specs.Accepted.{Readable}
+use Rattle.rebuild_spec.specs.Replace.{Replace}
+use Rattle.declaration_walk.specs.declared.Walk.{Walk}
+use Rattle.declaration_walk.specs.Pieces.{Piece, runs, pieceTokens}
+use Rattle.declaration_walk.specs.Walks.{ahead, leftOf, pastField}
+use Rattle.declaration_walk.specs.WithTypes.{pieceWith}
+use Rattle.rebuild_type.specs.declared.Rebuilt.{Rebuilt}
+use Rattle.rebuild_type.specs.declared.Rebuilt.the-variants.{Done, Full}
+use Rattle.rebuild_type.specs.Laid.{Grown, Rebuilds, Ruled}
 use Rattle.rebuild_declaration.specs.declared.Advance.{Advance}
 use Rattle.rebuild_declaration.specs.declared.Advance.the-variants.{Further, Finished, NoSpace}
 use Rattle.rebuild_declaration.specs.Laying.{deepestPiece, topPieces}

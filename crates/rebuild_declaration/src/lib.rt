@@ -2,16 +2,16 @@
 ghost use Prim.Native.Nat.{_≤_};
 ghost use lib.ListN.{length};
 ghost use Rattle.encoding.specs.Tested.{Good};
-ghost use Rattle.writing.specs.Written.{Readable};
-ghost use Rattle.pieces.specs.Walks.{FieldNext};
-ghost use Rattle.rebuild.specs.Laid.{Ruled, mapping};
+ghost use Rattle.accepted_types.specs.Accepted.{Readable};
+ghost use Rattle.declaration_walk.specs.Walks.{FieldNext};
+ghost use Rattle.rebuild_type.specs.Laid.{Ruled, mapping};
 ghost use Rattle.rebuild_declaration.specs.Steps.{leftIn, Ready, Advanced, fieldAdvance, PiecesRebuild, DeclarationRebuilds};
 ghost use Rattle.rebuild_declaration.specs.Calls.{declarationIn};
-use pieces::Next;
-use pieces::Start;
-use pieces::Walk;
-use rebuild::Laying;
-use rebuild::Rebuilt;
+use declaration_walk::Next;
+use declaration_walk::Start;
+use declaration_walk::Walk;
+use rebuild_type::Laying;
+use rebuild_type::Rebuilt;
 
 // One step of a walk that rebuilds: some own words or a type were laid down, and how deep the type is; or nothing was left; or more words would lie there
 // than the limit.
@@ -43,10 +43,10 @@ fn lay_next(
         (now (out .entry)) pos (now (out .exit)) r ⌝ }
 {
     let place = walk.place;
-    match pieces::next_piece(words, encoding::name_count(pairs), walk) {
+    match declaration_walk::next_piece(words, encoding::name_count(pairs), walk) {
         Next::OwnWords(next) => {
             let count = next.place - place;
-            match rebuild::lay(words, place, count, out, pos, limit) {
+            match rebuild_type::lay(words, place, count, out, pos, limit) {
                 Laying::To(p) => Advance::Further {
                     walk: next,
                     pos: p,
@@ -55,7 +55,7 @@ fn lay_next(
                 Laying::Over => Advance::NoSpace,
             }
         }
-        Next::TypeDue(next) => match rebuild::rebuild_type(
+        Next::TypeDue(next) => match rebuild_type::rebuild_type(
             words,
             pairs,
             text,
@@ -72,7 +72,7 @@ fn lay_next(
                 pos: p,
                 depth,
             } => Advance::Further {
-                walk: pieces::move_to(next, end),
+                walk: declaration_walk::move_to(next, end),
                 pos: p,
                 depth,
             },
@@ -101,11 +101,11 @@ fn lay_field(
         (now (out .entry)) pos (now (out .exit)) (fieldAdvance walk r) ⌝ }
 {
     let place = walk.place;
-    let at = pieces::field_type(walk);
-    let Laying::To(p) = rebuild::lay(words, place, at - place, out, pos, limit) else {
+    let at = declaration_walk::field_type(walk);
+    let Laying::To(p) = rebuild_type::lay(words, place, at - place, out, pos, limit) else {
         return Rebuilt::Full;
     };
-    rebuild::rebuild_type(words, pairs, text, rules, table, k, at, out, p, limit)
+    rebuild_type::rebuild_type(words, pairs, text, rules, table, k, at, out, p, limit)
 }
 
 // The fields of a list that are left, one after the other.
@@ -135,9 +135,9 @@ fn lay_fields(
                 pos: q,
                 depth,
             } => {
-                w = pieces::past_field(w, next);
+                w = declaration_walk::past_field(w, next);
                 p = q;
-                deepest = rules::larger(deepest, depth);
+                deepest = rebuild_rules::larger(deepest, depth);
             }
             Rebuilt::Full => {
                 return Advance::NoSpace;
@@ -170,7 +170,7 @@ fn lay_piece(
     ensures { λ r. ⌜ Advanced (mapping (now (rules .entry)) (now (pairs .entry)) (now (text .entry))) (now (words .entry)) (now (pairs .entry)) walk limit
         (now (out .entry)) pos (now (out .exit)) r ⌝ }
 {
-    if pieces::is_field_next(walk) {
+    if declaration_walk::is_field_next(walk) {
         return lay_fields(words, pairs, text, rules, table, k, walk, out, pos, limit);
     }
     lay_next(words, pairs, text, rules, table, k, walk, out, pos, limit)
@@ -205,7 +205,7 @@ fn rebuild_rest(
             } => {
                 w = next;
                 p = q;
-                deepest = rules::larger(deepest, depth);
+                deepest = rebuild_rules::larger(deepest, depth);
             }
             Advance::Finished => {
                 return Rebuilt::Done {
@@ -237,10 +237,11 @@ pub fn rebuild_declaration(
     ensures { λ r. ⌜ DeclarationRebuilds (mapping (now (rules .entry)) (now (pairs .entry)) (now (text .entry))) limit (now (out .entry))
         (declarationIn (now (words .entry)) (now (pairs .entry))) (now (out .exit)) r ⌝ }
 {
-    let Start::Begun(walk) = pieces::start_walk(words, encoding::name_count(pairs), 0) else {
+    let Start::Begun(walk) = declaration_walk::start_walk(words, encoding::name_count(pairs), 0)
+    else {
         return Rebuilt::Full;
     };
-    match rebuild::lay(words, 0, walk.place, out, 0, limit) {
+    match rebuild_type::lay(words, 0, walk.place, out, 0, limit) {
         Laying::To(p) => rebuild_rest(words, pairs, text, rules, table, k, walk, out, p, limit),
         Laying::Over => Rebuilt::Full,
     }

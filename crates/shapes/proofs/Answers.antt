@@ -22,8 +22,8 @@ use Rattle.encoding.specs.declared.Scan.{Scan}
 use Rattle.encoding.specs.declared.Scan.the-variants.{At, Refused as Unread}
 use Rattle.encoding.specs.Scans.{ended}
 use Rattle.encoding.proofs.Reading.{scan-got, scan-stop}
-use Rattle.writing.specs.Written.{Readable}
-use Rattle.wrappers.specs.Asked.{Judges}
+use Rattle.accepted_types.specs.Accepted.{Readable}
+use Rattle.unwrap.specs.Asked.{Judges}
 use Rattle.shapes.specs.declared.ShapeAnswer.{ShapeAnswer}
 use Rattle.shapes.specs.declared.ShapeAnswer.the-variants.{Refused}
 use Rattle.shapes.specs.Asked.{shapeAnswer}

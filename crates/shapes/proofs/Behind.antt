@@ -9,13 +9,13 @@ use Rattle.rast.specs.Tree.{Ty, Primitive, TIdentifier, TypeFromPath, TypeApp, 
 use Rattle.rast.specs.DeclarationToString.{Expand}
 use Rattle.encoding.specs.Reading.{got}
 use Rattle.encoding.specs.Types.{typeAt}
-use Rattle.trees.specs.Encode.{words}
-use Rattle.trees.specs.Places.{Place, place}
-use Rattle.trees.proofs.Renaming.{type-words}
-use Rattle.wrappers.specs.Asked.{ExpandsAt}
-use Rattle.wrappers.proofs.Expanding.{synonym-words, meta-words}
-use Rattle.classes.specs.declared.Found.{Found}
-use Rattle.classes.specs.Asked.{Finds, found}
+use Rattle.tree_words.specs.Encode.{words}
+use Rattle.tree_words.specs.Places.{Place, place}
+use Rattle.tree_words.proofs.Renaming.{type-words}
+use Rattle.unwrap.specs.Asked.{ExpandsAt}
+use Rattle.unwrap.proofs.Expanding.{synonym-words, meta-words}
+use Rattle.known_paths.specs.declared.Found.{Found}
+use Rattle.known_paths.specs.Asked.{Finds, found}
 use Rattle.shapes.specs.Parts.{expandedAt, expanded}
 use Rattle.shapes.proofs.Pointers.{expanded-tree}
 

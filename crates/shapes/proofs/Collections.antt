@@ -12,19 +12,19 @@ use Rattle.rast.specs.DeclarationToString.{Expand}
 use Rattle.rast.proofs.BytesLaws.{and-right, or-true, or-false}
 use Rattle.encoding.specs.Refusals.{pick}
 use Rattle.encoding.proofs.Tables.{impossible, same-eq}
-use Rattle.trees.specs.Encode.{words}
-use Rattle.trees.specs.Places.{Place, place}
-use Rattle.classes.specs.declared.Class.the-variants.{Collection, MapClass}
-use Rattle.classes.specs.declared.Found.the-variants.{At, NoPart}
-use Rattle.classes.specs.Asked.{found, isFound}
-use Rattle.classes.specs.Classes.{isSet, inClass, arity, isOf, first}
-use Rattle.classes.specs.Matches.{onPath, applied}
-use Rattle.classes.specs.Paths.{samePath, dafny_runtime, runtimeMember}
-use Rattle.classes.specs.Steps.{when, typeAtIndex, argumentAt, argumentOf}
+use Rattle.tree_words.specs.Encode.{words}
+use Rattle.tree_words.specs.Places.{Place, place}
+use Rattle.known_paths.specs.declared.Class.the-variants.{Collection, MapClass}
+use Rattle.known_paths.specs.declared.Found.the-variants.{At, NoPart}
+use Rattle.known_paths.specs.Asked.{found, isFound}
+use Rattle.known_paths.specs.Classes.{isSet, inClass, arity, isOf, first}
+use Rattle.known_paths.specs.Matches.{onPath, applied}
+use Rattle.known_paths.specs.Paths.{samePath, dafny_runtime, runtimeMember}
+use Rattle.known_paths.specs.Steps.{when, typeAtIndex, argumentAt, argumentOf}
 use Rattle.shapes.specs.Parts.{isMap, GetBuiltinCollectionElement, expanded}
 use Rattle.shapes.specs.Shapes.{IsBuiltinCollection}
-use Rattle.classes.proofs.Applying.{applied-cases, first-found}
-use Rattle.classes.proofs.Children.{some-same}
+use Rattle.known_paths.proofs.Applying.{applied-cases, first-found}
+use Rattle.known_paths.proofs.Children.{some-same}
 use Rattle.shapes.proofs.Pointers.{expanded-tree}
 
 -- no name is that of a set and of a map

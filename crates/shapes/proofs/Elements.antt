@@ -9,13 +9,13 @@ use Rattle.rast.specs.DeclarationToString.{Expand}
 use Rattle.rast.proofs.BytesLaws.{and-false}
 use Rattle.encoding.proofs.Tables.{impossible}
 use Rattle.encoding.proofs.TypeKinds.{kind}
-use Rattle.trees.specs.Encode.{words}
-use Rattle.trees.specs.Places.{Place, place}
-use Rattle.classes.specs.declared.Class.the-variants.{Boxed, Uninit, ArrayClass}
-use Rattle.classes.specs.Asked.{found, isFound}
-use Rattle.classes.specs.Classes.{inClass, arity, isOf, first}
-use Rattle.classes.specs.Matches.{applied, typeIn, argument, unsized, isDyn, someIs}
-use Rattle.classes.specs.Steps.{when, andThen, orElse, typeAtIndex, argumentAt, argumentOf, dynAt, dynOf, elementAt, elementOf}
+use Rattle.tree_words.specs.Encode.{words}
+use Rattle.tree_words.specs.Places.{Place, place}
+use Rattle.known_paths.specs.declared.Class.the-variants.{Boxed, Uninit, ArrayClass}
+use Rattle.known_paths.specs.Asked.{found, isFound}
+use Rattle.known_paths.specs.Classes.{inClass, arity, isOf, first}
+use Rattle.known_paths.specs.Matches.{applied, typeIn, argument, unsized, isDyn, someIs}
+use Rattle.known_paths.specs.Steps.{when, andThen, orElse, typeAtIndex, argumentAt, argumentOf, dynAt, dynOf, elementAt, elementOf}
 use Rattle.shapes.specs.Parts.{expandedAt, BoxDynUnderlying, MaybeUninitTypeUnderlying, MultiArrayUnderlying, ObjectOrPointerUnderlying, uninitElement, ExtractMaybeUninitArrayElement, expanded}
 use Rattle.shapes.specs.Shapes.{IsBoxDyn, IsMaybeUninit, IsMultiArray, IsObjectOrPointer, uninitCases, IsUninitArray}
 use Rattle.shapes.proofs.Pointers.{expanded-tree, multi-array-is}

@@ -11,12 +11,12 @@ use Rattle.encoding.specs.Reading.{readWord, readBelow, readNames, whole}
 use Rattle.encoding.specs.Tables.{overlong, goodPairs, checkTables, fixedNames, pairBytes, nameBytes}
 use Rattle.encoding.specs.Heads.{readPath, pathHead, headAfter, readHead}
 use Rattle.encoding.specs.Types.{primitives, rootOf, pathOf, sizeOf, readTypes, readNode, readType, typeOf}
-use Rattle.trees.specs.Renamed.{renamedPath, renamedSize, renamed}
-use Rattle.trees.specs.Numbered.{treeOf}
-use Rattle.trees.specs.Encode.{tokenWord, primitiveWord, flagsWord, rootWord, names, pathTokens, tokens, encode}
-use Rattle.classes.specs.Matches.{onPath, applied, typeIn, argument, unsized, isDyn, someIs}
-use Rattle.classes.specs.Paths.{samePath, std, inStd, dafny_runtime, inRuntime, RcPath, ArcPath, BoxPath, MaybeUninitPath, ObjectPath, PtrPath, runtimeMember}
-use Rattle.classes.specs.Steps.{when, andThen, orElse}
+use Rattle.tree_words.specs.Renamed.{renamedPath, renamedSize, renamed}
+use Rattle.tree_words.specs.Numbered.{treeOf}
+use Rattle.tree_words.specs.Encode.{tokenWord, primitiveWord, flagsWord, rootWord, names, pathTokens, tokens, encode}
+use Rattle.known_paths.specs.Matches.{onPath, applied, typeIn, argument, unsized, isDyn, someIs}
+use Rattle.known_paths.specs.Paths.{samePath, std, inStd, dafny_runtime, inRuntime, RcPath, ArcPath, BoxPath, MaybeUninitPath, ObjectPath, PtrPath, runtimeMember}
+use Rattle.known_paths.specs.Steps.{when, andThen, orElse}
 use Rattle.shapes.specs.Initialization.{MaybeUninitType, ObjectType, PtrType, appliedToUninit, orThis, newUnderlying, TypeAtInitialization}
 use Rattle.shapes.specs.Shapes.{uninitCases, isFixedNumber, isNumber, isBool, EndsWithNameThatCanAcceptGenerics, IsAutoSize, CanReadWithoutClone, IsRcOrBorrowedRc, IsMultiArray, IsMaybeUninit, IsUninitArray, IsBox, NeedsAsRefForBorrow, IsObject, IsPointer, IsObjectOrPointer, IsBuiltinCollection, IsRc, IsBoxDyn}
 

@@ -17,23 +17,23 @@ use Rattle.encoding.specs.Reading.{Reading, got}
 use Rattle.encoding.specs.Types.{sizeOf, typeAt}
 use Rattle.encoding.proofs.Tables.{impossible, everyBelow, every-equal}
 use Rattle.encoding.proofs.TypeKinds.{primitiveKind, kind, type-kind}
-use Rattle.trees.specs.Places.{Place, place}
-use Rattle.wrappers.specs.Asked.{Judges, ExpandsAt}
-use Rattle.wrappers.proofs.TypesIn.{ref-of, mut-of, array-of, meta-of}
-use Rattle.classes.specs.declared.Class.{Class}
-use Rattle.classes.specs.declared.Class.the-variants.{Counted, Uninit, PtrClass, ArrayClass}
-use Rattle.classes.specs.declared.Found.{Found}
-use Rattle.classes.specs.declared.Found.the-variants.{At, NoPart}
-use Rattle.classes.specs.Asked.{Finds, found, isFound}
-use Rattle.classes.specs.Classes.{inClass, arity, isOf, first}
-use Rattle.classes.specs.Matches.{applied}
+use Rattle.tree_words.specs.Places.{Place, place}
+use Rattle.unwrap.specs.Asked.{Judges, ExpandsAt}
+use Rattle.unwrap.proofs.TypesIn.{ref-of, mut-of, array-of, meta-of}
+use Rattle.known_paths.specs.declared.Class.{Class}
+use Rattle.known_paths.specs.declared.Class.the-variants.{Counted, Uninit, PtrClass, ArrayClass}
+use Rattle.known_paths.specs.declared.Found.{Found}
+use Rattle.known_paths.specs.declared.Found.the-variants.{At, NoPart}
+use Rattle.known_paths.specs.Asked.{Finds, found, isFound}
+use Rattle.known_paths.specs.Classes.{inClass, arity, isOf, first}
+use Rattle.known_paths.specs.Matches.{applied}
 use Rattle.shapes.specs.Accepted.{nameStep, nameKind}
 use Rattle.shapes.specs.Parts.{removedAt, ownedAt, ObjectOrPointerUnderlying}
 use Rattle.shapes.specs.Shapes.{isFixedNumber, isNumber, isBool, EndsWithNameThatCanAcceptGenerics, IsAutoSize, CanReadWithoutClone, IsRcOrBorrowedRc, IsUninitArray, IsBox, NeedsAsRefForBorrow, IsPointer, IsRc}
-use Rattle.classes.proofs.Children.{ref-below, mut-below, impl-below, dyn-below, display-below, meta-below}
-use Rattle.classes.proofs.Finding.{located, nowhere, first-keeps}
+use Rattle.known_paths.proofs.Children.{ref-below, mut-below, impl-below, dyn-below, display-below, meta-below}
+use Rattle.known_paths.proofs.Finding.{located, nowhere, first-keeps}
 use Rattle.shapes.proofs.Elements.{holdsUninit, holds-unsized, holds-sized, holds-first, holds-none, uninit-array-is, uninit-array-none}
-use Rattle.wrappers.proofs.Going.{Going, going-to, going-meta, arrived, arrived-by}
+use Rattle.unwrap.proofs.Going.{Going, going-to, going-meta, arrived, arrived-by}
 use Rattle.shapes.proofs.Parts.{pointer-keeps}
 
 primitive-below : (p : PrimitiveTy) → primitiveKind p < 12

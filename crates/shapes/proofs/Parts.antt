@@ -12,23 +12,23 @@ use Rattle.encoding.specs.Refusals.{pick}
 use Rattle.encoding.specs.Reading.{Reading}
 use Rattle.encoding.specs.Types.{typeAt}
 use Rattle.encoding.proofs.TypeKinds.{type-kind}
-use Rattle.writing.specs.Written.{EndsAt}
-use Rattle.trees.specs.Encode.{words}
-use Rattle.trees.specs.Places.{Place, place}
-use Rattle.trees.proofs.Renaming.{type-words}
-use Rattle.wrappers.specs.Asked.{ExpandsAt}
-use Rattle.wrappers.proofs.TypesIn.{dyn-of, array-of}
-use Rattle.classes.specs.declared.Class.the-variants.{PtrClass, ObjectClass, ArrayClass, Boxed, Uninit, Collection, MapClass}
-use Rattle.classes.specs.declared.Found.{Found}
-use Rattle.classes.specs.declared.Found.the-variants.{At, NoPart}
-use Rattle.classes.specs.Asked.{Finds, found, isFound}
-use Rattle.classes.specs.Classes.{isOf, first}
-use Rattle.classes.specs.Steps.{when, andThen, argumentOf, dynAt, dynOf, elementOf}
+use Rattle.accepted_types.specs.Accepted.{EndsAt}
+use Rattle.tree_words.specs.Encode.{words}
+use Rattle.tree_words.specs.Places.{Place, place}
+use Rattle.tree_words.proofs.Renaming.{type-words}
+use Rattle.unwrap.specs.Asked.{ExpandsAt}
+use Rattle.unwrap.proofs.TypesIn.{dyn-of, array-of}
+use Rattle.known_paths.specs.declared.Class.the-variants.{PtrClass, ObjectClass, ArrayClass, Boxed, Uninit, Collection, MapClass}
+use Rattle.known_paths.specs.declared.Found.{Found}
+use Rattle.known_paths.specs.declared.Found.the-variants.{At, NoPart}
+use Rattle.known_paths.specs.Asked.{Finds, found, isFound}
+use Rattle.known_paths.specs.Classes.{isOf, first}
+use Rattle.known_paths.specs.Steps.{when, andThen, argumentOf, dynAt, dynOf, elementOf}
 use Rattle.shapes.specs.Parts.{removedAt, ownedAt, isMap, RemoveSynonyms, ExpandAt, ToOwned, BoxUnderlying, RcUnderlying, BoxDynUnderlying, MaybeUninitTypeUnderlying, ExtractMaybePlacebo, MultiArrayUnderlying, ObjectOrPointerUnderlying, GetBuiltinCollectionElement, uninitElement, ExtractMaybeUninitArrayElement, expanded}
 use Rattle.shapes.specs.Shapes.{IsBox, IsRc, IsBoxDyn, IsMaybeUninit, IsMultiArray, IsObjectOrPointer, IsBuiltinCollection}
-use Rattle.classes.proofs.Applying.{first-found}
-use Rattle.classes.proofs.Children.{Standing, Keeps, some-same, argument-keeps, dyn-keeps, element-keeps, when-keeps, then-keeps, else-keeps}
-use Rattle.classes.proofs.Finding.{located, nowhere, argument-kept, first-keeps}
+use Rattle.known_paths.proofs.Applying.{first-found}
+use Rattle.known_paths.proofs.Children.{Standing, Keeps, some-same, argument-keeps, dyn-keeps, element-keeps, when-keeps, then-keeps, else-keeps}
+use Rattle.known_paths.proofs.Finding.{located, nowhere, argument-kept, first-keeps}
 use Rattle.shapes.proofs.Pointers.{multi-array-first, pointed, pointer-first}
 use Rattle.shapes.proofs.Collections.{element, collection-first, map-element, no-map-element}
 use Rattle.shapes.proofs.Elements.{dyn-other, box-dyn-first, uninit-of-array, uninit-of-other, uninit-of-pointer}

@@ -8,16 +8,16 @@ use Rattle.rast.specs.Bytes.{Bytes, ascii, begins, _and_, _or_}
 use Rattle.rast.specs.Tree.{Ty, Primitive, TIdentifier, TypeFromPath, TypeApp, Borrowed, BorrowedMut, ImplType, DynType, TupleType, FnType, IntersectionType, Array, TSynonym, TMetaData, count}
 use Rattle.rast.specs.DeclarationToString.{Expand}
 use Rattle.encoding.specs.Refusals.{pick}
-use Rattle.trees.specs.Encode.{words}
-use Rattle.trees.specs.Places.{Place}
-use Rattle.classes.specs.declared.Class.the-variants.{ObjectClass, PtrClass, ArrayClass}
-use Rattle.classes.specs.Asked.{found, isFound}
-use Rattle.classes.specs.Classes.{inClass, arity, isOf, first}
-use Rattle.classes.specs.Paths.{runtimeMember}
-use Rattle.classes.specs.Steps.{when, argumentOf}
+use Rattle.tree_words.specs.Encode.{words}
+use Rattle.tree_words.specs.Places.{Place}
+use Rattle.known_paths.specs.declared.Class.the-variants.{ObjectClass, PtrClass, ArrayClass}
+use Rattle.known_paths.specs.Asked.{found, isFound}
+use Rattle.known_paths.specs.Classes.{inClass, arity, isOf, first}
+use Rattle.known_paths.specs.Paths.{runtimeMember}
+use Rattle.known_paths.specs.Steps.{when, argumentOf}
 use Rattle.shapes.specs.Parts.{expandedAt, MultiArrayUnderlying, ObjectOrPointerUnderlying, expanded}
 use Rattle.shapes.specs.Shapes.{IsPointer, IsObject, IsObjectOrPointer, IsMultiArray}
-use Rattle.classes.proofs.Applying.{first-found, applied-alike}
+use Rattle.known_paths.proofs.Applying.{first-found, applied-alike}
 
 and-swap : (a b : Bool) → (a and b) ≡ (b and a)
 unfolding _and_

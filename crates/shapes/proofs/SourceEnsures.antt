@@ -12,16 +12,16 @@ use Rattle.rast.specs.Tree.{Ty, Tys, Primitive, TIdentifier, TypeFromPath, Type
 use Rattle.rast.specs.DeclarationToString.{Expand}
 use Rattle.rast.proofs.SourceEquations.{isWrapper, expand-opens}
 use Rattle.encoding.proofs.Tables.{impossible}
-use Rattle.trees.specs.Encode.{tokens, tokensAll, words, wordsAll}
-use Rattle.trees.specs.Places.{Place, place}
-use Rattle.trees.proofs.Nodes.{words-cons}
-use Rattle.classes.specs.Steps.{andThen, typeAtIndex, argumentAt, argumentOf, dynAt, dynOf}
+use Rattle.tree_words.specs.Encode.{tokens, tokensAll, words, wordsAll}
+use Rattle.tree_words.specs.Places.{Place, place}
+use Rattle.tree_words.proofs.Nodes.{words-cons}
+use Rattle.known_paths.specs.Steps.{andThen, typeAtIndex, argumentAt, argumentOf, dynAt, dynOf}
 use Rattle.shapes.specs.Parts.{removedAt, expandedAt, RemoveSynonyms, ExpandAt, RcUnderlying, BoxDynUnderlying, expanded}
 use Rattle.shapes.specs.Shapes.{IsRc, IsBoxDyn}
-use Rattle.classes.proofs.Children.{some-same}
+use Rattle.known_paths.proofs.Children.{some-same}
 use Rattle.shapes.proofs.Pointers.{expanded-tree}
 use Rattle.shapes.proofs.Collections.{when-some}
-use Rattle.wrappers.proofs.Expanding.{synonym-words, meta-words}
+use Rattle.unwrap.proofs.Expanding.{synonym-words, meta-words}
 
 -- q is a part of p, and not p itself
 pub record PartOf (q p : Place Bytes) : Type 0 where

@@ -6,10 +6,10 @@ use Rattle.rast.specs.Bytes.{Bytes}
 use Rattle.rast.specs.Tree.{Ty, Primitive, TIdentifier, TypeFromPath, TypeApp, Borrowed, BorrowedMut, ImplType, DynType, TupleType, FnType, IntersectionType, Array, TSynonym, TMetaData}
 use Rattle.encoding.specs.Reading.{Reading, got}
 use Rattle.encoding.specs.Types.{typeAt}
-use Rattle.trees.specs.Encode.{words}
-use Rattle.trees.specs.Places.{Place}
+use Rattle.tree_words.specs.Encode.{words}
+use Rattle.tree_words.specs.Places.{Place}
 use Rattle.shapes.specs.Parts.{removedAt, expandedAt, ownedAt, expanded}
-use Rattle.classes.proofs.Children.{Standing, base-below, display-below, meta-below, mut-below, ref-below, stand-here}
+use Rattle.known_paths.proofs.Children.{Standing, base-below, display-below, meta-below, mut-below, ref-below, stand-here}
 
 module _ (ws pairs : List ℕ) (text : Bytes) where
   abbrev again : ℕ → Reading (Ty Bytes)

@@ -5,9 +5,9 @@ use Rattle.rast.specs.Bytes.{Bytes}
 use Rattle.rast.specs.Tree.{Global, PMemberSelect, Ty, Primitive, TIdentifier, TypeFromPath, TypeApp, Borrowed, BorrowedMut, ImplType, DynType, TupleType, FnType, IntersectionType, Array, TSynonym, TMetaData, nil, cons}
 use Rattle.rast.specs.DeclarationToString.{Expand}
 use Rattle.encoding.specs.Refusals.{pick}
-use Rattle.trees.specs.Renamed.{renamed}
-use Rattle.classes.specs.Matches.{argument, unsized}
-use Rattle.classes.specs.Steps.{when, andThen, orElse}
+use Rattle.tree_words.specs.Renamed.{renamed}
+use Rattle.known_paths.specs.Matches.{argument, unsized}
+use Rattle.known_paths.specs.Steps.{when, andThen, orElse}
 use Rattle.shapes.specs.Shapes.{IsObject, IsObjectOrPointer, IsMultiArray}
 
 -- `MaybeUninitType`, `ObjectType`, `PtrType`: their names are fixed (1 std, 8 mem, 9 MaybeUninit, 10 dafny_runtime, 11 Object, 12 Ptr)

@@ -8,11 +8,11 @@ use Rattle.rast.specs.Bytes.{Bytes, ascii, same, _and_}
 use Rattle.rast.specs.Tree.{Ty, Primitive, TIdentifier, TypeFromPath, TypeApp, Borrowed, BorrowedMut, ImplType, DynType, TupleType, FnType, IntersectionType, Array, TSynonym, TMetaData, count}
 use Rattle.rast.specs.DeclarationToString.{Expand}
 use Rattle.encoding.specs.Refusals.{pick}
-use Rattle.trees.specs.Encode.{words}
-use Rattle.trees.specs.Places.{Place, place}
-use Rattle.classes.specs.Matches.{applied}
-use Rattle.classes.specs.Paths.{samePath, runtimeMember, MaybePlaceboPath}
-use Rattle.classes.specs.Steps.{andThen, argumentOf, dynOf, elementOf, orElse, when}
+use Rattle.tree_words.specs.Encode.{words}
+use Rattle.tree_words.specs.Places.{Place, place}
+use Rattle.known_paths.specs.Matches.{applied}
+use Rattle.known_paths.specs.Paths.{samePath, runtimeMember, MaybePlaceboPath}
+use Rattle.known_paths.specs.Steps.{andThen, argumentOf, dynOf, elementOf, orElse, when}
 use Rattle.shapes.specs.Shapes.{IsBox, IsRc, IsBoxDyn, IsMaybeUninit, IsMultiArray, IsObjectOrPointer, IsBuiltinCollection}
 
 -- ---- behind wrappers and borrows

@@ -5,8 +5,8 @@ use lib.Dec.{eqb}
 use Rattle.rast.specs.Bytes.{Bytes, ascii, same, begins, _and_, _or_}
 use Rattle.rast.specs.Tree.{PrimitiveTy, U8, U16, U32, U64, U128, I8, I16, I32, I64, I128, USIZE, Bool·, Ty, Primitive, TIdentifier, TypeFromPath, TypeApp, Borrowed, BorrowedMut, ImplType, DynType, TupleType, FnType, IntersectionType, Array, TSynonym, TMetaData, count}
 use Rattle.rast.specs.DeclarationToString.{Expand}
-use Rattle.classes.specs.Matches.{applied, argument, isDyn, someIs, unsized}
-use Rattle.classes.specs.Paths.{samePath, runtimeMember, RcPath, ArcPath, BoxPath, MaybeUninitPath, ObjectPath, PtrPath}
+use Rattle.known_paths.specs.Matches.{applied, argument, isDyn, someIs, unsized}
+use Rattle.known_paths.specs.Paths.{samePath, runtimeMember, RcPath, ArcPath, BoxPath, MaybeUninitPath, ObjectPath, PtrPath}
 
 -- ---- applications of a path
 

@@ -7,19 +7,19 @@ ghost use Rattle.encoding.specs.Refusals.{given, mapAnswer};
 ghost use Rattle.encoding.specs.Reading.{whole};
 ghost use Rattle.encoding.specs.Tested.{Good};
 ghost use Rattle.encoding.specs.Types.{typeAt, typeOf};
-ghost use Rattle.writing.specs.Written.{Readable};
-ghost use Rattle.wrappers.specs.Asked.{Judges};
-ghost use Rattle.classes.specs.Asked.{Finds};
-ghost use Rattle.classes.specs.Matches.{unsized};
+ghost use Rattle.accepted_types.specs.Accepted.{Readable};
+ghost use Rattle.unwrap.specs.Asked.{Judges};
+ghost use Rattle.known_paths.specs.Asked.{Finds};
+ghost use Rattle.known_paths.specs.Matches.{unsized};
 ghost use Rattle.shapes.specs.Asked.{shapeAnswer};
 ghost use Rattle.shapes.specs.Accepted.{nameStep, nameKind, acceptance};
 ghost use Rattle.shapes.specs.Parts.{removedAt, ownedAt, BoxDynUnderlying, MultiArrayUnderlying, ObjectOrPointerUnderlying, GetBuiltinCollectionElement, uninitElement, ExtractMaybeUninitArrayElement};
 ghost use Rattle.shapes.specs.Shapes.{EndsWithNameThatCanAcceptGenerics, IsAutoSize, CanReadWithoutClone, IsRcOrBorrowedRc, IsMultiArray, IsMaybeUninit, IsUninitArray, IsBox, NeedsAsRefForBorrow, IsObject, IsPointer, IsObjectOrPointer, IsBuiltinCollection, IsRc, IsBoxDyn, uninitCases};
-use classes::Class;
-use classes::Found;
 use encoding::Check;
 use encoding::Refusal;
 use encoding::Scan;
+use known_paths::Class;
+use known_paths::Found;
 
 // A shape answer: yes, no, or the refusal.
 pub enum ShapeAnswer {
@@ -70,12 +70,12 @@ pub fn multi_array_part(words: &[u32], pairs: &[u32], text: &[u8], at: usize) ->
     requires { ⌜ Good (now pairs) (now text) × Readable (typeAt (now words) (now pairs) (now text) at) ⌝ }
     ensures { λ r. ⌜ Finds MultiArrayUnderlying (typeAt (now (words .entry)) (now (pairs .entry)) (now (text .entry))) at r ⌝ }
 {
-    classes::first_argument(
+    known_paths::first_argument(
         words,
         pairs,
         text,
         Class::ArrayClass,
-        wrappers::expand(words, pairs, text, at),
+        unwrap::expand(words, pairs, text, at),
     )
 }
 
@@ -84,9 +84,10 @@ pub fn object_or_pointer_part(words: &[u32], pairs: &[u32], text: &[u8], at: usi
     requires { ⌜ Good (now pairs) (now text) × Readable (typeAt (now words) (now pairs) (now text) at) ⌝ }
     ensures { λ r. ⌜ Finds ObjectOrPointerUnderlying (typeAt (now (words .entry)) (now (pairs .entry)) (now (text .entry))) at r ⌝ }
 {
-    let place = wrappers::expand(words, pairs, text, at);
-    let Found::At(part) = classes::first_argument(words, pairs, text, Class::PtrClass, place) else {
-        return classes::first_argument(words, pairs, text, Class::ObjectClass, place);
+    let place = unwrap::expand(words, pairs, text, at);
+    let Found::At(part) = known_paths::first_argument(words, pairs, text, Class::PtrClass, place)
+    else {
+        return known_paths::first_argument(words, pairs, text, Class::ObjectClass, place);
     };
     Found::At(part)
 }
@@ -96,11 +97,12 @@ pub fn collection_part(words: &[u32], pairs: &[u32], text: &[u8], at: usize) -> 
     requires { ⌜ Good (now pairs) (now text) × Readable (typeAt (now words) (now pairs) (now text) at) ⌝ }
     ensures { λ r. ⌜ Finds GetBuiltinCollectionElement (typeAt (now (words .entry)) (now (pairs .entry)) (now (text .entry))) at r ⌝ }
 {
-    let place = wrappers::expand(words, pairs, text, at);
-    let Found::At(key) = classes::first_argument(words, pairs, text, Class::MapClass, place) else {
-        return classes::first_argument(words, pairs, text, Class::Collection, place);
+    let place = unwrap::expand(words, pairs, text, at);
+    let Found::At(key) = known_paths::first_argument(words, pairs, text, Class::MapClass, place)
+    else {
+        return known_paths::first_argument(words, pairs, text, Class::Collection, place);
     };
-    Found::At(writing::skip_type(words, pairs, text, key))
+    Found::At(accepted_types::skip_type(words, pairs, text, key))
 }
 
 // `BoxDynUnderlying`
@@ -108,7 +110,7 @@ pub fn box_dyn_part(words: &[u32], pairs: &[u32], text: &[u8], at: usize) -> Fou
     requires { ⌜ Good (now pairs) (now text) × Readable (typeAt (now words) (now pairs) (now text) at) ⌝ }
     ensures { λ r. ⌜ Finds BoxDynUnderlying (typeAt (now (words .entry)) (now (pairs .entry)) (now (text .entry))) at r ⌝ }
 {
-    let Found::At(place) = classes::first_argument(words, pairs, text, Class::Boxed, at) else {
+    let Found::At(place) = known_paths::first_argument(words, pairs, text, Class::Boxed, at) else {
         return Found::NoPart;
     };
     if words[place] == 18 {
@@ -123,12 +125,12 @@ fn uninit_part(words: &[u32], pairs: &[u32], text: &[u8], at: usize) -> Found
     ensures { λ r. ⌜ Finds uninitElement (typeAt (now (words .entry)) (now (pairs .entry)) (now (text .entry))) at r ⌝ }
 {
     if words[at] == 22 {
-        return classes::first_argument(words, pairs, text, Class::Uninit, at + 2);
+        return known_paths::first_argument(words, pairs, text, Class::Uninit, at + 2);
     }
     let Found::At(place) = multi_array_part(words, pairs, text, at) else {
         return Found::NoPart;
     };
-    classes::first_argument(words, pairs, text, Class::Uninit, place)
+    known_paths::first_argument(words, pairs, text, Class::Uninit, place)
 }
 
 // `ExtractMaybeUninitArrayElement`
@@ -151,14 +153,15 @@ fn holds_uninit(words: &[u32], pairs: &[u32], text: &[u8], at: usize) -> bool
 {
     if words[at] == 22 {
         if words[at + 1] == 0 {
-            return classes::is_of(words, pairs, text, Class::Uninit, at + 2);
+            return known_paths::is_of(words, pairs, text, Class::Uninit, at + 2);
         }
         return false;
     }
-    let Found::At(place) = classes::first_argument(words, pairs, text, Class::ArrayClass, at) else {
+    let Found::At(place) = known_paths::first_argument(words, pairs, text, Class::ArrayClass, at)
+    else {
         return false;
     };
-    classes::is_of(words, pairs, text, Class::Uninit, place)
+    known_paths::is_of(words, pairs, text, Class::Uninit, place)
 }
 
 // `IsUninitArray`
@@ -173,7 +176,7 @@ fn is_uninit_array_at(words: &[u32], pairs: &[u32], text: &[u8], at: usize) -> b
         words,
         pairs,
         text,
-        wrappers::expand(words, pairs, text, place),
+        unwrap::expand(words, pairs, text, place),
     )
 }
 
@@ -188,9 +191,9 @@ fn is_rc_or_borrowed_at(words: &[u32], pairs: &[u32], text: &[u8], at: usize) ->
         if w == 15 {
             place += 1;
         } else if w == 23 {
-            place = writing::skip_type(words, pairs, text, place + 1);
+            place = accepted_types::skip_type(words, pairs, text, place + 1);
         } else {
-            return classes::is_of(words, pairs, text, Class::Counted, place);
+            return known_paths::is_of(words, pairs, text, Class::Counted, place);
         }
     }
 }
@@ -207,14 +210,14 @@ fn can_read_at(words: &[u32], pairs: &[u32], text: &[u8], at: usize) -> bool
             return true;
         }
         if w == 23 {
-            place = writing::skip_type(words, pairs, text, place + 1);
+            place = accepted_types::skip_type(words, pairs, text, place + 1);
         } else if w == 24 {
             if words[place + 1] % 2 == 1 {
                 return true;
             }
             place += 2;
         } else {
-            return classes::is_of(words, pairs, text, Class::PtrClass, place);
+            return known_paths::is_of(words, pairs, text, Class::PtrClass, place);
         }
     }
 }
@@ -256,7 +259,7 @@ fn ends_with_name_at(words: &[u32], pairs: &[u32], text: &[u8], at: usize) -> bo
     loop {
         let w = words[place];
         if w == 21 {
-            place = writing::skip_type(words, pairs, text, place + 1);
+            place = accepted_types::skip_type(words, pairs, text, place + 1);
         } else {
             let own = name_step(w);
             if own == 0 {
@@ -272,17 +275,17 @@ fn is_auto_size_at(words: &[u32], pairs: &[u32], text: &[u8], at: usize) -> bool
     requires { ⌜ Readable (typeAt (now words) (now pairs) (now text) at) ⌝ }
     ensures { λ r. ⌜ Judges IsAutoSize (typeAt (now (words .entry)) (now (pairs .entry)) (now (text .entry)) at) r ⌝ }
 {
-    words[wrappers::expand(words, pairs, text, at)] < 11
+    words[unwrap::expand(words, pairs, text, at)] < 11
 }
 
 fn is_box_or_rc(words: &[u32], pairs: &[u32], text: &[u8], at: usize) -> bool
     requires { ⌜ Good (now pairs) (now text) × Readable (typeAt (now words) (now pairs) (now text) at) ⌝ }
     ensures { λ r. ⌜ Judges (λ t. IsBox t or IsRc t) (typeAt (now (words .entry)) (now (pairs .entry)) (now (text .entry)) at) r ⌝ }
 {
-    if classes::is_of(words, pairs, text, Class::Boxed, at) {
+    if known_paths::is_of(words, pairs, text, Class::Boxed, at) {
         return true;
     }
-    classes::is_of(words, pairs, text, Class::Counted, at)
+    known_paths::is_of(words, pairs, text, Class::Counted, at)
 }
 
 // `NeedsAsRefForBorrow`
@@ -301,8 +304,8 @@ fn is_multi_array_at(words: &[u32], pairs: &[u32], text: &[u8], at: usize) -> bo
     requires { ⌜ Good (now pairs) (now text) × Readable (typeAt (now words) (now pairs) (now text) at) ⌝ }
     ensures { λ r. ⌜ Judges IsMultiArray (typeAt (now (words .entry)) (now (pairs .entry)) (now (text .entry)) at) r ⌝ }
 {
-    let place = wrappers::expand(words, pairs, text, at);
-    classes::is_of(words, pairs, text, Class::ArrayClass, place)
+    let place = unwrap::expand(words, pairs, text, at);
+    known_paths::is_of(words, pairs, text, Class::ArrayClass, place)
 }
 
 // `IsObjectOrPointer`
@@ -310,11 +313,11 @@ fn is_object_or_pointer_at(words: &[u32], pairs: &[u32], text: &[u8], at: usize)
     requires { ⌜ Good (now pairs) (now text) × Readable (typeAt (now words) (now pairs) (now text) at) ⌝ }
     ensures { λ r. ⌜ Judges IsObjectOrPointer (typeAt (now (words .entry)) (now (pairs .entry)) (now (text .entry)) at) r ⌝ }
 {
-    let place = wrappers::expand(words, pairs, text, at);
-    if classes::is_of(words, pairs, text, Class::PtrClass, place) {
+    let place = unwrap::expand(words, pairs, text, at);
+    if known_paths::is_of(words, pairs, text, Class::PtrClass, place) {
         return true;
     }
-    classes::is_of(words, pairs, text, Class::ObjectClass, place)
+    known_paths::is_of(words, pairs, text, Class::ObjectClass, place)
 }
 
 // `IsBuiltinCollection`
@@ -322,11 +325,11 @@ fn is_collection_at(words: &[u32], pairs: &[u32], text: &[u8], at: usize) -> boo
     requires { ⌜ Good (now pairs) (now text) × Readable (typeAt (now words) (now pairs) (now text) at) ⌝ }
     ensures { λ r. ⌜ Judges IsBuiltinCollection (typeAt (now (words .entry)) (now (pairs .entry)) (now (text .entry)) at) r ⌝ }
 {
-    let place = wrappers::expand(words, pairs, text, at);
-    if classes::is_of(words, pairs, text, Class::Collection, place) {
+    let place = unwrap::expand(words, pairs, text, at);
+    if known_paths::is_of(words, pairs, text, Class::Collection, place) {
         return true;
     }
-    classes::is_of(words, pairs, text, Class::MapClass, place)
+    known_paths::is_of(words, pairs, text, Class::MapClass, place)
 }
 
 // `IsBoxDyn`
@@ -334,7 +337,7 @@ fn is_box_dyn_at(words: &[u32], pairs: &[u32], text: &[u8], at: usize) -> bool
     requires { ⌜ Good (now pairs) (now text) × Readable (typeAt (now words) (now pairs) (now text) at) ⌝ }
     ensures { λ r. ⌜ Judges IsBoxDyn (typeAt (now (words .entry)) (now (pairs .entry)) (now (text .entry)) at) r ⌝ }
 {
-    classes::is_found(box_dyn_part(words, pairs, text, at))
+    known_paths::is_found(box_dyn_part(words, pairs, text, at))
 }
 
 // ---- the public calls
@@ -344,7 +347,7 @@ fn accept_words(words: &[u32], pairs: &[u32], text: &[u8]) -> Check
     requires { ⌜ Good (now pairs) (now text) × (length (now words) ≤ 8192) ⌝ }
     ensures { λ r. ⌜ r ≡ acceptance (whole (length (now (words .entry))) (typeAt (now (words .entry)) (now (pairs .entry)) (now (text .entry)) 0)) ⌝ }
 {
-    match acceptance::accept_type(words, pairs, text, 0, 0) {
+    match accept_type::accept_type(words, pairs, text, 0, 0) {
         Scan::At(next) => {
             if next != words.len() {
                 return Check::Failed(Refusal::LeftOver);
@@ -434,7 +437,7 @@ pub fn is_maybe_uninit(words: &[u32], pairs: &[u32], text: &[u8]) -> ShapeAnswer
     ensures { λ r. ⌜ r ≡ shapeAnswer (mapAnswer IsMaybeUninit (typeOf (now (words .entry)) (now (pairs .entry)) (now (text .entry)))) ⌝ }
 {
     match accept(words, pairs, text) {
-        Check::Passed => answer(classes::is_of(words, pairs, text, Class::Uninit, 0)),
+        Check::Passed => answer(known_paths::is_of(words, pairs, text, Class::Uninit, 0)),
         Check::Failed(r) => ShapeAnswer::Refused(r),
     }
 }
@@ -454,7 +457,7 @@ pub fn is_box(words: &[u32], pairs: &[u32], text: &[u8]) -> ShapeAnswer
     ensures { λ r. ⌜ r ≡ shapeAnswer (mapAnswer IsBox (typeOf (now (words .entry)) (now (pairs .entry)) (now (text .entry)))) ⌝ }
 {
     match accept(words, pairs, text) {
-        Check::Passed => answer(classes::is_of(words, pairs, text, Class::Boxed, 0)),
+        Check::Passed => answer(known_paths::is_of(words, pairs, text, Class::Boxed, 0)),
         Check::Failed(r) => ShapeAnswer::Refused(r),
     }
 }
@@ -474,7 +477,7 @@ pub fn is_object(words: &[u32], pairs: &[u32], text: &[u8]) -> ShapeAnswer
     ensures { λ r. ⌜ r ≡ shapeAnswer (mapAnswer IsObject (typeOf (now (words .entry)) (now (pairs .entry)) (now (text .entry)))) ⌝ }
 {
     match accept(words, pairs, text) {
-        Check::Passed => answer(classes::is_of(words, pairs, text, Class::ObjectClass, 0)),
+        Check::Passed => answer(known_paths::is_of(words, pairs, text, Class::ObjectClass, 0)),
         Check::Failed(r) => ShapeAnswer::Refused(r),
     }
 }
@@ -484,7 +487,7 @@ pub fn is_pointer(words: &[u32], pairs: &[u32], text: &[u8]) -> ShapeAnswer
     ensures { λ r. ⌜ r ≡ shapeAnswer (mapAnswer IsPointer (typeOf (now (words .entry)) (now (pairs .entry)) (now (text .entry)))) ⌝ }
 {
     match accept(words, pairs, text) {
-        Check::Passed => answer(classes::is_of(words, pairs, text, Class::PtrClass, 0)),
+        Check::Passed => answer(known_paths::is_of(words, pairs, text, Class::PtrClass, 0)),
         Check::Failed(r) => ShapeAnswer::Refused(r),
     }
 }
@@ -514,7 +517,7 @@ pub fn is_rc(words: &[u32], pairs: &[u32], text: &[u8]) -> ShapeAnswer
     ensures { λ r. ⌜ r ≡ shapeAnswer (mapAnswer IsRc (typeOf (now (words .entry)) (now (pairs .entry)) (now (text .entry)))) ⌝ }
 {
     match accept(words, pairs, text) {
-        Check::Passed => answer(classes::is_of(words, pairs, text, Class::Counted, 0)),
+        Check::Passed => answer(known_paths::is_of(words, pairs, text, Class::Counted, 0)),
         Check::Failed(r) => ShapeAnswer::Refused(r),
     }
 }

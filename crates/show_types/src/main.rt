@@ -3,7 +3,7 @@
 // An encoding holds a type as words, a table of pairs and a text. The words are the type's tree, each type before its parts: the number of its
 // kind, then what that kind asks for. A name is a number too: up to 15 they are fixed, as 1 `std`, 2 `rc` and 3 `Rc`, and 16 is the first pair's.
 use libc::STDOUT_FILENO;
-use text::TextAnswer;
+use text_calls::TextAnswer;
 
 // A pair is where a name starts in the text, and its length: names 16 to 18 are `Gauge`, `Meters` and `4`.
 const PAIRS: [u32; 6] = [0, 5, 5, 6, 11, 1];
@@ -19,7 +19,7 @@ fn show(what: &[u8], words: &[u32]) {
     let mut buffer = [0u8; 64];
     print(what);
     print(b": ");
-    match text::type_text(words, &PAIRS, names, 0, &mut buffer) {
+    match text_calls::type_text(words, &PAIRS, names, 0, &mut buffer) {
         TextAnswer::Length(n) => print(&buffer[..n]),
         TextAnswer::Refused(r) => {
             print(b"refused ");

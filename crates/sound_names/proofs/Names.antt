@@ -16,11 +16,11 @@ use Rattle.rast.proofs.BytesLaws.{and-yes}
 use Rattle.encoding.specs.Refusals.{pick}
 use Rattle.encoding.specs.Tables.{fixedNames, nameBytes}
 use Rattle.encoding.specs.Types.{sizeOf}
-use Rattle.output.proofs.Laws.{part-length}
+use Rattle.buffer.proofs.Laws.{part-length}
 use Rattle.sound_names.specs.Words.{letters, wordStarts, wordLengths, beginsExcluded, WordBytes}
 use Rattle.encoding.proofs.Tables.{impossible, everyBelow, every-at, every-at-most, every-same, same-eq, name-fixed}
 use Rattle.encoding.proofs.Names.{every-agree}
-use Rattle.measure.proofs.PathNames.{part-next, part-none}
+use Rattle.text_measure.proofs.PathNames.{part-next, part-none}
 
 -- ---- words
 

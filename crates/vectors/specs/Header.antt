@@ -1,7 +1,7 @@
 -- The header of a record.
 use mathlib.Core.List.{List}
 use Prim.Native.Nat.{ℕ}
-use Rattle.numbers.specs.Numbers.{numberAt}
+use Rattle.little_endian.specs.Numbers.{numberAt}
 use Rattle.vectors.specs.declared.Header.{Header}
 
 -- its six numbers

@@ -18,10 +18,10 @@ use encoding::Refusal;
 use libc::STDIN_FILENO;
 use libc::STDOUT_FILENO;
 use parts::PartAnswer;
-use rebuild::RebuildAnswer;
+use rebuild_type::RebuildAnswer;
 use shapes::ShapeAnswer;
-use soundness::SoundAnswer;
-use text::TextAnswer;
+use sound_type::SoundAnswer;
+use text_calls::TextAnswer;
 use visits::VisitAnswer;
 
 const TYPE_TEXT: u32 = 1;
@@ -83,12 +83,12 @@ fn header_of(bytes: &[u8; HEADER_BYTES]) -> Header
     ensures { λ r. ⌜ r ≡ headerOf (now (bytes .entry)) ⌝ }
 {
     Header {
-        call: numbers::number_at(bytes, 0),
-        level: numbers::number_at(bytes, 4),
-        words: numbers::number_at(bytes, 8) as usize,
-        pairs: numbers::number_at(bytes, 12) as usize,
-        text: numbers::number_at(bytes, 16) as usize,
-        buffer: numbers::number_at(bytes, 20) as usize,
+        call: little_endian::number_at(bytes, 0),
+        level: little_endian::number_at(bytes, 4),
+        words: little_endian::number_at(bytes, 8) as usize,
+        pairs: little_endian::number_at(bytes, 12) as usize,
+        text: little_endian::number_at(bytes, 16) as usize,
+        buffer: little_endian::number_at(bytes, 20) as usize,
     }
 }
 
@@ -101,7 +101,7 @@ fn read_numbers(out: &mut [u32]) -> bool
     if io::read_full(STDIN_FILENO, &mut bytes[..size]) < size {
         return false;
     }
-    numbers::read_numbers(&bytes, 0, out);
+    little_endian::read_numbers(&bytes, 0, out);
     true
 }
 
@@ -202,12 +202,12 @@ fn call_text(
     out: &mut [u8],
 ) -> TextAnswer {
     if call == TYPE_TEXT {
-        return text::type_text(words, pairs, text, level, out);
+        return text_calls::type_text(words, pairs, text, level, out);
     }
     if call == PATH_TEXT {
-        return text::path_text(words, pairs, text, level, out);
+        return text_calls::path_text(words, pairs, text, level, out);
     }
-    declaration_call::declaration_text(words, pairs, text, level, out)
+    text_declaration_call::declaration_text(words, pairs, text, level, out)
 }
 
 // Makes a text call with a buffer of `.` bytes, and prints its answer.
@@ -236,12 +236,12 @@ fn call_rebuild(
     out: &mut [u32],
 ) -> RebuildAnswer {
     if call == TYPE_AT_INITIALIZATION {
-        return initialization::type_at_initialization(words, pairs, text, out);
+        return rebuild_initial::type_at_initialization(words, pairs, text, out);
     }
     if call == DECLARATION_REBUILD {
-        return replacement::declaration_rebuild(words, pairs, text, rules, out);
+        return rebuild_calls::declaration_rebuild(words, pairs, text, rules, out);
     }
-    replacement::type_rebuild(words, pairs, text, rules, out)
+    rebuild_calls::type_rebuild(words, pairs, text, rules, out)
 }
 
 // Makes a call that rebuilds, with a buffer of `.` bytes, and prints its answer.
@@ -371,7 +371,7 @@ fn run_call(h: Header, words: &[u32], pairs: &[u32], text: &[u8]) -> bool
     let call = h.call;
     match call {
         TYPE_TEXT | PATH_TEXT | DECLARATION_TEXT => run_text_call(h, words, pairs, text),
-        TYPE_IS_SOUND => print_sound_answer(soundness::type_is_sound(words, pairs, text)),
+        TYPE_IS_SOUND => print_sound_answer(sound_type::type_is_sound(words, pairs, text)),
         PRINTED_FILE => print_file(text),
         TYPE_REBUILD => return run_rebuild_call(h, words, pairs, text),
         DECLARATION_REBUILD => return run_rebuild_call(h, words, pairs, text),

@@ -6,7 +6,7 @@ use native.Mathlib.Omega.{arith}
 use lib.ListN.{length}
 use Rattle.rast.specs.Bytes.{Bytes}
 use Rattle.rast.specs.Tree.{nil, cons}
-use Rattle.output.proofs.Laws.{wrote-as}
+use Rattle.buffer.proofs.Laws.{wrote-as}
 use Rattle.encoding.specs.declared.Refusal.{Refusal}
 use Rattle.encoding.specs.declared.Refusal.the-variants.{LeftOver, BufferTooShort}
 use Rattle.encoding.specs.declared.Check.{Check}
@@ -22,17 +22,17 @@ use Rattle.encoding.specs.Declarations.{declarationOf}
 use Rattle.encoding.proofs.Answers.{filled-stop, filled-left, filled-short, filled-done, filled-passed, filled-failed, map-unless}
 use Rattle.encoding.proofs.Reading.{scan-got, scan-stop}
 use Rattle.encoding.proofs.Types.{type-lies}
-use Rattle.trees.proofs.Nodes.{one-read}
-use Rattle.writing.specs.declared.Spot.{Spot}
-use Rattle.writing.specs.Written.{Readable}
+use Rattle.tree_words.proofs.Nodes.{one-read}
+use Rattle.accepted_types.specs.declared.Spot.{Spot}
+use Rattle.accepted_types.specs.Accepted.{Readable}
 use Rattle.visits.specs.declared.VisitAnswer.{VisitAnswer}
 use Rattle.visits.specs.declared.VisitAnswer.the-variants.{Count, Refused}
-use Rattle.pieces.specs.declared.Whole.{Whole}
-use Rattle.pieces.specs.declared.Whole.the-variants.{AType, ADeclaration}
+use Rattle.declaration_walk.specs.declared.Whole.{Whole}
+use Rattle.declaration_walk.specs.declared.Whole.the-variants.{AType, ADeclaration}
 use Rattle.visits.specs.Visited.{visited, visitedFrom, positions, typeVisits, declarationVisits}
 use Rattle.visits.specs.Calls.{filled}
 use Rattle.visits.specs.Passes.{Due, Visited, heldVisits, Fills, AllVisited, wholeVisits}
-use Rattle.pieces.specs.Ends.{Held, heldAt}
+use Rattle.declaration_walk.specs.Ends.{Held, heldAt}
 use Rattle.visits.proofs.Lists.{listOf}
 
 module _ (ws pairs : List ℕ) (text : Bytes) where

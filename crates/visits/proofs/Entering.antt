@@ -8,7 +8,7 @@ use lib.ListN.{length, length-map}
 use Rattle.rast.specs.Bytes.{Bytes}
 use Rattle.rast.specs.Tree.{Ty, Tys, nil, cons}
 use Rattle.rast.specs.Declaration.{Use, Declaration, UseDecl}
-use Rattle.output.proofs.Laws.{wrote-nothing, wrote-then, wrote-as, wrote-kept}
+use Rattle.buffer.proofs.Laws.{wrote-nothing, wrote-then, wrote-as, wrote-kept}
 use Rattle.encoding.specs.declared.Refusal.{Refusal}
 use Rattle.encoding.specs.Reading.{got}
 use Rattle.encoding.specs.declared.Scan.the-variants.{At}
@@ -18,25 +18,25 @@ use Rattle.encoding.specs.Types.{typeAt}
 use Rattle.encoding.specs.Declarations.{declarationAt}
 use Rattle.encoding.proofs.Tables.{impossible}
 use Rattle.encoding.proofs.Types.{bind-got, type-lies}
-use Rattle.trees.specs.Encode.{Token, tokenWord, words}
-use Rattle.trees.specs.Tokens.{renamedToken}
-use Rattle.trees.proofs.Renaming.{type-words}
-use Rattle.trees.proofs.Nodes.{one-read}
-use Rattle.writing.specs.declared.Spot.{Spot}
-use Rattle.writing.specs.Written.{Readable}
-use Rattle.pieces.specs.declared.After.{After}
-use Rattle.pieces.specs.declared.Walk.{Walk}
-use Rattle.pieces.specs.declared.Start.{Start}
-use Rattle.pieces.specs.declared.Start.the-variants.{NotBegun}
-use Rattle.pieces.specs.declared.Next.the-variants.{OwnWords, TypeDue, Ended, Halted}
-use Rattle.pieces.specs.Pieces.{Piece, type, owned, typePiece, useTokens, front, rest, pieces}
-use Rattle.pieces.specs.Walks.{leftAt, moved, inField, FieldNext, fieldType, pastField, Stepped, type-due, Opening, opened, readOpening, started}
-use Rattle.pieces.proofs.Steps.{own-step, due-step, end-step, halt-step, field-opens}
-use Rattle.pieces.proofs.OpeningRuns.{opening-run}
-use Rattle.pieces.proofs.Passes.{BegunAt, not-begun}
-use Rattle.pieces.proofs.Fronts.{Behind, behind-got, whole-left, Kind, a-struct, an-enum, a-synonym, a-use, kind-of}
+use Rattle.tree_words.specs.Encode.{Token, tokenWord, words}
+use Rattle.tree_words.specs.Tokens.{renamedToken}
+use Rattle.tree_words.proofs.Renaming.{type-words}
+use Rattle.tree_words.proofs.Nodes.{one-read}
+use Rattle.accepted_types.specs.declared.Spot.{Spot}
+use Rattle.accepted_types.specs.Accepted.{Readable}
+use Rattle.declaration_walk.specs.declared.After.{After}
+use Rattle.declaration_walk.specs.declared.Walk.{Walk}
+use Rattle.declaration_walk.specs.declared.Start.{Start}
+use Rattle.declaration_walk.specs.declared.Start.the-variants.{NotBegun}
+use Rattle.declaration_walk.specs.declared.Next.the-variants.{OwnWords, TypeDue, Ended, Halted}
+use Rattle.declaration_walk.specs.Pieces.{Piece, type, owned, typePiece, useTokens, front, rest, pieces}
+use Rattle.declaration_walk.specs.Walks.{leftAt, moved, inField, FieldNext, fieldType, pastField, Stepped, type-due, Opening, opened, readOpening, started}
+use Rattle.declaration_walk.proofs.Steps.{own-step, due-step, end-step, halt-step, field-opens}
+use Rattle.declaration_walk.proofs.OpeningRuns.{opening-run}
+use Rattle.declaration_walk.proofs.Passes.{BegunAt, not-begun}
+use Rattle.declaration_walk.proofs.Fronts.{Behind, behind-got, whole-left, Kind, a-struct, an-enum, a-synonym, a-use, kind-of}
 use Rattle.visits.specs.Visited.{visitedFrom, visitedPieces, entered, visitedDeclaration, positions}
-use Rattle.pieces.specs.declared.Whole.the-variants.{ADeclaration}
+use Rattle.declaration_walk.specs.declared.Whole.the-variants.{ADeclaration}
 use Rattle.visits.specs.Passes.{enteredAfter, enteredWalk, Ahead, Going, Entered, AllVisited, Due, Visited}
 use Rattle.visits.proofs.Lists.{listOf, positions-append}
 

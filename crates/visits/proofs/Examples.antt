@@ -10,8 +10,8 @@ use Rattle.encoding.specs.Tables.{overlong, goodPairs, checkTables, fixedNames,
 use Rattle.encoding.specs.Heads.{readPath, pathHead, headAfter, readHead}
 use Rattle.encoding.specs.Types.{primitives, rootOf, pathOf, sizeOf, readTypes, readNode, readType, typeOf}
 use Rattle.encoding.specs.Declarations.{readList, readCounted, visibilityOf, readVisibility, readName, readAttribute, readParameter, readFormal, readField, readNamelessField, readFields, readCase, readStruct, readEnum, readTypeSynonym, readUse, declarationAfter, readDeclaration, declarationOf}
-use Rattle.trees.specs.Encode.{primitiveWord, flagsWord, rootWord, names, pathTokens, tokens, words, wordsAll}
-use Rattle.pieces.specs.Pieces.{visibilityWord, runs, attributeTokens, attributesTokens, titleTokens, useTokens, counted, parameterPieces, fieldPieces, namelessPieces, fieldsPieces, casePieces, heading, front, rest, pieces}
+use Rattle.tree_words.specs.Encode.{primitiveWord, flagsWord, rootWord, names, pathTokens, tokens, words, wordsAll}
+use Rattle.declaration_walk.specs.Pieces.{visibilityWord, runs, attributeTokens, attributesTokens, titleTokens, useTokens, counted, parameterPieces, fieldPieces, namelessPieces, fieldsPieces, casePieces, heading, front, rest, pieces}
 use Rattle.visits.specs.Visited.{visited, visitedFrom, visitedPieces, entered, visitedDeclaration, typeVisits, declarationVisits}
 
 abbrev pairs : List ℕ

@@ -4,7 +4,7 @@ use mathlib.Core.Path.{_≡_, refl}
 use mathlib.Core.List.{List, [], _∷_, _++_, map}
 use Rattle.rast.specs.Tree.{Ty, Tys, Primitive, TIdentifier, TypeFromPath, TypeApp, Borrowed, BorrowedMut, ImplType, DynType, TupleType, FnType, IntersectionType, Array, TSynonym, TMetaData, nil, cons}
 use Rattle.rast.proofs.SourceEquations.{list}
-use Rattle.trees.specs.Places.{Place}
+use Rattle.tree_words.specs.Places.{Place}
 use Rattle.visits.specs.Fold.{FoldLeft, Fold, FoldAll}
 use Rattle.visits.specs.Visited.{visited, visitedFrom, visitedAll}
 

@@ -21,19 +21,19 @@ use Rattle.encoding.proofs.Answers.{given-whole}
 use Rattle.encoding.proofs.Types.{bind-got, made₂-got, node-of, type-lies}
 use Rattle.encoding.proofs.TypeKinds.{kind, type-kind}
 use Rattle.encoding.proofs.Inside.{head-lies}
-use Rattle.trees.specs.Encode.{tokenWord, words}
-use Rattle.trees.specs.Places.{Place, place}
-use Rattle.trees.proofs.Nodes.{node-below, one-read}
-use Rattle.trees.proofs.Renaming.{type-words}
-use Rattle.writing.proofs.Accepted.{type-here, synonym-head}
-use Rattle.pieces.specs.declared.Walk.{Walk}
-use Rattle.pieces.specs.declared.Next.{Next}
-use Rattle.pieces.specs.declared.Next.the-variants.{OwnWords, TypeDue, Ended, Halted}
-use Rattle.pieces.specs.Pieces.{Piece, type, typePiece}
-use Rattle.pieces.specs.Walks.{leftAt, moved, Stepped, Opening, opened, readOpening, started}
-use Rattle.pieces.proofs.Steps.{own-step, due-step, end-step, halt-step}
-use Rattle.pieces.proofs.NextSteps.{next-step}
-use Rattle.pieces.proofs.Fronts.{behind-got}
+use Rattle.tree_words.specs.Encode.{tokenWord, words}
+use Rattle.tree_words.specs.Places.{Place, place}
+use Rattle.tree_words.proofs.Nodes.{node-below, one-read}
+use Rattle.tree_words.proofs.Renaming.{type-words}
+use Rattle.accepted_types.proofs.Accepted.{type-here, synonym-head}
+use Rattle.declaration_walk.specs.declared.Walk.{Walk}
+use Rattle.declaration_walk.specs.declared.Next.{Next}
+use Rattle.declaration_walk.specs.declared.Next.the-variants.{OwnWords, TypeDue, Ended, Halted}
+use Rattle.declaration_walk.specs.Pieces.{Piece, type, typePiece}
+use Rattle.declaration_walk.specs.Walks.{leftAt, moved, Stepped, Opening, opened, readOpening, started}
+use Rattle.declaration_walk.proofs.Steps.{own-step, due-step, end-step, halt-step}
+use Rattle.declaration_walk.proofs.NextSteps.{next-step}
+use Rattle.declaration_walk.proofs.Fronts.{behind-got}
 use Rattle.visits.specs.Visited.{visited, visitedFrom, visitedAll, visitedPieces, visitedDeclaration}
 use Rattle.visits.specs.Passes.{enteredWalk}
 use Rattle.visits.proofs.Lists.{visited-synonym, visited-node}

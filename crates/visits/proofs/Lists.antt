@@ -11,9 +11,9 @@ use Rattle.encoding.specs.Reading.{Reading, got}
 use Rattle.encoding.specs.Types.{readTypes}
 use Rattle.encoding.proofs.Types.{made₂-got, snoc}
 use Rattle.encoding.proofs.TypeKinds.{kind}
-use Rattle.trees.specs.Encode.{tokens, tokensAll, words, wordsAll}
-use Rattle.trees.specs.Places.{Place, place}
-use Rattle.trees.proofs.Nodes.{Node, plain, ident, path, apply, ref, refMut, impl, dyn, tuple, function, both, array, synonym, meta, words-cons, words-one, words-snoc}
+use Rattle.tree_words.specs.Encode.{tokens, tokensAll, words, wordsAll}
+use Rattle.tree_words.specs.Places.{Place, place}
+use Rattle.tree_words.proofs.Nodes.{Node, plain, ident, path, apply, ref, refMut, impl, dyn, tuple, function, both, array, synonym, meta, words-cons, words-one, words-snoc}
 use Rattle.visits.specs.Visited.{visitedFrom, visitedAll, positions}
 
 -- some types, and others behind them

@@ -6,8 +6,8 @@ use native.Mathlib.Omega.{arith}
 use lib.ListN.{length, getD}
 use Rattle.rast.specs.Bytes.{Bytes}
 use Rattle.rast.specs.Tree.{Ty, Tys, TSynonym, nil, cons}
-use Rattle.output.specs.Wrote.{Wrote}
-use Rattle.output.proofs.Laws.{wrote-nothing, wrote-then, wrote-as, wrote-kept}
+use Rattle.buffer.specs.Wrote.{Wrote}
+use Rattle.buffer.proofs.Laws.{wrote-nothing, wrote-then, wrote-as, wrote-kept}
 use Rattle.encoding.specs.declared.Head.{Head}
 use Rattle.encoding.specs.Tables.{nameBytes, nameCount}
 use Rattle.encoding.specs.Reading.{got}
@@ -18,15 +18,15 @@ use Rattle.encoding.proofs.Types.{Made₂, bind-got, made₂-got, node-of, type
 use Rattle.encoding.proofs.TypeKinds.{type-kind}
 use Rattle.encoding.proofs.Inside.{head-lies}
 use Rattle.encoding.proofs.HeadWords.{words-kids, words-end}
-use Rattle.trees.specs.Encode.{words, wordsAll, tokens}
-use Rattle.trees.specs.Places.{place}
-use Rattle.trees.proofs.Nodes.{node-below, words-cons, one-read}
-use Rattle.trees.proofs.Renaming.{type-words, numbered}
-use Rattle.trees.proofs.Heads.{head-here}
-use Rattle.writing.specs.declared.Spot.{Spot}
-use Rattle.writing.specs.Written.{Readable, EndsAt}
-use Rattle.writing.proofs.Accepted.{type-here, synonym-head}
-use Rattle.writing.proofs.Skipping.{first-of, types-fit}
+use Rattle.tree_words.specs.Encode.{words, wordsAll, tokens}
+use Rattle.tree_words.specs.Places.{place}
+use Rattle.tree_words.proofs.Nodes.{node-below, words-cons, one-read}
+use Rattle.tree_words.proofs.Renaming.{type-words, numbered}
+use Rattle.tree_words.proofs.Heads.{head-here}
+use Rattle.accepted_types.specs.declared.Spot.{Spot}
+use Rattle.accepted_types.specs.Accepted.{Readable, EndsAt}
+use Rattle.accepted_types.proofs.Accepted.{type-here, synonym-head}
+use Rattle.accepted_types.proofs.Skipping.{first-of, types-fit}
 use Rattle.visits.specs.Visited.{visitedFrom, visitedAll}
 use Rattle.visits.specs.Passes.{Due, Visited}
 use Rattle.visits.proofs.Lists.{append, types-join, positions-append, listOf, visited-join, visited-node}

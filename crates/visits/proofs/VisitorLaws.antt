@@ -4,10 +4,10 @@ use mathlib.Core.Path.{_≡_, refl, ap, sym, _∙_}
 use mathlib.Core.List.{List, [], _∷_, _++_, map}
 use Rattle.rast.specs.Tree.{Ty}
 use Rattle.rast.specs.Declaration.{Attribute, TypeParamDecl, Fields, NamedFields, NamelessFields, EnumCase, Declaration, StructDecl, EnumDecl, TypeDecl, UseDecl}
-use Rattle.encoding.specs.Declarations.{structHead, enumHead, synonymHead}
-use Rattle.trees.specs.Encode.{Token, words}
-use Rattle.trees.specs.Places.{Place}
-use Rattle.pieces.specs.Pieces.{Piece, own, type, runs, owned, titleTokens, counted, typePiece, parameterPieces, fieldPieces, namelessPieces, fieldsPieces, casePieces, heading, front, rest, pieces}
+use Rattle.encoding.specs.Forms.{present}
+use Rattle.tree_words.specs.Encode.{Token, words}
+use Rattle.tree_words.specs.Places.{Place}
+use Rattle.declaration_walk.specs.Pieces.{Piece, own, type, runs, owned, titleTokens, counted, typePiece, parameterPieces, fieldPieces, namelessPieces, fieldsPieces, casePieces, heading, front, rest, pieces}
 use Rattle.visits.specs.Fold.{FoldLeft, Fold, VisitTypeParams, VisitFields, VisitModMapping}
 use Rattle.visits.specs.Visited.{visitedFrom, visitedPieces, entered, visitedDeclaration}
 use Rattle.visits.proofs.FoldLaws.{along, behind, from-visited}
@@ -65,13 +65,13 @@ module _ {N A : Type 0} (f : A → Ty N → A) where
 
   through-entered : (acc : A) (d : Declaration N) (single : A → Declaration N → A) → VisitModMapping f single acc d ≡ through (single acc d) (entered d)
   unfolding VisitModMapping entered pieces front rest through
-  through-entered acc (StructDecl s) single = through-heading structHead (s .docString) (s .attributes) (s .name) (s .typeParams) _
+  through-entered acc (StructDecl s) single = through-heading (present .structHead) (s .docString) (s .attributes) (s .name) (s .typeParams) _
   through-entered acc (EnumDecl e) single =
-      through-cases (e .variants) _ ∙ ap (λ a. through a (counted casePieces (e .variants))) (through-heading enumHead (e .docString) (e .attributes) (e .name) (e .typeParams) _)
-      ∙ sym (through-append _ (heading enumHead (e .docString) (e .attributes) (e .name) (e .typeParams)) (counted casePieces (e .variants)))
+      through-cases (e .variants) _ ∙ ap (λ a. through a (counted casePieces (e .variants))) (through-heading (present .enumHead) (e .docString) (e .attributes) (e .name) (e .typeParams) _)
+      ∙ sym (through-append _ (heading (present .enumHead) (e .docString) (e .attributes) (e .name) (e .typeParams)) (counted casePieces (e .variants)))
   through-entered acc (TypeDecl t) single =
-      ap (λ a. Fold f a (t .tpe)) (through-heading synonymHead (t .docString) (t .attributes) (t .name) (t .typeParams) _)
-      ∙ sym (through-append _ (heading synonymHead (t .docString) (t .attributes) (t .name) (t .typeParams)) (typePiece (t .tpe)))
+      ap (λ a. Fold f a (t .tpe)) (through-heading (present .synonymHead) (t .docString) (t .attributes) (t .name) (t .typeParams) _)
+      ∙ sym (through-append _ (heading (present .synonymHead) (t .docString) (t .attributes) (t .name) (t .typeParams)) (typePiece (t .tpe)))
   through-entered acc (UseDecl u) single = refl
 
   -- `VisitModMapping` of a declaration

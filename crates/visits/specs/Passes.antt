@@ -5,21 +5,21 @@ use mathlib.Core.List.{List}
 use lib.ListN.{length}
 use Rattle.rast.specs.Bytes.{Bytes}
 use Rattle.rast.specs.Tree.{Tys}
-use Rattle.output.specs.Wrote.{Wrote}
+use Rattle.buffer.specs.Wrote.{Wrote}
 use Rattle.encoding.specs.Refusals.{Answer, mapAnswer}
 use Rattle.encoding.specs.Reading.{got, whole}
 use Rattle.encoding.specs.Types.{readTypes, typeAt}
-use Rattle.writing.specs.declared.Spot.{Spot}
-use Rattle.writing.specs.Written.{Readable}
-use Rattle.trees.specs.Places.{place}
-use Rattle.pieces.specs.declared.After.{After}
-use Rattle.pieces.specs.declared.After.the-variants.{FieldList, CaseList, OneType, NoMore}
-use Rattle.pieces.specs.declared.Walk.{Walk}
-use Rattle.pieces.specs.Pieces.{Piece}
-use Rattle.pieces.specs.Walks.{leftAt}
-use Rattle.pieces.specs.Ends.{Held, heldAt}
-use Rattle.pieces.specs.declared.Whole.{Whole}
-use Rattle.pieces.specs.declared.Whole.the-variants.{AType, ADeclaration}
+use Rattle.accepted_types.specs.declared.Spot.{Spot}
+use Rattle.accepted_types.specs.Accepted.{Readable}
+use Rattle.tree_words.specs.Places.{place}
+use Rattle.declaration_walk.specs.declared.After.{After}
+use Rattle.declaration_walk.specs.declared.After.the-variants.{FieldList, CaseList, OneType, NoMore}
+use Rattle.declaration_walk.specs.declared.Walk.{Walk}
+use Rattle.declaration_walk.specs.Pieces.{Piece}
+use Rattle.declaration_walk.specs.Walks.{leftAt}
+use Rattle.declaration_walk.specs.Ends.{Held, heldAt}
+use Rattle.declaration_walk.specs.declared.Whole.{Whole}
+use Rattle.declaration_walk.specs.declared.Whole.the-variants.{AType, ADeclaration}
 use Rattle.visits.specs.Visited.{visited, visitedAll, visitedPieces, visitedDeclaration, positions}
 
 -- ---- types

@@ -7,9 +7,9 @@ use Rattle.rast.specs.Tree.{Ty, Tys, Primitive, TIdentifier, TypeFromPath, Type
 use Rattle.encoding.specs.Refusals.{Answer, mapAnswer}
 use Rattle.encoding.specs.Types.{typeOf}
 use Rattle.encoding.specs.Declarations.{declarationOf}
-use Rattle.trees.specs.Encode.{words, wordsAll}
-use Rattle.trees.specs.Places.{Place, place}
-use Rattle.pieces.specs.Pieces.{Piece, own, type, front, pieces}
+use Rattle.tree_words.specs.Encode.{words, wordsAll}
+use Rattle.tree_words.specs.Places.{Place, place}
+use Rattle.declaration_walk.specs.Pieces.{Piece, own, type, front, pieces}
 
 module _ {N : Type 0} where
   unfoldable mutual

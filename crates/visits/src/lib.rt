@@ -4,26 +4,26 @@ ghost use mathlib.Core.Bool.{true};
 ghost use mathlib.Core.List.{[], _∷_};
 ghost use Prim.Native.Nat.{_≤_, _<_, _^_};
 ghost use lib.ListN.{length};
-ghost use Rattle.output.specs.Wrote.{Wrote};
+ghost use Rattle.buffer.specs.Wrote.{Wrote};
 ghost use Rattle.encoding.specs.Tables.{nameCount};
 ghost use Rattle.encoding.specs.Tested.{Good};
 ghost use Rattle.encoding.specs.Declarations.{declarationAt};
-ghost use Rattle.writing.specs.Written.{Readable};
+ghost use Rattle.accepted_types.specs.Accepted.{Readable};
 ghost use Rattle.visits.specs.Visited.{typeVisits, declarationVisits};
 ghost use Rattle.visits.specs.Calls.{filled};
 ghost use Rattle.visits.specs.Passes.{Due, Visited, enteredAfter, enteredWalk, Ahead, Going, Done, Entered, AllVisited, Fills, wholeVisits};
-ghost use Rattle.pieces.specs.Ends.{heldAt};
-ghost use Rattle.pieces.specs.Walks.{FieldNext};
-ghost use Rattle.pieces.specs.declared.Whole.the-variants.{AType, ADeclaration};
+ghost use Rattle.declaration_walk.specs.Ends.{heldAt};
+ghost use Rattle.declaration_walk.specs.Walks.{FieldNext};
+ghost use Rattle.declaration_walk.specs.declared.Whole.the-variants.{AType, ADeclaration};
+use accepted_types::Spot;
+use declaration_walk::After;
+use declaration_walk::Next;
+use declaration_walk::Start;
+use declaration_walk::Walk;
+use declaration_walk::Whole;
 use encoding::Check;
 use encoding::Refusal;
 use encoding::Scan;
-use pieces::After;
-use pieces::Next;
-use pieces::Start;
-use pieces::Walk;
-use pieces::Whole;
-use writing::Spot;
 
 // The length of the list that fills the front of the buffer, or a refusal: then the buffer is as it was.
 pub enum VisitAnswer {
@@ -68,7 +68,7 @@ fn visit_types(
         p = put_place(place, out, p);
         if w == SYNONYM {
             let shown = visit_type(words, pairs, text, place + 1, out, p);
-            place = writing::skip_type(words, pairs, text, shown.next);
+            place = accepted_types::skip_type(words, pairs, text, shown.next);
             left -= 1;
             p = shown.pos;
             continue;
@@ -171,8 +171,8 @@ fn visit_fields(
     let mut w = walk;
     let mut p = pos;
     while 0 < w.fields {
-        let spot = visit_type(words, pairs, text, pieces::field_type(w), out, p);
-        w = pieces::past_field(w, spot.next);
+        let spot = visit_type(words, pairs, text, declaration_walk::field_type(w), out, p);
+        w = declaration_walk::past_field(w, spot.next);
         p = spot.pos;
     }
     Reached { walk: w, pos: p }
@@ -188,7 +188,7 @@ fn is_done(walk: Walk) -> bool
     if walk.fields != 0 {
         return false;
     }
-    pieces::is_at_members(walk)
+    declaration_walk::is_at_members(walk)
 }
 
 // The types that a walk comes to, which were accepted. The answer is how many positions there are.
@@ -206,7 +206,7 @@ fn visit_walk(
     let mut w = walk;
     let mut p = 0;
     loop {
-        if pieces::is_field_next(w) {
+        if declaration_walk::is_field_next(w) {
             let behind = visit_fields(words, pairs, text, w, out, p);
             w = behind.walk;
             p = behind.pos;
@@ -215,14 +215,14 @@ fn visit_walk(
         if is_done(w) {
             return p;
         }
-        match pieces::next_piece(words, bound, w) {
+        match declaration_walk::next_piece(words, bound, w) {
             Next::OwnWords(next) => {
                 w = next;
                 continue;
             }
             Next::TypeDue(next) => {
                 let spot = visit_types(words, pairs, text, w.place, 1, out, p);
-                w = pieces::move_to(next, spot.next);
+                w = declaration_walk::move_to(next, spot.next);
                 p = spot.pos;
             }
             Next::Ended => return p,
@@ -237,7 +237,7 @@ fn visit_declaration(words: &[u32], pairs: &[u32], text: &[u8], out: &mut [u32])
     ensures { λ r. ⌜ AllVisited ADeclaration (now (words .entry)) (now (pairs .entry)) (now (text .entry)) (now (out .entry)) (now (out .exit)) r ⌝ }
 {
     let bound = encoding::name_count(pairs);
-    match pieces::start_walk(words, bound, 0) {
+    match declaration_walk::start_walk(words, bound, 0) {
         Start::Begun(walk) => visit_walk(words, pairs, text, bound, entered_walk(walk), out),
         Start::NotBegun(_) => 0,
     }
@@ -283,7 +283,7 @@ fn fill_type(words: &[u32], pairs: &[u32], text: &[u8], out: &mut [u32]) -> Visi
     requires { ⌜ Good (now pairs) (now text) × (length (now words) ≤ 8192) ⌝ }
     ensures { λ r. ⌜ (r, now (out .exit)) ≡ filled (now (out .entry)) (wholeVisits AType (now (words .entry)) (now (pairs .entry)) (now (text .entry))) ⌝ }
 {
-    match acceptance::accept_type(words, pairs, text, 0, 0) {
+    match accept_type::accept_type(words, pairs, text, 0, 0) {
         Scan::At(next) => {
             if next != words.len() {
                 return VisitAnswer::Refused(Refusal::LeftOver);
@@ -303,7 +303,7 @@ fn fill_declaration(words: &[u32], pairs: &[u32], text: &[u8], out: &mut [u32]) 
     requires { ⌜ Good (now pairs) (now text) × (length (now words) ≤ 8192) ⌝ }
     ensures { λ r. ⌜ (r, now (out .exit)) ≡ filled (now (out .entry)) (wholeVisits ADeclaration (now (words .entry)) (now (pairs .entry)) (now (text .entry))) ⌝ }
 {
-    match pieces::accept_declaration(words, pairs, text) {
+    match declaration_walk::accept_declaration(words, pairs, text) {
         Scan::At(end) => {
             if end != words.len() {
                 return VisitAnswer::Refused(Refusal::LeftOver);

@@ -1,7 +1,7 @@
 use mathlib.Core.Path.{ap, _∙_}
 use Prim.Native.Nat.{ℕ}
 use lib.ListN.{drop, getD, take}
-use Rattle.output.proofs.Laws.{wrote-as}
+use Rattle.buffer.proofs.Laws.{wrote-as}
 use native.Mathlib.Omega.{arith}
 use borrow.Author.Needs.{needs}
 use Rattle.encoding.proofs.put_fixed.Statement.{statement}

@@ -1,6 +1,6 @@
 use mathlib.Core.Path.{sym, ap}
 use lib.ListN.{length}
-use Rattle.output.proofs.Laws.{wrote-as}
+use Rattle.buffer.proofs.Laws.{wrote-as}
 use Rattle.encoding.proofs.Tables.{name-fixed}
 use native.Mathlib.Omega.{arith}
 use borrow.Author.Needs.{needs}

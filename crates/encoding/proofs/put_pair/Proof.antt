@@ -1,4 +1,4 @@
-use Rattle.output.proofs.Laws.{wrote-as}
+use Rattle.buffer.proofs.Laws.{wrote-as}
 use Rattle.encoding.proofs.Names.{pair-there, pair-taken, pair-size}
 use native.Mathlib.Omega.{arith}
 use borrow.Author.Needs.{needs}

@@ -1,7 +1,7 @@
 use Rattle.file.proofs.Printing.{refusal-printed, text-printed}
 use Rattle.file.specs.File.{fileText, printedFile}
 use Rattle.rast.specs.Bytes.{ascii}
-use Rattle.text.proofs.Calls.{within}
+use Rattle.text_calls.proofs.Calls.{within}
 use native.Mathlib.Omega.{arith}
 use lib.Seq.{length-front, length-take-le}
 use mathlib.Core.Path.{sym}

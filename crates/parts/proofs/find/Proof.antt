@@ -1,4 +1,4 @@
-use Rattle.classes.specs.Classes.{arity, first, inClass, isOf}
+use Rattle.known_paths.specs.Classes.{arity, first, inClass, isOf}
 use Rattle.shapes.specs.Parts.{BoxUnderlying, ExtractMaybePlacebo, RcUnderlying}
 use Rattle.shapes.specs.Shapes.{IsBox, IsRc}
 use Rattle.parts.proofs.Spans.{expanded-finds, owned-finds, removed-finds}

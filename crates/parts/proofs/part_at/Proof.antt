@@ -1,5 +1,5 @@
 use Rattle.parts.specs.Asked.{partFor}
-use Rattle.classes.proofs.Finding.{found-readable}
+use Rattle.known_paths.proofs.Finding.{found-readable}
 use Rattle.parts.proofs.Spans.{part-forward, part-keeps, span-found, span-none}
 use Rattle.parts.proofs.part_at.Statement.{statement}
 use borrow.Author.Needs.{needs}

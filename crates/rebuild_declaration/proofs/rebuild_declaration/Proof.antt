@@ -1,4 +1,4 @@
-use Rattle.rebuild.specs.Laid.{mapping}
+use Rattle.rebuild_type.specs.Laid.{mapping}
 use Rattle.rebuild_declaration.proofs.Steps.{always-begun, opening-over, opening-ready, opening-rest, Opened, opens}
 use native.Mathlib.Omega.{arith}
 use borrow.Author.Needs.{needs}

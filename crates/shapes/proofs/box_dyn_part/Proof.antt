@@ -1,5 +1,5 @@
-use Rattle.classes.specs.declared.Class.the-variants.{Boxed}
-use Rattle.classes.proofs.Finding.{first-keeps, found-here}
+use Rattle.known_paths.specs.declared.Class.the-variants.{Boxed}
+use Rattle.known_paths.proofs.Finding.{first-keeps, found-here}
 use Rattle.shapes.proofs.Parts.{box-dyn-finds, box-dyn-none, box-dyn-other}
 use Rattle.shapes.proofs.box_dyn_part.Statement.{statement}
 use borrow.Author.Needs.{needs}

@@ -1,5 +1,5 @@
 use Prim.Native.Nat.{_-_}
-use Rattle.wrappers.proofs.Going.{Going, first-ends, going-base, going-readable, going-start, meta-inside, synonym-readable}
+use Rattle.unwrap.proofs.Going.{Going, first-ends, going-base, going-readable, going-start, meta-inside, synonym-readable}
 use Rattle.shapes.proofs.Judging.{can-arrived, can-base, can-copy-arrived, can-going, can-number-arrived, canAt}
 use Rattle.shapes.proofs.can_read_at.Statement.{statement}
 use lib.ListN.{length}

@@ -1,6 +1,6 @@
-use Rattle.classes.specs.declared.Class.the-variants.{MapClass}
-use Rattle.classes.proofs.Finding.{first-keeps, found-readable}
-use Rattle.wrappers.proofs.Expanding.{expands-readable, expands-ready}
+use Rattle.known_paths.specs.declared.Class.the-variants.{MapClass}
+use Rattle.known_paths.proofs.Finding.{first-keeps, found-readable}
+use Rattle.unwrap.proofs.Expanding.{expands-readable, expands-ready}
 use Rattle.shapes.proofs.Parts.{map-finds, set-finds}
 use Rattle.shapes.proofs.collection_part.Statement.{statement}
 use borrow.Author.Needs.{needs}

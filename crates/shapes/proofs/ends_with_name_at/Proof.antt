@@ -1,5 +1,5 @@
 use Prim.Native.Nat.{_-_}
-use Rattle.wrappers.proofs.Going.{Going, first-ends, going-right, going-start, left-readable}
+use Rattle.unwrap.proofs.Going.{Going, first-ends, going-right, going-start, left-readable}
 use Rattle.shapes.proofs.Judging.{endsAt, going-name, name-arrived, name-right}
 use Rattle.shapes.proofs.ends_with_name_at.Statement.{statement}
 use lib.ListN.{length}

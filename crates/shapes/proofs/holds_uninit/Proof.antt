@@ -1,9 +1,9 @@
-use Rattle.classes.specs.declared.Class.the-variants.{ArrayClass}
-use Rattle.wrappers.proofs.TypesIn.{array-of, element-readable}
-use Rattle.classes.proofs.Finding.{first-keeps, found-ready}
+use Rattle.known_paths.specs.declared.Class.the-variants.{ArrayClass}
+use Rattle.unwrap.proofs.TypesIn.{array-of, element-readable}
+use Rattle.known_paths.proofs.Finding.{first-keeps, found-ready}
 use Rattle.shapes.proofs.Judging.{judge-multi, judge-no-array, judge-sized, judge-unsized}
 use Rattle.shapes.proofs.holds_uninit.Statement.{statement}
-use Rattle.writing.proofs.Accepted.{type-here}
+use Rattle.accepted_types.proofs.Accepted.{type-here}
 use borrow.Author.Needs.{needs}
 use Rattle.shapes.proofs.holds_uninit.Tie as tie
 

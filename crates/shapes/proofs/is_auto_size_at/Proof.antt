@@ -1,4 +1,4 @@
-use Rattle.wrappers.proofs.Expanding.{expands-here}
+use Rattle.unwrap.proofs.Expanding.{expands-here}
 use Rattle.shapes.proofs.Judging.{judge-auto}
 use Rattle.shapes.proofs.is_auto_size_at.Statement.{statement}
 use borrow.Author.Needs.{needs}

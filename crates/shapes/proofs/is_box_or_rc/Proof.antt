@@ -1,5 +1,5 @@
-use Rattle.classes.specs.declared.Class.the-variants.{Boxed, Counted}
-use Rattle.classes.specs.Classes.{arity, inClass, isOf}
+use Rattle.known_paths.specs.declared.Class.the-variants.{Boxed, Counted}
+use Rattle.known_paths.specs.Classes.{arity, inClass, isOf}
 use Rattle.shapes.specs.Shapes.{IsBox, IsRc}
 use Rattle.shapes.proofs.Judging.{judge-one, judge-other}
 use Rattle.shapes.proofs.is_box_or_rc.Statement.{statement}

@@ -1,5 +1,5 @@
-use Rattle.wrappers.proofs.Expanding.{expands-ready}
-use Rattle.classes.specs.declared.Class.the-variants.{Collection, MapClass}
+use Rattle.unwrap.proofs.Expanding.{expands-ready}
+use Rattle.known_paths.specs.declared.Class.the-variants.{Collection, MapClass}
 use Rattle.shapes.specs.Shapes.{IsBuiltinCollection}
 use Rattle.shapes.proofs.Collections.{collection-is}
 use Rattle.shapes.proofs.Judging.{judge-class, judge-other-class}

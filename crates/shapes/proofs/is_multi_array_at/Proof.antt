@@ -1,7 +1,7 @@
 use mathlib.Core.Path.{sym}
-use Rattle.wrappers.proofs.Expanding.{expands-ready}
-use Rattle.classes.specs.declared.Class.the-variants.{ArrayClass}
-use Rattle.classes.specs.Classes.{isOf}
+use Rattle.unwrap.proofs.Expanding.{expands-ready}
+use Rattle.known_paths.specs.declared.Class.the-variants.{ArrayClass}
+use Rattle.known_paths.specs.Classes.{isOf}
 use Rattle.shapes.specs.Shapes.{IsMultiArray}
 use Rattle.shapes.proofs.Pointers.{multi-array-is}
 use Rattle.shapes.proofs.Judging.{judge-expanded}

@@ -1,5 +1,5 @@
-use Rattle.wrappers.proofs.Expanding.{expands-ready}
-use Rattle.classes.specs.declared.Class.the-variants.{PtrClass, ObjectClass}
+use Rattle.unwrap.proofs.Expanding.{expands-ready}
+use Rattle.known_paths.specs.declared.Class.the-variants.{PtrClass, ObjectClass}
 use Rattle.shapes.specs.Shapes.{IsObjectOrPointer}
 use Rattle.shapes.proofs.Pointers.{pointer-is}
 use Rattle.shapes.proofs.Judging.{judge-class, judge-other-class}

@@ -1,5 +1,5 @@
 use Prim.Native.Nat.{_-_}
-use Rattle.wrappers.proofs.Going.{Going, first-ends, going-base, going-readable, going-ref, going-start, synonym-readable}
+use Rattle.unwrap.proofs.Going.{Going, first-ends, going-base, going-readable, going-ref, going-start, synonym-readable}
 use Rattle.shapes.proofs.Judging.{rc-arrived, rc-base, rc-ref, rcAt}
 use Rattle.shapes.proofs.is_rc_or_borrowed_at.Statement.{statement}
 use lib.ListN.{length}

@@ -1,4 +1,4 @@
-use Rattle.wrappers.proofs.Expanding.{expands-ready}
+use Rattle.unwrap.proofs.Expanding.{expands-ready}
 use Rattle.shapes.proofs.Parts.{multi-array-finds}
 use Rattle.shapes.proofs.multi_array_part.Statement.{statement}
 use borrow.Author.Needs.{needs}

@@ -1,7 +1,7 @@
-use Rattle.wrappers.proofs.TypesIn.{ref-readable}
+use Rattle.unwrap.proofs.TypesIn.{ref-readable}
 use Rattle.shapes.proofs.Judging.{judge-needs, judge-needs-ref}
 use Rattle.shapes.proofs.needs_as_ref_at.Statement.{statement}
-use Rattle.writing.proofs.Accepted.{type-here}
+use Rattle.accepted_types.proofs.Accepted.{type-here}
 use borrow.Author.Needs.{needs}
 use Rattle.shapes.proofs.needs_as_ref_at.Tie as tie
 

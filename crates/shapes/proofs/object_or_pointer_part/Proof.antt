@@ -1,4 +1,4 @@
-use Rattle.wrappers.proofs.Expanding.{expands-ready}
+use Rattle.unwrap.proofs.Expanding.{expands-ready}
 use Rattle.shapes.proofs.Parts.{object-finds, pointer-finds}
 use Rattle.shapes.proofs.object_or_pointer_part.Statement.{statement}
 use borrow.Author.Needs.{needs}

@@ -1,6 +1,6 @@
 use Rattle.shapes.proofs.Judging.{owned-here, owned-mut, owned-ref}
 use Rattle.shapes.proofs.owned.Statement.{statement}
-use Rattle.writing.proofs.Accepted.{type-here}
+use Rattle.accepted_types.proofs.Accepted.{type-here}
 use borrow.Author.Needs.{needs}
 use Rattle.shapes.proofs.owned.Tie as tie
 

@@ -1,5 +1,5 @@
 use Prim.Native.Nat.{_-_}
-use Rattle.wrappers.proofs.Going.{Going, going-display, going-meta, going-start, meta-inside}
+use Rattle.unwrap.proofs.Going.{Going, going-display, going-meta, going-start, meta-inside}
 use Rattle.shapes.proofs.Judging.{removed-arrived, removed-display, removed-meta, removedTo}
 use Rattle.shapes.proofs.remove_wrappers.Statement.{statement}
 use lib.ListN.{length}

@@ -1,4 +1,4 @@
-use Rattle.classes.proofs.Finding.{found-ready}
+use Rattle.known_paths.proofs.Finding.{found-ready}
 use Rattle.shapes.proofs.Parts.{extract-finds, extract-none, pointer-keeps}
 use Rattle.shapes.proofs.uninit_array_part.Statement.{statement}
 use borrow.Author.Needs.{needs}

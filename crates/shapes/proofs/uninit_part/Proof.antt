@@ -1,8 +1,8 @@
-use Rattle.wrappers.proofs.TypesIn.{array-of, element-readable}
-use Rattle.classes.proofs.Finding.{found-ready}
+use Rattle.unwrap.proofs.TypesIn.{array-of, element-readable}
+use Rattle.known_paths.proofs.Finding.{found-ready}
 use Rattle.shapes.proofs.Parts.{element-finds, element-inside, element-none, multi-array-keeps}
 use Rattle.shapes.proofs.uninit_part.Statement.{statement}
-use Rattle.writing.proofs.Accepted.{type-here}
+use Rattle.accepted_types.proofs.Accepted.{type-here}
 use borrow.Author.Needs.{needs}
 use Rattle.shapes.proofs.uninit_part.Tie as tie
 

@@ -1,7 +1,7 @@
 use mathlib.Core.Path.{sym}
 use lib.Seq.{length-take-le}
 use borrow.Author.Needs.{needs}
-use Rattle.text.proofs.Calls.{within}
+use Rattle.text_calls.proofs.Calls.{within}
 use Rattle.show_types.proofs.show.Statement.{statement}
 use Rattle.show_types.proofs.show.Tie as tie
 

@@ -2,7 +2,7 @@ use native.Mathlib.Omega.{arith}
 use lib.Seq.{length-take-le}
 use mathlib.Core.Path.{sym}
 use borrow.Author.Needs.{needs}
-use Rattle.numbers.proofs.Fronts.{back-fits, back-length}
+use Rattle.little_endian.proofs.Fronts.{back-fits, back-length}
 use Rattle.vectors.proofs.read_numbers.Statement.{statement}
 use Rattle.vectors.proofs.read_numbers.Tie as tie
 

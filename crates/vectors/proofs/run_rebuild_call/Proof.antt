@@ -1,4 +1,4 @@
-use Rattle.numbers.proofs.Fronts.{back-fits}
+use Rattle.little_endian.proofs.Fronts.{back-fits}
 use native.Mathlib.Omega.{arith}
 use lib.Seq.{length-take-le}
 use mathlib.Core.Path.{sym}

@@ -2,7 +2,7 @@ use native.Mathlib.Omega.{arith}
 use lib.Seq.{length-take-le}
 use mathlib.Core.Path.{sym}
 use borrow.Author.Needs.{needs}
-use Rattle.numbers.proofs.Fronts.{back-fits}
+use Rattle.little_endian.proofs.Fronts.{back-fits}
 use Rattle.vectors.proofs.run_record.Statement.{statement}
 use Rattle.vectors.proofs.run_record.Tie as tie
 

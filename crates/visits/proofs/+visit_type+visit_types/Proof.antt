@@ -14,7 +14,7 @@ use Rattle.visits.proofs.visit_types.Kinds as visit-types-kinds
 use Rattle.visits.proofs.+visit_type+visit_types.Lts-visit_types as visit-types-lts
 use Rattle.encoding.proofs.pass_kind.Reads as pass-kind-reads
 use Rattle.visits.proofs.put_place.Reads as put-place-reads
-use Rattle.writing.proofs.skip_type.Reads as skip-type-reads
+use Rattle.accepted_types.proofs.skip_type.Reads as skip-type-reads
 use Rattle.visits.proofs.+visit_type+visit_types.{statement}
 use Rattle.visits.proofs.+visit_type+visit_types.Tie.{close}
 

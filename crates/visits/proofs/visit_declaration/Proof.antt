@@ -1,4 +1,4 @@
-use Rattle.pieces.proofs.Passes.{begun}
+use Rattle.declaration_walk.proofs.Passes.{begun}
 use Rattle.visits.proofs.Entering.{entered-ahead, entered-all, not-begun-read}
 use borrow.Author.Needs.{needs}
 use Rattle.visits.proofs.visit_declaration.Statement.{statement}

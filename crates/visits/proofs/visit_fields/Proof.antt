@@ -1,7 +1,7 @@
 use Prim.Native.Nat.{_+_, _≤_}
 use mathlib.Core.Path.{_≡_, refl}
 use native.Mathlib.Omega.{arith}
-use Rattle.pieces.specs.declared.After.the-variants.{NoMore}
+use Rattle.declaration_walk.specs.declared.After.the-variants.{NoMore}
 use Rattle.visits.specs.Passes.{Going}
 use Rattle.visits.proofs.Entering.{field-due, field-past, going-start}
 use Rattle.visits.proofs.visit_fields.Statement.{statement}

@@ -1,6 +1,6 @@
 use Prim.Native.Nat.{_-_}
-use Rattle.pieces.specs.Walks.{end}
-use Rattle.pieces.proofs.Passes.{stepped}
+use Rattle.declaration_walk.specs.Walks.{end}
+use Rattle.declaration_walk.proofs.Passes.{stepped}
 use Rattle.visits.specs.Passes.{Going}
 use Rattle.visits.proofs.Entering.{going-ahead, going-due, going-end, going-halt, going-on, going-own, going-start, going-type}
 use lib.ListN.{length}

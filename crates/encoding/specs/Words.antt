@@ -1,0 +1,79 @@
+-- The words of document 01 by name, for definitions and contracts; `src/words.rt` has the same for the code.
+use Prim.Native.Nat.{ℕ}
+
+-- kinds of types; those below `plainKinds` are the plain types, those below `leafKinds` have no types in them
+abbrev pub plainKinds : ℕ
+plainKinds = 12
+
+abbrev pub identifierKind : ℕ
+identifierKind = 12
+
+abbrev pub fromPathKind : ℕ
+fromPathKind = 13
+
+abbrev pub leafKinds : ℕ
+leafKinds = 14
+
+abbrev pub typeAppKind : ℕ
+typeAppKind = 14
+
+abbrev pub borrowedKind : ℕ
+borrowedKind = 15
+
+abbrev pub borrowedMutKind : ℕ
+borrowedMutKind = 16
+
+abbrev pub implKind : ℕ
+implKind = 17
+
+abbrev pub dynKind : ℕ
+dynKind = 18
+
+abbrev pub tupleKind : ℕ
+tupleKind = 19
+
+abbrev pub fnKind : ℕ
+fnKind = 20
+
+abbrev pub intersectionKind : ℕ
+intersectionKind = 21
+
+abbrev pub arrayKind : ℕ
+arrayKind = 22
+
+abbrev pub synonymKind : ℕ
+synonymKind = 23
+
+abbrev pub metaDataKind : ℕ
+metaDataKind = 24
+
+-- how many numbers of flags there are
+abbrev pub flagCount : ℕ
+flagCount = 4
+
+-- how many roots of paths there are: Global, Crate, Self
+abbrev pub rootCount : ℕ
+rootCount = 3
+
+-- the first name number that is a pair's: as many fixed names there are
+abbrev pub firstPair : ℕ
+firstPair = 16
+
+-- limits
+abbrev pub maxWords : ℕ
+maxWords = 8192
+
+abbrev pub maxPairs : ℕ
+maxPairs = 1024
+
+abbrev pub maxText : ℕ
+maxText = 16384
+
+abbrev pub maxLevel : ℕ
+maxLevel = 16
+
+abbrev pub maxDepth : ℕ
+maxDepth = 64
+
+abbrev pub maxRules : ℕ
+maxRules = 32

@@ -1,0 +1,17 @@
+use Rattle.rebuild_declaration.specs.Calls.{declarationRebuilt}
+use borrow.Author.Needs.{needs}
+use Rattle.rebuild_calls.proofs.declaration_rebuild.Statement.{statement}
+use Rattle.rebuild_calls.proofs.declaration_rebuild.Tie as tie
+
+rebuild-by-requires : tie.Need-rebuild-by-requires
+rebuild-by-requires c κs = search needs
+
+same-length : tie.Need-same-length
+same-length c = search needs
+
+returns : tie.Need-returns
+unfolding declarationRebuilt
+returns c = c .before .before .rebuild-by .ensures
+
+pub declaration-rebuild-spec : {M : Type 1} → statement M
+declaration-rebuild-spec = tie.close (tie.spec rebuild-by-requires same-length returns)

@@ -1,0 +1,25 @@
+-- What the call gives: the type at initialization, by its words.
+use Prim.Native.Nat.{ℕ}
+use mathlib.Core.List.{List}
+use lib.ListN.{length}
+use Rattle.rast.specs.Bytes.{Bytes}
+use Rattle.rast.specs.Tree.{Ty}
+use Rattle.encoding.specs.Refusals.{Answer, mapAnswer}
+use Rattle.encoding.specs.Tables.{nameBytes}
+use Rattle.tree_words.specs.Encode.{encode}
+use Rattle.tree_words.specs.Numbered.{treeOf}
+use Rattle.rebuild_spec.specs.Laying.{depth}
+use Rattle.shapes.specs.Initialization.{TypeAtInitialization}
+use Rattle.rebuild_type.specs.Calls.{Laid}
+
+-- a tree as it stands at initialization: on the way no more words lie there than at the end
+abbrev pub laidInit : (ℕ → Bytes) → Ty ℕ → Laid
+laidInit bytes t = record {
+  words = encode (TypeAtInitialization bytes t);
+  top = length (encode (TypeAtInitialization bytes t));
+  deep = depth (TypeAtInitialization bytes t);
+}
+
+-- the type that an encoding holds, as it stands at initialization
+unfoldable pub typeInitialized : List ℕ → List ℕ → Bytes → Answer Laid
+typeInitialized words pairs text = mapAnswer (laidInit (nameBytes pairs text)) (treeOf words pairs text)
