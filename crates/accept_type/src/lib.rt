@@ -2,12 +2,13 @@
 ghost use mathlib.Core.Path.{_≡_};
 ghost use Prim.Native.Nat.{_-_, _^_, _≤_, _<_};
 ghost use lib.ListN.{length};
+ghost use Rattle.encoding.specs.Words.{maxWords};
 ghost use Rattle.encoding.specs.Reading.{readWord, readBelow};
 ghost use Rattle.encoding.specs.Tables.{nameBytes, nameCount};
 ghost use Rattle.encoding.specs.Tested.{Good};
 ghost use Rattle.encoding.specs.Heads.{pathHead, headAfter, readHead};
 ghost use Rattle.encoding.specs.Scans.{ended};
-ghost use Rattle.encoding.specs.Types.{readType};
+ghost use Rattle.encoding.specs.Types.{readType, typeAt};
 ghost use Rattle.encoding.specs.declared.Head.the-variants.{Name, Apply, Tuple, Function, ArrayOf, Meta};
 ghost use Rattle.text_measure.specs.Lengths.{worded, namesPath, headOfPath};
 ghost use Rattle.text_measure.specs.Levels.{leaving, beside, under, pushed, Outward, Kept, Stepped};
@@ -16,6 +17,7 @@ use encoding::PathAt;
 use encoding::Refusal;
 use encoding::Scan;
 use encoding::WordScan;
+use encoding::words::PLAIN_KINDS;
 
 // A head: where its own words end, and if types follow, how many.
 enum OwnScan {
@@ -283,4 +285,18 @@ pub fn accept_type(words: &[u32], pairs: &[u32], text: &[u8], at: usize, inside:
             }
         }
     }
+}
+
+// Where the type at `at` ends. A plain type is one word.
+pub fn scan_type(words: &[u32], pairs: &[u32], text: &[u8], at: usize) -> Scan
+    requires { ⌜ Good (now pairs) (now text) × (length (now words) ≤ maxWords) ⌝ }
+    ensures { λ r. ⌜ r ≡ ended (typeAt (now (words .entry)) (now (pairs .entry)) (now (text .entry)) at) ⌝ }
+{
+    if words.len() <= at {
+        return Scan::Refused(Refusal::EndsEarly);
+    }
+    if words[at] < PLAIN_KINDS {
+        return Scan::At(at + 1);
+    }
+    accept_type(words, pairs, text, at, 0)
 }

@@ -6,7 +6,6 @@ pub mod NextSteps
 pub mod Openings
 pub mod OpeningRuns
 pub mod Passes
-pub mod Ends
 pub mod Fronts
 pub mod RenamedReading
 pub mod WithTypes

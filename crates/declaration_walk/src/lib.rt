@@ -1,19 +1,16 @@
-// A declaration as a run of own words and types: a walk that finds the types one behind the other; and acceptance, part by part.
+// A declaration as a run of own words and types: a walk that finds the types one behind the other.
 ghost use mathlib.Core.Path.{_≡_};
 ghost use mathlib.Core.Bool.{true};
 ghost use Prim.Native.Nat.{_^_, _≤_, _<_};
-ghost use lib.ListN.{length};
-ghost use Rattle.encoding.specs.Tested.{Good};
-ghost use Rattle.encoding.specs.Types.{typeAt};
-ghost use Rattle.encoding.specs.Declarations.{readList, readCounted, declarationAt};
+ghost use Rattle.encoding.specs.Declarations.{readList};
 ghost use Rattle.encoding.specs.Scans.{ended};
 ghost use Rattle.declaration_walk.specs.declared.After.the-variants.{FieldList, CaseList, NoMore};
 ghost use Rattle.declaration_walk.specs.Walks.{readEntry, readTwo, twoScan, moved, inField, FieldNext, fieldType, pastField, Stepped, readOneAttribute, readAttributes, readUsing, readOpening, startedAt, titled, started};
-ghost use Rattle.declaration_walk.specs.Ends.{parameterAt, formalAt, fieldEnd, eachFieldEnd, fieldsAt, caseAt, signatureEnd, headingEnd, structAt, enumAt, synonymAt, useEnd, heldAt};
 use encoding::PathScan;
 use encoding::Refusal;
 use encoding::Scan;
 use encoding::WordScan;
+use encoding::words::{ENUM, FIELD_KINDS, NAMED, STRUCT, TYPE_SYNONYM, USE, VISIBILITIES};
 
 // What follows the parameters.
 pub enum After {
@@ -59,17 +56,8 @@ pub enum Two {
     Neither(Refusal),
 }
 
-// The heads of declarations.
-const STRUCT: u32 = 25;
-
-const ENUM: u32 = 26;
-
-const SYNONYM: u32 = 27;
-
-const USE: u32 = 28;
-
 // A word below `bound`, and any other behind it.
-fn scan_entry(words: &[u32], bound: usize, at: usize) -> Two
+pub fn scan_entry(words: &[u32], bound: usize, at: usize) -> Two
     ensures { λ r. ⌜ r ≡ twoScan (readEntry bound (now (words .entry)) at) ⌝ }
 {
     match encoding::scan_below(words, bound, at) {
@@ -89,7 +77,7 @@ fn scan_entry(words: &[u32], bound: usize, at: usize) -> Two
 }
 
 // Two words, each below its bound.
-fn scan_two(words: &[u32], bound: usize, other: usize, at: usize) -> Two
+pub fn scan_two(words: &[u32], bound: usize, other: usize, at: usize) -> Two
     ensures { λ r. ⌜ r ≡ twoScan (readTwo bound other (now (words .entry)) at) ⌝ }
 {
     match encoding::scan_below(words, bound, at) {
@@ -143,7 +131,7 @@ fn open_fields(words: &[u32], bound: usize, walk: Walk) -> Next
     requires { ⌜ (walk .types ≡ 0) × (walk .parameters ≡ 0) × (walk .after ≡ FieldList) ⌝ }
     ensures { λ r. ⌜ Stepped bound (now (words .entry)) walk r ⌝ }
 {
-    match scan_entry(words, 2, walk.place) {
+    match scan_entry(words, FIELD_KINDS, walk.place) {
         Two::Both {
             first,
             second,
@@ -201,8 +189,8 @@ fn open_field(words: &[u32], bound: usize, walk: Walk) -> Next
     requires { ⌜ (walk .types ≡ 0) × (walk .parameters ≡ 0) × (walk .after ≡ NoMore) × (0 < walk .fields) ⌝ }
     ensures { λ r. ⌜ Stepped bound (now (words .entry)) walk r ⌝ }
 {
-    if walk.kind == 0 {
-        match scan_two(words, 2, bound, walk.place) {
+    if walk.kind == NAMED {
+        match scan_two(words, VISIBILITIES, bound, walk.place) {
             Two::Both {
                 first: _,
                 second: _,
@@ -211,7 +199,7 @@ fn open_field(words: &[u32], bound: usize, walk: Walk) -> Next
             Two::Neither(r) => Next::Halted(r),
         }
     } else {
-        match encoding::scan_below(words, 2, walk.place) {
+        match encoding::scan_below(words, VISIBILITIES, walk.place) {
             WordScan::Word { value: _, next } => Next::OwnWords(in_field(walk, next)),
             WordScan::NoWord(r) => Next::Halted(r),
         }
@@ -289,7 +277,7 @@ pub fn field_type(walk: Walk) -> usize
     requires { ⌜ walk .place ≤ 2 ^ 62 ⌝ }
     ensures { λ r. ⌜ r ≡ fieldType walk ⌝ }
 {
-    if walk.kind == 0 {
+    if walk.kind == NAMED {
         return walk.place + 2;
     }
     walk.place + 1
@@ -395,7 +383,7 @@ fn scan_each_attribute(words: &[u32], bound: usize, at: usize, count: u32) -> Sc
 }
 
 // Attributes: how many, and these.
-fn scan_attributes(words: &[u32], bound: usize, at: usize) -> Scan
+pub fn scan_attributes(words: &[u32], bound: usize, at: usize) -> Scan
     ensures { λ r. ⌜ r ≡ ended (readAttributes bound (now (words .entry)) at) ⌝ }
 {
     match encoding::scan_word(words, at) {
@@ -443,7 +431,7 @@ fn start_title(words: &[u32], bound: usize, after: After, at: usize) -> Start
 fn start_use(words: &[u32], bound: usize, at: usize) -> Start
     ensures { λ r. ⌜ r ≡ started (readUsing bound (now (words .entry)) at) ⌝ }
 {
-    match encoding::scan_below(words, 2, at) {
+    match encoding::scan_below(words, VISIBILITIES, at) {
         WordScan::Word { value: _, next } => match encoding::scan_path(words, bound, next) {
             PathScan::OwnPath { path: _, next: end } => Start::Begun(Walk {
                 place: end,
@@ -468,295 +456,10 @@ pub fn start_walk(words: &[u32], bound: usize, at: usize) -> Start
         WordScan::Word { value, next } => match value {
             STRUCT => start_title(words, bound, After::FieldList, next),
             ENUM => start_title(words, bound, After::CaseList, next),
-            SYNONYM => start_title(words, bound, After::OneType, next),
+            TYPE_SYNONYM => start_title(words, bound, After::OneType, next),
             USE => start_use(words, bound, next),
             _ => Start::NotBegun(Refusal::UnknownWord),
         },
         WordScan::NoWord(r) => Start::NotBegun(r),
-    }
-}
-
-// ---- acceptance: one function for each part of a declaration, which says where the part ends
-
-// Where the type at `at` ends. A plain type is one word.
-pub fn scan_type(words: &[u32], pairs: &[u32], text: &[u8], at: usize) -> Scan
-    requires { ⌜ Good (now pairs) (now text) × (length (now words) ≤ 8192) ⌝ }
-    ensures { λ r. ⌜ r ≡ ended (typeAt (now (words .entry)) (now (pairs .entry)) (now (text .entry)) at) ⌝ }
-{
-    if words.len() <= at {
-        return Scan::Refused(Refusal::EndsEarly);
-    }
-    if words[at] < 12 {
-        return Scan::At(at + 1);
-    }
-    accept_type::accept_type(words, pairs, text, at, 0)
-}
-
-// `count` types.
-fn scan_types(words: &[u32], pairs: &[u32], text: &[u8], at: usize, count: u32) -> Scan
-    requires { ⌜ Good (now pairs) (now text) × (length (now words) ≤ 8192) ⌝ }
-    ensures { λ r. ⌜ r ≡ ended (readList (typeAt (now (words .entry)) (now (pairs .entry)) (now (text .entry))) count at) ⌝ }
-{
-    let mut pos = at;
-    let mut left = count;
-    while 0 < left {
-        match scan_type(words, pairs, text, pos) {
-            Scan::At(next) => pos = next,
-            Scan::Refused(r) => return Scan::Refused(r),
-        }
-        left -= 1;
-    }
-    Scan::At(pos)
-}
-
-// A parameter: a name, how many constraints, and these.
-fn scan_parameter(words: &[u32], pairs: &[u32], text: &[u8], at: usize) -> Scan
-    requires { ⌜ Good (now pairs) (now text) × (length (now words) ≤ 8192) ⌝ }
-    ensures { λ r. ⌜ r ≡ ended (parameterAt (now (words .entry)) (now (pairs .entry)) (now (text .entry)) at) ⌝ }
-{
-    match scan_entry(words, encoding::name_count(pairs), at) {
-        Two::Both {
-            first: _,
-            second,
-            next,
-        } => scan_types(words, pairs, text, next, second),
-        Two::Neither(r) => Scan::Refused(r),
-    }
-}
-
-// `count` parameters.
-fn scan_each_parameter(words: &[u32], pairs: &[u32], text: &[u8], at: usize, count: u32) -> Scan
-    requires { ⌜ Good (now pairs) (now text) × (length (now words) ≤ 8192) ⌝ }
-    ensures { λ r. ⌜ r ≡ ended (readList (parameterAt (now (words .entry)) (now (pairs .entry)) (now (text .entry))) count at) ⌝ }
-{
-    let mut pos = at;
-    let mut left = count;
-    while 0 < left {
-        match scan_parameter(words, pairs, text, pos) {
-            Scan::At(next) => pos = next,
-            Scan::Refused(r) => return Scan::Refused(r),
-        }
-        left -= 1;
-    }
-    Scan::At(pos)
-}
-
-// A name and a type.
-fn scan_formal(words: &[u32], pairs: &[u32], text: &[u8], at: usize) -> Scan
-    requires { ⌜ Good (now pairs) (now text) × (length (now words) ≤ 8192) ⌝ }
-    ensures { λ r. ⌜ r ≡ ended (formalAt (now (words .entry)) (now (pairs .entry)) (now (text .entry)) at) ⌝ }
-{
-    match encoding::scan_below(words, encoding::name_count(pairs), at) {
-        WordScan::Word { value: _, next } => scan_type(words, pairs, text, next),
-        WordScan::NoWord(r) => Scan::Refused(r),
-    }
-}
-
-// A field, named if `kind` is 0.
-fn scan_field(words: &[u32], pairs: &[u32], text: &[u8], kind: u32, at: usize) -> Scan
-    requires { ⌜ Good (now pairs) (now text) × (length (now words) ≤ 8192) ⌝ }
-    ensures { λ r. ⌜ r ≡ fieldEnd (now (words .entry)) (now (pairs .entry)) (now (text .entry)) kind at ⌝ }
-{
-    match encoding::scan_below(words, 2, at) {
-        WordScan::Word { value: _, next } => {
-            if kind == 0 {
-                return scan_formal(words, pairs, text, next);
-            }
-            scan_type(words, pairs, text, next)
-        }
-        WordScan::NoWord(r) => Scan::Refused(r),
-    }
-}
-
-// `count` fields.
-fn scan_each_field(
-    words: &[u32],
-    pairs: &[u32],
-    text: &[u8],
-    kind: u32,
-    at: usize,
-    count: u32,
-) -> Scan
-    requires { ⌜ Good (now pairs) (now text) × (length (now words) ≤ 8192) ⌝ }
-    ensures { λ r. ⌜ r ≡ eachFieldEnd (now (words .entry)) (now (pairs .entry)) (now (text .entry)) kind count at ⌝ }
-{
-    let mut pos = at;
-    let mut left = count;
-    while 0 < left {
-        match scan_field(words, pairs, text, kind, pos) {
-            Scan::At(next) => pos = next,
-            Scan::Refused(r) => return Scan::Refused(r),
-        }
-        left -= 1;
-    }
-    Scan::At(pos)
-}
-
-// Fields: their kind, how many, and these.
-fn scan_fields(words: &[u32], pairs: &[u32], text: &[u8], at: usize) -> Scan
-    requires { ⌜ Good (now pairs) (now text) × (length (now words) ≤ 8192) ⌝ }
-    ensures { λ r. ⌜ r ≡ ended (fieldsAt (now (words .entry)) (now (pairs .entry)) (now (text .entry)) at) ⌝ }
-{
-    match scan_entry(words, 2, at) {
-        Two::Both {
-            first,
-            second,
-            next,
-        } => scan_each_field(words, pairs, text, first, next, second),
-        Two::Neither(r) => Scan::Refused(r),
-    }
-}
-
-// A case: doc, name, fields.
-fn scan_case(words: &[u32], pairs: &[u32], text: &[u8], at: usize) -> Scan
-    requires { ⌜ Good (now pairs) (now text) × (length (now words) ≤ 8192) ⌝ }
-    ensures { λ r. ⌜ r ≡ ended (caseAt (now (words .entry)) (now (pairs .entry)) (now (text .entry)) at) ⌝ }
-{
-    let bound = encoding::name_count(pairs);
-    match scan_two(words, bound, bound, at) {
-        Two::Both {
-            first: _,
-            second: _,
-            next,
-        } => scan_fields(words, pairs, text, next),
-        Two::Neither(r) => Scan::Refused(r),
-    }
-}
-
-// `count` cases.
-fn scan_each_case(words: &[u32], pairs: &[u32], text: &[u8], at: usize, count: u32) -> Scan
-    requires { ⌜ Good (now pairs) (now text) × (length (now words) ≤ 8192) ⌝ }
-    ensures { λ r. ⌜ r ≡ ended (readList (caseAt (now (words .entry)) (now (pairs .entry)) (now (text .entry))) count at) ⌝ }
-{
-    let mut pos = at;
-    let mut left = count;
-    while 0 < left {
-        match scan_case(words, pairs, text, pos) {
-            Scan::At(next) => pos = next,
-            Scan::Refused(r) => return Scan::Refused(r),
-        }
-        left -= 1;
-    }
-    Scan::At(pos)
-}
-
-// Cases: how many, and these.
-fn scan_cases(words: &[u32], pairs: &[u32], text: &[u8], at: usize) -> Scan
-    requires { ⌜ Good (now pairs) (now text) × (length (now words) ≤ 8192) ⌝ }
-    ensures { λ r. ⌜ r ≡ ended (readCounted (now (words .entry)) (caseAt (now (words .entry)) (now (pairs .entry)) (now (text .entry))) at) ⌝ }
-{
-    match encoding::scan_word(words, at) {
-        WordScan::Word { value, next } => scan_each_case(words, pairs, text, next, value),
-        WordScan::NoWord(r) => Scan::Refused(r),
-    }
-}
-
-// A name, how many parameters, and these.
-fn scan_signature(words: &[u32], pairs: &[u32], text: &[u8], at: usize) -> Scan
-    requires { ⌜ Good (now pairs) (now text) × (length (now words) ≤ 8192) ⌝ }
-    ensures { λ r. ⌜ r ≡ signatureEnd (now (words .entry)) (now (pairs .entry)) (now (text .entry)) at ⌝ }
-{
-    match scan_entry(words, encoding::name_count(pairs), at) {
-        Two::Both {
-            first: _,
-            second,
-            next,
-        } => scan_each_parameter(words, pairs, text, next, second),
-        Two::Neither(r) => Scan::Refused(r),
-    }
-}
-
-// What a struct, an enum and a type synonym begin with behind the head: doc, attributes, name, parameters.
-fn scan_heading(words: &[u32], pairs: &[u32], text: &[u8], at: usize) -> Scan
-    requires { ⌜ Good (now pairs) (now text) × (length (now words) ≤ 8192) ⌝ }
-    ensures { λ r. ⌜ r ≡ headingEnd (now (words .entry)) (now (pairs .entry)) (now (text .entry)) at ⌝ }
-{
-    let bound = encoding::name_count(pairs);
-    match encoding::scan_below(words, bound, at) {
-        WordScan::Word { value: _, next } => match scan_attributes(words, bound, next) {
-            Scan::At(end) => scan_signature(words, pairs, text, end),
-            Scan::Refused(r) => Scan::Refused(r),
-        },
-        WordScan::NoWord(r) => Scan::Refused(r),
-    }
-}
-
-// A struct behind its head: what it begins with, and fields.
-fn scan_struct(words: &[u32], pairs: &[u32], text: &[u8], at: usize) -> Scan
-    requires { ⌜ Good (now pairs) (now text) × (length (now words) ≤ 8192) ⌝ }
-    ensures { λ r. ⌜ r ≡ ended (structAt (now (words .entry)) (now (pairs .entry)) (now (text .entry)) at) ⌝ }
-{
-    match scan_heading(words, pairs, text, at) {
-        Scan::At(next) => scan_fields(words, pairs, text, next),
-        Scan::Refused(r) => Scan::Refused(r),
-    }
-}
-
-// An enum: the same, and cases.
-fn scan_enum(words: &[u32], pairs: &[u32], text: &[u8], at: usize) -> Scan
-    requires { ⌜ Good (now pairs) (now text) × (length (now words) ≤ 8192) ⌝ }
-    ensures { λ r. ⌜ r ≡ ended (enumAt (now (words .entry)) (now (pairs .entry)) (now (text .entry)) at) ⌝ }
-{
-    match scan_heading(words, pairs, text, at) {
-        Scan::At(next) => scan_cases(words, pairs, text, next),
-        Scan::Refused(r) => Scan::Refused(r),
-    }
-}
-
-// A type synonym: the same, and a type.
-fn scan_synonym(words: &[u32], pairs: &[u32], text: &[u8], at: usize) -> Scan
-    requires { ⌜ Good (now pairs) (now text) × (length (now words) ≤ 8192) ⌝ }
-    ensures { λ r. ⌜ r ≡ ended (synonymAt (now (words .entry)) (now (pairs .entry)) (now (text .entry)) at) ⌝ }
-{
-    match scan_heading(words, pairs, text, at) {
-        Scan::At(next) => scan_type(words, pairs, text, next),
-        Scan::Refused(r) => Scan::Refused(r),
-    }
-}
-
-// A use behind its head: visibility and path.
-fn scan_use(words: &[u32], bound: usize, at: usize) -> Scan
-    ensures { λ r. ⌜ r ≡ useEnd bound (now (words .entry)) at ⌝ }
-{
-    match encoding::scan_below(words, 2, at) {
-        WordScan::Word { value: _, next } => match encoding::scan_path(words, bound, next) {
-            PathScan::OwnPath { path: _, next: end } => Scan::At(end),
-            PathScan::NoPath(r) => Scan::Refused(r),
-        },
-        WordScan::NoWord(r) => Scan::Refused(r),
-    }
-}
-
-// Where the declaration at 0 ends, or the refusal that is met first.
-pub fn accept_declaration(words: &[u32], pairs: &[u32], text: &[u8]) -> Scan
-    requires { ⌜ Good (now pairs) (now text) × (length (now words) ≤ 8192) ⌝ }
-    ensures { λ r. ⌜ r ≡ ended (declarationAt (now (words .entry)) (now (pairs .entry)) (now (text .entry)) 0) ⌝ }
-{
-    match encoding::scan_word(words, 0) {
-        WordScan::Word { value, next } => match value {
-            STRUCT => scan_struct(words, pairs, text, next),
-            ENUM => scan_enum(words, pairs, text, next),
-            SYNONYM => scan_synonym(words, pairs, text, next),
-            USE => scan_use(words, encoding::name_count(pairs), next),
-            _ => Scan::Refused(Refusal::UnknownWord),
-        },
-        WordScan::NoWord(r) => Scan::Refused(r),
-    }
-}
-
-// What an encoding holds.
-pub enum Whole {
-    AType,
-    ADeclaration,
-}
-
-// Where the type or the declaration at 0 ends, or the refusal that is met first.
-pub fn accept(what: Whole, words: &[u32], pairs: &[u32], text: &[u8]) -> Scan
-    requires { ⌜ Good (now pairs) (now text) × (length (now words) ≤ 8192) ⌝ }
-    ensures { λ r. ⌜ r ≡ ended (heldAt what (now (words .entry)) (now (pairs .entry)) (now (text .entry))) ⌝ }
-{
-    match what {
-        Whole::AType => scan_type(words, pairs, text, 0),
-        Whole::ADeclaration => accept_declaration(words, pairs, text),
     }
 }

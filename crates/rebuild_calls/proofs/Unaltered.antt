@@ -36,7 +36,7 @@ use Rattle.rebuild_type.specs.Laid.{ruleList, mapping, Ruled}
 use Rattle.rebuild_type.specs.Calls.{Laid, laidDown, laidType, ruledBy, typeRebuilt}
 use Rattle.rebuild_type.specs.Attempts.{sameWords, Fills}
 use Rattle.rebuild_type.proofs.Calls.{both-given, copied-fills, run-whole}
-use Rattle.declaration_walk.specs.Ends.{heldAt}
+use Rattle.accept_declaration.specs.Ends.{heldAt}
 use Rattle.declaration_walk.specs.Pieces.{Piece, own, type, pieces, declarationTokens, encodeDeclaration}
 use Rattle.declaration_walk.specs.WithTypes.{pieceWith}
 use Rattle.declaration_walk.proofs.Encoded.{declaration-run}
@@ -44,8 +44,8 @@ use Rattle.rebuild_declaration.specs.Laying.{deepestPiece, topPieces}
 use Rattle.rebuild_declaration.specs.Steps.{encodePieces}
 use Rattle.rebuild_declaration.specs.Calls.{declarationIn, laidDeclaration, declarationRebuilt}
 use Rattle.rebuild_declaration.proofs.Pieces.{encode-none, encode-own, encode-type, declaration-words, declaration-depth}
-use Rattle.declaration_walk.specs.declared.Whole.{Whole}
-use Rattle.declaration_walk.specs.declared.Whole.the-variants.{AType, ADeclaration}
+use Rattle.accept_declaration.specs.declared.Whole.{Whole}
+use Rattle.accept_declaration.specs.declared.Whole.the-variants.{AType, ADeclaration}
 use Rattle.rebuild_calls.specs.Wholes.{laidBy, wholeRebuilt}
 use Rattle.rebuild_calls.proofs.Wholes.{tree-got, laid-ends, whole-answered}
 use Rattle.rebuild_calls.proofs.EachType.{Every, each-type, declaration-deep}

@@ -18,7 +18,7 @@ use Rattle.tree_words.specs.Numbered.{treeAt}
 use Rattle.accepted_types.specs.Accepted.{Readable, EndsAt}
 use Rattle.rebuild_spec.specs.Rules.{Rule, rulesOf, mappingOf}
 use Rattle.tree_words.proofs.Renaming.{spelled}
-use Rattle.declaration_walk.specs.Ends.{heldAt}
+use Rattle.accept_declaration.specs.Ends.{heldAt}
 use Rattle.declaration_walk.proofs.RenamedReading.{declaration-spelled}
 use Rattle.declaration_walk.proofs.Scans.{ended-map, end-got}
 use Rattle.rebuild_type.specs.declared.Attempt.{Attempt}
@@ -30,8 +30,8 @@ use Rattle.rebuild_type.specs.Calls.{Laid, laidDown, laidType, ruledBy}
 use Rattle.rebuild_type.specs.Attempts.{LaidRebuilds, Attempted, Fills}
 use Rattle.rebuild_type.proofs.Calls.{laid-mapped, mapped-reads, tree-stops, tree-over, rules-stop-it, whole-filled}
 use Rattle.rebuild_declaration.specs.Calls.{declarationIn, laidDeclaration}
-use Rattle.declaration_walk.specs.declared.Whole.{Whole}
-use Rattle.declaration_walk.specs.declared.Whole.the-variants.{AType, ADeclaration}
+use Rattle.accept_declaration.specs.declared.Whole.{Whole}
+use Rattle.accept_declaration.specs.declared.Whole.the-variants.{AType, ADeclaration}
 use Rattle.rebuild_calls.specs.Wholes.{laidBy, wholeRebuilt}
 
 -- ---- the tree that begins the words, a type or a declaration

@@ -11,8 +11,8 @@ use Rattle.tree_words.specs.Numbered.{treeAt}
 use Rattle.rebuild_spec.specs.Rules.{rulesOf, mappingOf}
 use Rattle.rebuild_type.specs.Calls.{Laid, laidType, ruledBy}
 use Rattle.rebuild_declaration.specs.Calls.{declarationIn, laidDeclaration}
-use Rattle.declaration_walk.specs.declared.Whole.{Whole}
-use Rattle.declaration_walk.specs.declared.Whole.the-variants.{AType, ADeclaration}
+use Rattle.accept_declaration.specs.declared.Whole.{Whole}
+use Rattle.accept_declaration.specs.declared.Whole.the-variants.{AType, ADeclaration}
 
 -- what is laid down for the tree that begins the words
 abbrev pub laidBy : Whole → List ℕ → List ℕ → (Ty ℕ → Ty ℕ) → Reading Laid

@@ -15,7 +15,7 @@ ghost use Rattle.rebuild_type.specs.Calls.{laidDown, typeRebuilt};
 ghost use Rattle.rebuild_type.specs.Attempts.{LaidRebuilds, Attempted, Fills};
 ghost use Rattle.rebuild_declaration.specs.Calls.{declarationRebuilt};
 ghost use Rattle.rebuild_calls.specs.Wholes.{laidBy, wholeRebuilt};
-use declaration_walk::Whole;
+use accept_declaration::Whole;
 use encoding::Check;
 use encoding::Refusal;
 use encoding::Scan;
@@ -199,7 +199,7 @@ fn read_and_fill(
     requires { ⌜ Good (now pairs) (now text) × (length (now words) ≤ 8192) × (length (now rules) ≤ 8192) ⌝ }
     ensures { λ r. ⌜ (r, now (out .exit)) ≡ laidDown (now (out .entry)) (wholeRebuilt what (now (words .entry)) (now (pairs .entry)) (now (text .entry)) (now (rules .entry))) ⌝ }
 {
-    match declaration_walk::accept(what, words, pairs, text) {
+    match accept_declaration::accept(what, words, pairs, text) {
         Scan::At(end) => {
             if end != words.len() {
                 return RebuildAnswer::Refused(Refusal::LeftOver);

@@ -91,8 +91,8 @@ fn scan_rule(rules: &[u32], pairs: &[u32], text: &[u8], at: usize) -> RuleScan
     requires { ⌜ Good (now pairs) (now text) × (length (now rules) ≤ 8192) ⌝ }
     ensures { λ r. ⌜ RuleRead (now (rules .entry)) (now (pairs .entry)) at r ⌝ }
 {
-    match declaration_walk::scan_type(rules, pairs, text, at) {
-        Scan::At(middle) => match declaration_walk::scan_type(rules, pairs, text, middle) {
+    match accept_type::scan_type(rules, pairs, text, at) {
+        Scan::At(middle) => match accept_type::scan_type(rules, pairs, text, middle) {
             Scan::At(end) => RuleScan::OneRule { middle, end },
             Scan::Refused(r) => RuleScan::NoRule(r),
         },

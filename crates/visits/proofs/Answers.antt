@@ -27,12 +27,12 @@ use Rattle.accepted_types.specs.declared.Spot.{Spot}
 use Rattle.accepted_types.specs.Accepted.{Readable}
 use Rattle.visits.specs.declared.VisitAnswer.{VisitAnswer}
 use Rattle.visits.specs.declared.VisitAnswer.the-variants.{Count, Refused}
-use Rattle.declaration_walk.specs.declared.Whole.{Whole}
-use Rattle.declaration_walk.specs.declared.Whole.the-variants.{AType, ADeclaration}
+use Rattle.accept_declaration.specs.declared.Whole.{Whole}
+use Rattle.accept_declaration.specs.declared.Whole.the-variants.{AType, ADeclaration}
 use Rattle.visits.specs.Visited.{visited, visitedFrom, positions, typeVisits, declarationVisits}
 use Rattle.visits.specs.Calls.{filled}
 use Rattle.visits.specs.Passes.{Due, Visited, heldVisits, Fills, AllVisited, wholeVisits}
-use Rattle.declaration_walk.specs.Ends.{Held, heldAt}
+use Rattle.accept_declaration.specs.Ends.{Held, heldAt}
 use Rattle.visits.proofs.Lists.{listOf}
 
 module _ (ws pairs : List ℕ) (text : Bytes) where

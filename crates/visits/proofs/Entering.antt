@@ -36,7 +36,7 @@ use Rattle.declaration_walk.proofs.OpeningRuns.{opening-run}
 use Rattle.declaration_walk.proofs.Passes.{BegunAt, not-begun}
 use Rattle.declaration_walk.proofs.Fronts.{Behind, behind-got, whole-left, Kind, a-struct, an-enum, a-synonym, a-use, kind-of}
 use Rattle.visits.specs.Visited.{visitedFrom, visitedPieces, entered, visitedDeclaration, positions}
-use Rattle.declaration_walk.specs.declared.Whole.the-variants.{ADeclaration}
+use Rattle.accept_declaration.specs.declared.Whole.the-variants.{ADeclaration}
 use Rattle.visits.specs.Passes.{enteredAfter, enteredWalk, Ahead, Going, Entered, AllVisited, Due, Visited}
 use Rattle.visits.proofs.Lists.{listOf, positions-append}
 

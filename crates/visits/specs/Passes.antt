@@ -17,9 +17,9 @@ use Rattle.declaration_walk.specs.declared.After.the-variants.{FieldList, CaseL
 use Rattle.declaration_walk.specs.declared.Walk.{Walk}
 use Rattle.declaration_walk.specs.Pieces.{Piece}
 use Rattle.declaration_walk.specs.Walks.{leftAt}
-use Rattle.declaration_walk.specs.Ends.{Held, heldAt}
-use Rattle.declaration_walk.specs.declared.Whole.{Whole}
-use Rattle.declaration_walk.specs.declared.Whole.the-variants.{AType, ADeclaration}
+use Rattle.accept_declaration.specs.Ends.{Held, heldAt}
+use Rattle.accept_declaration.specs.declared.Whole.{Whole}
+use Rattle.accept_declaration.specs.declared.Whole.the-variants.{AType, ADeclaration}
 use Rattle.visits.specs.Visited.{visited, visitedAll, visitedPieces, visitedDeclaration, positions}
 
 -- ---- types

@@ -12,15 +12,15 @@ ghost use Rattle.accepted_types.specs.Accepted.{Readable};
 ghost use Rattle.visits.specs.Visited.{typeVisits, declarationVisits};
 ghost use Rattle.visits.specs.Calls.{filled};
 ghost use Rattle.visits.specs.Passes.{Due, Visited, enteredAfter, enteredWalk, Ahead, Going, Done, Entered, AllVisited, Fills, wholeVisits};
-ghost use Rattle.declaration_walk.specs.Ends.{heldAt};
+ghost use Rattle.accept_declaration.specs.Ends.{heldAt};
 ghost use Rattle.declaration_walk.specs.Walks.{FieldNext};
-ghost use Rattle.declaration_walk.specs.declared.Whole.the-variants.{AType, ADeclaration};
+ghost use Rattle.accept_declaration.specs.declared.Whole.the-variants.{AType, ADeclaration};
 use accepted_types::Spot;
 use declaration_walk::After;
 use declaration_walk::Next;
 use declaration_walk::Start;
 use declaration_walk::Walk;
-use declaration_walk::Whole;
+use accept_declaration::Whole;
 use encoding::Check;
 use encoding::Refusal;
 use encoding::Scan;
@@ -303,7 +303,7 @@ fn fill_declaration(words: &[u32], pairs: &[u32], text: &[u8], out: &mut [u32]) 
     requires { ⌜ Good (now pairs) (now text) × (length (now words) ≤ 8192) ⌝ }
     ensures { λ r. ⌜ (r, now (out .exit)) ≡ filled (now (out .entry)) (wholeVisits ADeclaration (now (words .entry)) (now (pairs .entry)) (now (text .entry))) ⌝ }
 {
-    match declaration_walk::accept_declaration(words, pairs, text) {
+    match accept_declaration::accept_declaration(words, pairs, text, 0) {
         Scan::At(end) => {
             if end != words.len() {
                 return VisitAnswer::Refused(Refusal::LeftOver);

@@ -1,5 +1,5 @@
 use Rattle.encoding.proofs.Tables.{tables-hold}
-use Rattle.declaration_walk.specs.declared.Whole.the-variants.{ADeclaration}
+use Rattle.accept_declaration.specs.declared.Whole.the-variants.{ADeclaration}
 use Rattle.visits.proofs.Answers.{tables-failed-visits, tables-passed-visits}
 use Rattle.visits.proofs.declaration_visit.Statement.{statement}
 use borrow.Author.Needs.{needs}

@@ -1,4 +1,4 @@
-use Rattle.declaration_walk.specs.declared.Whole.the-variants.{ADeclaration}
+use Rattle.accept_declaration.specs.declared.Whole.the-variants.{ADeclaration}
 use Rattle.visits.proofs.Answers.{fills, fills-readable, visits-left, visits-stop, visits-within}
 use Rattle.visits.proofs.fill_declaration.Statement.{statement}
 use borrow.Author.Needs.{needs}

@@ -1,4 +1,4 @@
-use Rattle.declaration_walk.specs.declared.Whole.the-variants.{AType}
+use Rattle.accept_declaration.specs.declared.Whole.the-variants.{AType}
 use Rattle.visits.proofs.Answers.{fills, fills-readable, type-due, type-visited, visits-left, visits-stop, visits-within}
 use Rattle.visits.proofs.fill_type.Statement.{statement}
 use borrow.Author.Needs.{needs}
