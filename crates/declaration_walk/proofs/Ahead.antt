@@ -13,6 +13,7 @@ use Rattle.encoding.specs.Declarations.{readList}
 use Rattle.encoding.proofs.Types.{made₂-got}
 use Rattle.declaration_walk.specs.Pieces.{Piece, runs, typePiece}
 use Rattle.declaration_walk.specs.Walks.{ahead, _&_, many}
+use Rattle.declaration_walk.specs.declared.Role.{Role}
 
 module _ {N : Type 0} where
   pub ahead-none : (x : Reading (List (Piece N))) → ahead [] x ≡ x
@@ -84,13 +85,13 @@ module _ {N : Type 0} where
     many-stop n p g {r} h e = item-more n p g h ∙ ap (λ x. mapReading f x & (λ q. many item f (n - 1) q & g)) e ∙ and-stop r _
 
   -- a type, and what follows it
-  pub type-and : (x : Reading (Ty N)) (g : ℕ → Reading (List (Piece N))) → mapReading typePiece x & g ≡ (x >>= λ t q. ahead (typePiece t) (g q))
+  pub type-and : (a : Role) (x : Reading (Ty N)) (g : ℕ → Reading (List (Piece N))) → mapReading (typePiece a) x & g ≡ (x >>= λ t q. ahead (typePiece a t) (g q))
   unfolding _&_ mapReading
-  type-and (got t q) g = refl
-  type-and (stop r) g = refl
+  type-and a (got t q) g = refl
+  type-and a (stop r) g = refl
 
-  pub many-one : (type : ℕ → Reading (Ty N)) (p : ℕ) → many type typePiece 1 p ≡ mapReading typePiece (type p)
-  many-one type p = many-more type typePiece 0 p ∙ and-same _ _ (λ q. got [] q) (λ q. many-none type typePiece 0 q refl) ∙ and-last (mapReading typePiece (type p))
+  pub many-one : (a : Role) (type : ℕ → Reading (Ty N)) (p : ℕ) → many type (typePiece a) 1 p ≡ mapReading (typePiece a) (type p)
+  many-one a type p = many-more type (typePiece a) 0 p ∙ and-same _ _ (λ q. got [] q) (λ q. many-none type (typePiece a) 0 q refl) ∙ and-last (mapReading (typePiece a) (type p))
 
 -- as many things as were asked for
 pub list-length : {A : Type 0} (item : ℕ → Reading A) (n p : ℕ) {xs : List A} {q : ℕ} → readList item n p ≡ got xs q → length xs ≡ n

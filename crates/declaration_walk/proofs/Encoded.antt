@@ -29,6 +29,9 @@ use Rattle.declaration_walk.proofs.Steps.{below-word, visibility-word}
 use Rattle.declaration_walk.proofs.Openings.{titleThen, title-assoc}
 use Rattle.declaration_walk.proofs.OpeningRuns.{Spelt, spelt-inside, spelt-then, spelt-word, spelt-as, counted-spells, name-spells, attributes-spell}
 use Rattle.declaration_walk.proofs.RenamedReading.{numberedAt}
+use Rattle.encoding.specs.Forms.{plain}
+use Rattle.declaration_walk.specs.declared.Role.{Role}
+use Rattle.declaration_walk.specs.declared.Role.the-variants.{Constraint, StructField, CaseField, Aliased}
 
 -- ---- the words of pieces
 
@@ -53,9 +56,9 @@ unfolding spell runs pieceTokens
 spell-owned [] = refl
 spell-owned (k ∷ ks) = ap (_∷_ (tokenWord k)) (spell-owned ks)
 
-spell-type : (t : Ty ℕ) → spell (typePiece t) ≡ encode t
+spell-type : (a : Role) (t : Ty ℕ) → spell (typePiece a t) ≡ encode t
 unfolding spell runs pieceTokens encode
-spell-type t = ap (map tokenWord) (append-nil (tokens t))
+spell-type a t = ap (map tokenWord) (append-nil (tokens t))
 
 spell-runs : {A : Type 0} (f : A → List (Piece ℕ)) (xs : List A) → spell (runs f xs) ≡ runs (λ x. spell (f x)) xs
 unfolding spell runs
@@ -68,23 +71,23 @@ spell-counted f xs = spell-own (word (length xs)) (runs f xs) ∙ ap (_∷_ (len
 
 -- the words of a title and of the parameters behind it
 heading-words : (k d : ℕ) (l : List (Attribute ℕ)) (x : ℕ) (ps : List (TypeParamDecl ℕ))
-    → (k ∷ d ∷ []) ++ (map tokenWord (attributesTokens l) ++ (x ∷ spell (counted parameterPieces ps))) ≡ spell (heading k d l x ps)
+    → (k ∷ d ∷ []) ++ (map tokenWord (attributesTokens l) ++ (x ∷ spell (counted (parameterPieces plain Constraint) ps))) ≡ spell (heading present k d l x ps)
 unfolding heading titleTokens counted tokenWord
 heading-words k d l x ps =
     let a = map tokenWord (attributesTokens l) in
     let b : spell (owned (titleTokens k d l x (length ps))) ≡ k ∷ d ∷ (a ++ (x ∷ length ps ∷ [])) = spell-owned (titleTokens k d l x (length ps)) ∙ ap (λ (i : List ℕ). k ∷ d ∷ i) (map-append tokenWord (attributesTokens l) (name x ∷ word (length ps) ∷ [])) in
-    ap (λ i. k ∷ d ∷ (a ++ (x ∷ i))) (spell-own (word (length ps)) (runs parameterPieces ps))
-    ∙ ap (λ i. k ∷ d ∷ i) (sym (append-assoc a (x ∷ length ps ∷ []) (spell (runs parameterPieces ps))))
-    ∙ ap (λ i. i ++ spell (runs parameterPieces ps)) (sym b)
-    ∙ sym (spell-append (owned (titleTokens k d l x (length ps))) (runs parameterPieces ps))
+    ap (λ i. k ∷ d ∷ (a ++ (x ∷ i))) (spell-own (word (length ps)) (runs (parameterPieces plain Constraint) ps))
+    ∙ ap (λ i. k ∷ d ∷ i) (sym (append-assoc a (x ∷ length ps ∷ []) (spell (runs (parameterPieces plain Constraint) ps))))
+    ∙ ap (λ i. i ++ spell (runs (parameterPieces plain Constraint) ps)) (sym b)
+    ∙ sym (spell-append (owned (titleTokens k d l x (length ps))) (runs (parameterPieces plain Constraint) ps))
 
-declaration-words : (d : Declaration ℕ) → encodeDeclaration d ≡ spell (front d) ++ spell (rest d)
+declaration-words : (d : Declaration ℕ) → encodeDeclaration present d ≡ spell (front present d) ++ spell (rest d)
 unfolding encodeDeclaration declarationTokens spell pieces
-declaration-words d = spell-append (front d) (rest d)
+declaration-words d = spell-append (front present d) (rest d)
 
-use-words : (u : Use ℕ) → encodeDeclaration (UseDecl u) ≡ map tokenWord (useTokens u)
+use-words : (u : Use ℕ) → encodeDeclaration present (UseDecl u) ≡ map tokenWord (useTokens (present .useHead) u)
 unfolding front rest spell runs
-use-words u = declaration-words (UseDecl u) ∙ append-nil (spell (owned (useTokens u))) ∙ spell-owned (useTokens u)
+use-words u = declaration-words (UseDecl u) ∙ append-nil (spell (owned (useTokens (present .useHead) u))) ∙ spell-owned (useTokens (present .useHead) u)
 
 -- ---- readings
 
@@ -108,53 +111,53 @@ module _ (ws : List ℕ) where
       let w = visibility-word (m .value) (below-there 2 ws p (m .reads) .below) in
       spelt-as ws (ap (λ i. i ∷ []) (sym w) ∙ ap (λ i. visibilityWord i ∷ []) (sym (m .made))) (spelt-word ws (below-word 2 ws p (m .reads)))
 
-  module _ (bound : ℕ) (ty : ℕ → Reading (Ty ℕ)) (h : Stands (λ t. spell (typePiece t)) ws ty) where
+  module _ (bound : ℕ) (ty : ℕ → Reading (Ty ℕ)) (h : (a : Role) → Stands (λ t. spell (typePiece a t)) ws ty) where
     abbrev nm : ℕ → ℕ
     nm x = x
 
     named : Stands (λ x. x ∷ []) ws (readName bound ws nm ty)
     named = name-spells ws bound ty
 
-    parameter-spells : Stands (λ x. spell (parameterPieces x)) ws (readParameter present bound ws nm ty)
+    parameter-spells : Stands (λ x. spell (parameterPieces plain Constraint x)) ws (readParameter present bound ws nm ty)
     unfolding readParameter parameterPieces tokenWord
     parameter-spells =
-        two-spell (λ x. x ∷ []) (λ ts. spell (counted typePiece ts)) (readName bound ws nm ty) (readCounted ws ty) (λ x ts. record { name = x; constraints = ts }) (λ x. spell (parameterPieces x))
-        (λ x ts. sym (spell-own (name x) (counted typePiece ts))) named (counted-spell typePiece ty h)
+        two-spell (λ x. x ∷ []) (λ ts. spell (counted (typePiece Constraint) ts)) (readName bound ws nm ty) (readCounted ws ty) (λ x ts. record { name = x; constraints = ts }) (λ x. spell (parameterPieces plain Constraint x))
+        (λ x ts. sym (spell-own (name x) (counted (typePiece Constraint) ts))) named (counted-spell (typePiece Constraint) ty (h Constraint))
 
-    formal-spells : Stands (λ x. x .name ∷ spell (typePiece (x .tpe))) ws (readFormal bound ws nm ty)
+    formal-spells : (a : Role) → Stands (λ x. x .name ∷ spell (typePiece a (x .tpe))) ws (readFormal bound ws nm ty)
     unfolding readFormal
-    formal-spells = two-spell (λ x. x ∷ []) (λ t. spell (typePiece t)) (readName bound ws nm ty) ty (λ x t. record { name = x; tpe = t }) _ (λ x t. refl) named h
+    formal-spells a = two-spell (λ x. x ∷ []) (λ t. spell (typePiece a t)) (readName bound ws nm ty) ty (λ x t. record { name = x; tpe = t }) _ (λ x t. refl) named (h a)
 
-    field-spells : Stands (λ x. spell (fieldPieces x)) ws (readField bound ws nm ty)
+    field-spells : (a : Role) → Stands (λ x. spell (fieldPieces a x)) ws (readField bound ws nm ty)
     unfolding readField fieldPieces tokenWord
-    field-spells =
-        two-spell (λ v. visibilityWord v ∷ []) (λ x. x .name ∷ spell (typePiece (x .tpe))) (readVisibility ws) (readFormal bound ws nm ty) (λ v x. record { visibility = v; formal = x }) (λ x. spell (fieldPieces x))
-        (λ v x. ap (_∷_ (visibilityWord v)) (sym (spell-own (name (x .name)) (typePiece (x .tpe)))) ∙ sym (spell-own (word (visibilityWord v)) (own (name (x .name)) ∷ typePiece (x .tpe))))
-        visibility-spells formal-spells
+    field-spells a =
+        two-spell (λ v. visibilityWord v ∷ []) (λ x. x .name ∷ spell (typePiece a (x .tpe))) (readVisibility ws) (readFormal bound ws nm ty) (λ v x. record { visibility = v; formal = x }) (λ x. spell (fieldPieces a x))
+        (λ v x. ap (_∷_ (visibilityWord v)) (sym (spell-own (name (x .name)) (typePiece a (x .tpe)))) ∙ sym (spell-own (word (visibilityWord v)) (own (name (x .name)) ∷ typePiece a (x .tpe))))
+        visibility-spells (formal-spells a)
 
-    nameless-spells : Stands (λ x. spell (namelessPieces x)) ws (readNamelessField bound ws nm ty)
+    nameless-spells : (a : Role) → Stands (λ x. spell (namelessPieces a x)) ws (readNamelessField bound ws nm ty)
     unfolding readNamelessField namelessPieces tokenWord
-    nameless-spells =
-        two-spell (λ v. visibilityWord v ∷ []) (λ t. spell (typePiece t)) (readVisibility ws) ty (λ v t. record { visibility = v; tpe = t }) (λ x. spell (namelessPieces x))
-        (λ v t. sym (spell-own (word (visibilityWord v)) (typePiece t))) visibility-spells h
+    nameless-spells a =
+        two-spell (λ v. visibilityWord v ∷ []) (λ t. spell (typePiece a t)) (readVisibility ws) ty (λ v t. record { visibility = v; tpe = t }) (λ x. spell (namelessPieces a x))
+        (λ v t. sym (spell-own (word (visibilityWord v)) (typePiece a t))) visibility-spells (h a)
 
-    fields-spell : Stands (λ x. spell (fieldsPieces x)) ws (readFields bound ws nm ty)
+    fields-spell : (a : Role) → Stands (λ x. spell (fieldsPieces a x)) ws (readFields bound ws nm ty)
     unfolding readFields fieldsPieces tokenWord
-    fields-spell p x n l e =
+    fields-spell a p x n l e =
         let r = bind-got (readBelow 2 ws p) _ e in
         go (r .value) (r .end) (below-there 2 ws p (r .first) .below) (spelt-word ws (below-word 2 ws p (r .first))) (r .rest)
       where
         go : (k q : ℕ) → k < 2 → Spelt ws p (k ∷ []) q
             → pick (eqb k 0) (readCounted ws (readField bound ws nm ty) q >>= λ xs r. got (NamedFields xs) r) (readCounted ws (readNamelessField bound ws nm ty) q >>= λ xs r. got (NamelessFields xs) r) ≡ got x n
-            → Spelt ws p (spell (fieldsPieces x)) n
+            → Spelt ws p (spell (fieldsPieces a x)) n
         go zero q b s e =
             let m = made-got (readCounted ws (readField bound ws nm ty) q) NamedFields e in
-            let t = counted-spell fieldPieces (readField bound ws nm ty) field-spells q (m .value) n (spelt-inside ws s) (m .reads) in
-            spelt-as ws (sym (spell-own (word 0) (counted fieldPieces (m .value))) ∙ ap (λ y. spell (fieldsPieces y)) (sym (m .made))) (spelt-then ws (0 ∷ []) (spell (counted fieldPieces (m .value))) s t)
+            let t = counted-spell (fieldPieces a) (readField bound ws nm ty) (field-spells a) q (m .value) n (spelt-inside ws s) (m .reads) in
+            spelt-as ws (sym (spell-own (word 0) (counted (fieldPieces a) (m .value))) ∙ ap (λ y. spell (fieldsPieces a y)) (sym (m .made))) (spelt-then ws (0 ∷ []) (spell (counted (fieldPieces a) (m .value))) s t)
         go (suc zero) q b s e =
             let m = made-got (readCounted ws (readNamelessField bound ws nm ty) q) NamelessFields e in
-            let t = counted-spell namelessPieces (readNamelessField bound ws nm ty) nameless-spells q (m .value) n (spelt-inside ws s) (m .reads) in
-            spelt-as ws (sym (spell-own (word 1) (counted namelessPieces (m .value))) ∙ ap (λ y. spell (fieldsPieces y)) (sym (m .made))) (spelt-then ws (1 ∷ []) (spell (counted namelessPieces (m .value))) s t)
+            let t = counted-spell (namelessPieces a) (readNamelessField bound ws nm ty) (nameless-spells a) q (m .value) n (spelt-inside ws s) (m .reads) in
+            spelt-as ws (sym (spell-own (word 1) (counted (namelessPieces a) (m .value))) ∙ ap (λ y. spell (fieldsPieces a y)) (sym (m .made))) (spelt-then ws (1 ∷ []) (spell (counted (namelessPieces a) (m .value))) s t)
         go (suc (suc k)) q b s e = absurd (let z : ⊥ = omega arith in z)
 
     case-spells : Stands (λ x. spell (casePieces x)) ws (readCase bound ws nm ty)
@@ -164,20 +167,20 @@ module _ (ws : List ℕ) where
         let s = named p (r .value) (r .end) l (r .first) in
         let m = made₂-got (readName bound ws nm ty (r .end)) (readFields bound ws nm ty) (λ x fs. record { docString = r .value; name = x; fields = fs }) (r .rest) in
         let t = named (r .end) (m .left) (m .middle) (spelt-inside ws s) (m .reads) in
-        let u = fields-spell (m .middle) (m .right) n (spelt-inside ws t) (m .reads₂) in
+        let u = fields-spell CaseField (m .middle) (m .right) n (spelt-inside ws t) (m .reads₂) in
         spelt-as ws (words (r .value) (m .left) (m .right) ∙ ap (λ (x : EnumCase ℕ). spell (casePieces x)) (sym (m .made)))
-        (spelt-then ws (r .value ∷ []) (m .left ∷ spell (fieldsPieces (m .right))) s (spelt-then ws (m .left ∷ []) (spell (fieldsPieces (m .right))) t u))
+        (spelt-then ws (r .value ∷ []) (m .left ∷ spell (fieldsPieces CaseField (m .right))) s (spelt-then ws (m .left ∷ []) (spell (fieldsPieces CaseField (m .right))) t u))
       where
-        words : (d x : ℕ) (fs : Fields ℕ) → d ∷ x ∷ spell (fieldsPieces fs) ≡ spell (own (name d) ∷ own (name x) ∷ fieldsPieces fs)
-        words d x fs = ap (_∷_ d) (sym (spell-own (name x) (fieldsPieces fs))) ∙ sym (spell-own (name d) (own (name x) ∷ fieldsPieces fs))
+        words : (d x : ℕ) (fs : Fields ℕ) → d ∷ x ∷ spell (fieldsPieces CaseField fs) ≡ spell (own (name d) ∷ own (name x) ∷ fieldsPieces CaseField fs)
+        words d x fs = ap (_∷_ d) (sym (spell-own (name x) (fieldsPieces CaseField fs))) ∙ sym (spell-own (name d) (own (name x) ∷ fieldsPieces CaseField fs))
 
     -- ---- declarations
 
     module _ (at : ℕ) (d : Declaration ℕ) (n : ℕ) where
       -- a title and the parameters behind it
       title-spells : (k p : ℕ) → Spelt ws at (k ∷ []) p → (last : ℕ → List (Attribute ℕ) → ℕ → List (TypeParamDecl ℕ) → ℕ → Reading (Declaration ℕ)) → titleThen bound ws nm ty last p ≡ got d n
-          → ((doc : ℕ) (l : List (Attribute ℕ)) (x : ℕ) (ps : List (TypeParamDecl ℕ)) (v : ℕ) → Spelt ws at (spell (heading k doc l x ps)) v → last doc l x ps v ≡ got d n → Spelt ws at (encodeDeclaration d) n)
-          → Spelt ws at (encodeDeclaration d) n
+          → ((doc : ℕ) (l : List (Attribute ℕ)) (x : ℕ) (ps : List (TypeParamDecl ℕ)) (v : ℕ) → Spelt ws at (spell (heading present k doc l x ps)) v → last doc l x ps v ≡ got d n → Spelt ws at (encodeDeclaration present d) n)
+          → Spelt ws at (encodeDeclaration present d) n
       title-spells k p h last e f =
           let r = bind-got (readName bound ws nm ty p) _ e in
           let a = bind-got (readCounted ws (readAttribute bound ws nm ty) (r .end)) _ (r .rest) in
@@ -186,53 +189,53 @@ module _ (ws : List ℕ) where
           let s₁ = named p (r .value) (r .end) (spelt-inside ws h) (r .first) in
           let s₂ = attributes-spell ws bound ty (r .end) (a .value) (a .end) (spelt-inside ws s₁) (a .first) in
           let s₃ = named (a .end) (b .value) (b .end) (spelt-inside ws s₂) (b .first) in
-          let s₄ = counted-spell parameterPieces (readParameter present bound ws nm ty) parameter-spells (b .end) (c .value) (c .end) (spelt-inside ws s₃) (c .first) in
+          let s₄ = counted-spell (parameterPieces plain Constraint) (readParameter present bound ws nm ty) parameter-spells (b .end) (c .value) (c .end) (spelt-inside ws s₃) (c .first) in
           f (r .value) (a .value) (b .value) (c .value) (c .end) (whole (r .value) (a .value) (b .value) (c .value) {v = c .end} h s₁ s₂ s₃ s₄) (c .rest)
         where
           whole : (doc : ℕ) (l : List (Attribute ℕ)) (x : ℕ) (ps : List (TypeParamDecl ℕ)) {q r s v : ℕ} → Spelt ws at (k ∷ []) p → Spelt ws p (doc ∷ []) q → Spelt ws q (map tokenWord (attributesTokens l)) r
-              → Spelt ws r (x ∷ []) s → Spelt ws s (spell (counted parameterPieces ps)) v → Spelt ws at (spell (heading k doc l x ps)) v
+              → Spelt ws r (x ∷ []) s → Spelt ws s (spell (counted (parameterPieces plain Constraint) ps)) v → Spelt ws at (spell (heading present k doc l x ps)) v
           whole doc l x ps s₀ s₁ s₂ s₃ s₄ =
               spelt-as ws (heading-words k doc l x ps)
               (spelt-then ws (k ∷ doc ∷ []) _ (spelt-then ws (k ∷ []) (doc ∷ []) s₀ s₁)
-              (spelt-then ws (map tokenWord (attributesTokens l)) _ s₂ (spelt-then ws (x ∷ []) (spell (counted parameterPieces ps)) s₃ s₄)))
+              (spelt-then ws (map tokenWord (attributesTokens l)) _ s₂ (spelt-then ws (x ∷ []) (spell (counted (parameterPieces plain Constraint) ps)) s₃ s₄)))
 
       -- what follows them
       rest-spells : {A S : Type 0} (pre : List (Piece ℕ)) (code : A → List (Piece ℕ)) (f : ℕ → Reading A) (make : A → S) (c : S → Declaration ℕ) → Stands (λ a. spell (code a)) ws f
-          → ((a : A) → (front (c (make a)) ≡ pre) × (rest (c (make a)) ≡ code a)) → (v : ℕ) → Spelt ws at (spell pre) v → ((f v >>= λ a t. got (make a) t) >>= λ s q. got (c s) q) ≡ got d n
-          → Spelt ws at (encodeDeclaration d) n
+          → ((a : A) → (front present (c (make a)) ≡ pre) × (rest (c (make a)) ≡ code a)) → (v : ℕ) → Spelt ws at (spell pre) v → ((f v >>= λ a t. got (make a) t) >>= λ s q. got (c s) q) ≡ got d n
+          → Spelt ws at (encodeDeclaration present d) n
       rest-spells pre code f make c k i v s e =
           let m = made-got (f v >>= λ a t. got (make a) t) c e in
           let o = made-got (f v) make (m .reads) in
           let t = k v (o .value) n (spelt-inside ws s) (o .reads) in
           let g : d ≡ c (make (o .value)) = m .made ∙ ap c (o .made) in
           let j = i (o .value) in
-          let w : encodeDeclaration (c (make (o .value))) ≡ spell pre ++ spell (code (o .value)) = declaration-words (c (make (o .value))) ∙ ap (λ l. spell l ++ spell (rest (c (make (o .value))))) (j .0) ∙ ap (λ l. spell pre ++ spell l) (j .1) in
-          spelt-as ws (sym w ∙ ap encodeDeclaration (sym g)) (spelt-then ws (spell pre) (spell (code (o .value))) s t)
+          let w : encodeDeclaration present (c (make (o .value))) ≡ spell pre ++ spell (code (o .value)) = declaration-words (c (make (o .value))) ∙ ap (λ l. spell l ++ spell (rest (c (make (o .value))))) (j .0) ∙ ap (λ l. spell pre ++ spell l) (j .1) in
+          spelt-as ws (sym w ∙ ap (encodeDeclaration present) (sym g)) (spelt-then ws (spell pre) (spell (code (o .value))) s t)
 
-      struct-spells : (p : ℕ) → Spelt ws at ((present .structHead) ∷ []) p → (readStruct present bound ws nm ty p >>= λ s q. got (StructDecl s) q) ≡ got d n → Spelt ws at (encodeDeclaration d) n
+      struct-spells : (p : ℕ) → Spelt ws at ((present .structHead) ∷ []) p → (readStruct present bound ws nm ty p >>= λ s q. got (StructDecl s) q) ≡ got d n → Spelt ws at (encodeDeclaration present d) n
       unfolding readStruct front rest
       struct-spells p h e =
           title-spells (present .structHead) p h _ (sym (title-assoc bound ws nm ty (λ doc l x ps s. readFields bound ws nm ty s >>= λ fs t. got (record { docString = doc; attributes = l; name = x; typeParams = ps; fields = fs }) t) (λ s q. got (StructDecl s) q) p) ∙ e)
           λ doc l x ps v s g.
-          rest-spells (heading (present .structHead) doc l x ps) fieldsPieces (readFields bound ws nm ty) (λ fs. record { docString = doc; attributes = l; name = x; typeParams = ps; fields = fs }) StructDecl fields-spell
+          rest-spells (heading present (present .structHead) doc l x ps) (fieldsPieces StructField) (readFields bound ws nm ty) (λ fs. record { docString = doc; attributes = l; name = x; typeParams = ps; fields = fs }) StructDecl (fields-spell StructField)
           (λ fs. (refl, refl)) v s g
 
-      enum-spells : (p : ℕ) → Spelt ws at ((present .enumHead) ∷ []) p → (readEnum present bound ws nm ty p >>= λ s q. got (EnumDecl s) q) ≡ got d n → Spelt ws at (encodeDeclaration d) n
+      enum-spells : (p : ℕ) → Spelt ws at ((present .enumHead) ∷ []) p → (readEnum present bound ws nm ty p >>= λ s q. got (EnumDecl s) q) ≡ got d n → Spelt ws at (encodeDeclaration present d) n
       unfolding readEnum front rest
       enum-spells p h e =
           title-spells (present .enumHead) p h _ (sym (title-assoc bound ws nm ty (λ doc l x ps s. readCounted ws (readCase bound ws nm ty) s >>= λ cs t. got (record { docString = doc; attributes = l; name = x; typeParams = ps; variants = cs }) t) (λ s q. got (EnumDecl s) q) p) ∙ e)
           λ doc l x ps v s g.
-          rest-spells (heading (present .enumHead) doc l x ps) (counted casePieces) (readCounted ws (readCase bound ws nm ty)) (λ cs. record { docString = doc; attributes = l; name = x; typeParams = ps; variants = cs }) EnumDecl
+          rest-spells (heading present (present .enumHead) doc l x ps) (counted casePieces) (readCounted ws (readCase bound ws nm ty)) (λ cs. record { docString = doc; attributes = l; name = x; typeParams = ps; variants = cs }) EnumDecl
           (counted-spell casePieces (readCase bound ws nm ty) case-spells) (λ cs. (refl, refl)) v s g
 
-      synonym-spells : (p : ℕ) → Spelt ws at ((present .synonymHead) ∷ []) p → (readTypeSynonym present bound ws nm ty p >>= λ s q. got (TypeDecl s) q) ≡ got d n → Spelt ws at (encodeDeclaration d) n
+      synonym-spells : (p : ℕ) → Spelt ws at ((present .synonymHead) ∷ []) p → (readTypeSynonym present bound ws nm ty p >>= λ s q. got (TypeDecl s) q) ≡ got d n → Spelt ws at (encodeDeclaration present d) n
       unfolding readTypeSynonym front rest
       synonym-spells p h′ e =
           title-spells (present .synonymHead) p h′ _ (sym (title-assoc bound ws nm ty (λ doc l x ps s. ty s >>= λ t u. got (record { docString = doc; attributes = l; name = x; typeParams = ps; tpe = t }) u) (λ s q. got (TypeDecl s) q) p) ∙ e)
           λ doc l x ps v s g.
-          rest-spells (heading (present .synonymHead) doc l x ps) typePiece ty (λ t. record { docString = doc; attributes = l; name = x; typeParams = ps; tpe = t }) TypeDecl h (λ t. (refl, refl)) v s g
+          rest-spells (heading present (present .synonymHead) doc l x ps) (typePiece Aliased) ty (λ t. record { docString = doc; attributes = l; name = x; typeParams = ps; tpe = t }) TypeDecl (h Aliased) (λ t. (refl, refl)) v s g
 
-      use-spells : (p : ℕ) → Spelt ws at ((present .useHead) ∷ []) p → (readUse bound ws nm ty p >>= λ s q. got (UseDecl s) q) ≡ got d n → Spelt ws at (encodeDeclaration d) n
+      use-spells : (p : ℕ) → Spelt ws at ((present .useHead) ∷ []) p → (readUse bound ws nm ty p >>= λ s q. got (UseDecl s) q) ≡ got d n → Spelt ws at (encodeDeclaration present d) n
       unfolding readUse useTokens tokenWord
       use-spells p s e =
           let m = made-got (readUse bound ws nm ty p) UseDecl e in
@@ -240,10 +243,10 @@ module _ (ws : List ℕ) where
           let t = visibility-spells p (o .left) (o .middle) (spelt-inside ws s) (o .reads) in
           let u = path-stands bound ws (o .middle) (o .right) n (spelt-inside ws t) (o .reads₂) in
           let g : d ≡ UseDecl (record { visibility = o .left; path = pathOf ws nm (o .right) }) = m .made ∙ ap UseDecl (o .made) in
-          spelt-as ws (sym (use-words (record { visibility = o .left; path = pathOf ws nm (o .right) })) ∙ ap encodeDeclaration (sym g))
+          spelt-as ws (sym (use-words (record { visibility = o .left; path = pathOf ws nm (o .right) })) ∙ ap (encodeDeclaration present) (sym g))
           (spelt-then ws ((present .useHead) ∷ []) _ s (spelt-then ws (visibilityWord (o .left) ∷ []) (map tokenWord (pathTokens (pathOf ws nm (o .right)))) t u))
 
-      declaration-spells : readDeclaration present bound ws nm ty at ≡ got d n → Spelt ws at (encodeDeclaration d) n
+      declaration-spells : readDeclaration present bound ws nm ty at ≡ got d n → Spelt ws at (encodeDeclaration present d) n
       unfolding readDeclaration declarationAfter
       declaration-spells e =
           let r = bind-got (readWord ws at) _ e in
@@ -254,7 +257,7 @@ module _ (ws : List ℕ) where
               → (k : Bool) → (k ≡ true → w ≡ (present .useHead))
               → pick a (readStruct present bound ws nm ty p >>= λ s q. got (StructDecl s) q) (pick b (readEnum present bound ws nm ty p >>= λ s q. got (EnumDecl s) q)
               (pick c (readTypeSynonym present bound ws nm ty p >>= λ s q. got (TypeDecl s) q) (pick k (readUse bound ws nm ty p >>= λ s q. got (UseDecl s) q) (stop UnknownWord)))) ≡ got d n
-              → Spelt ws at (encodeDeclaration d) n
+              → Spelt ws at (encodeDeclaration present d) n
           go w p s true ha b hb c hc k hk e = struct-spells p (spelt-as ws (ap (λ i. i ∷ []) (ha refl)) s) e
           go w p s false ha true hb c hc k hk e = enum-spells p (spelt-as ws (ap (λ i. i ∷ []) (hb refl)) s) e
           go w p s false ha false hb true hc k hk e = synonym-spells p (spelt-as ws (ap (λ i. i ∷ []) (hc refl)) s) e
@@ -262,8 +265,8 @@ module _ (ws : List ℕ) where
           go w p s false ha false hb false hc false hk e = impossible (cc)
 
 -- a declaration stands in the words by its encoding, and ends behind it
-pub declaration-run : (ws pairs : List ℕ) (at : ℕ) {d : Declaration ℕ} {n : ℕ} → numberedAt ws pairs at ≡ got d n → Run ws at (encodeDeclaration d) × (n ≡ at + length (encodeDeclaration d))
+pub declaration-run : (ws pairs : List ℕ) (at : ℕ) {d : Declaration ℕ} {n : ℕ} → numberedAt ws pairs at ≡ got d n → Run ws at (encodeDeclaration present d) × (n ≡ at + length (encodeDeclaration present d))
 declaration-run ws pairs at {d} {n} e = declaration-spells ws (nameCount pairs) (treeAt ws pairs) types at d n e
   where
-    types : Stands (λ t. spell (typePiece t)) ws (treeAt ws pairs)
-    types p t m l e = spelt-as ws (sym (spell-type t)) (type-stands (nameCount pairs) ws 64 p t m l e)
+    types : (a : Role) → Stands (λ t. spell (typePiece a t)) ws (treeAt ws pairs)
+    types a p t m l e = spelt-as ws (sym (spell-type a t)) (type-stands (nameCount pairs) ws 64 p t m l e)

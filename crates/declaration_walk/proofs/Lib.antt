@@ -6,7 +6,7 @@ pub mod NextSteps
 pub mod Openings
 pub mod OpeningRuns
 pub mod Passes
-pub mod Fronts
+pub mod Behind
 pub mod RenamedReading
 pub mod WithTypes
 pub mod Encoded

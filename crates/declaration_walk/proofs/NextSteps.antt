@@ -8,6 +8,8 @@ use Rattle.encoding.specs.declared.Refusal.{Refusal}
 use Rattle.encoding.specs.Reading.{Reading, got, stop, readWord, readBelow}
 use Rattle.declaration_walk.specs.declared.After.{After}
 use Rattle.declaration_walk.specs.declared.After.the-variants.{FieldList, CaseList, OneType, NoMore}
+use Rattle.declaration_walk.specs.declared.Role.{Role}
+use Rattle.declaration_walk.specs.declared.Role.the-variants.{Constraint, StructField, CaseField, Aliased}
 use Rattle.declaration_walk.specs.declared.Walk.{Walk}
 use Rattle.declaration_walk.specs.declared.Next.{Next}
 use Rattle.declaration_walk.specs.Walks.{readEntry, readTwo, Stepped, type-due, parameter, no-parameter, fields, no-fields, cases, no-cases, alias, field, no-field, nameless, no-nameless, case, no-case, end}
@@ -38,7 +40,7 @@ module _ (bound : ℕ) (ws : List ℕ) (w : Walk) where
   ]
 
   body-step : w .types ≡ 0 → w .parameters ≡ 0 → (a : After) → w .after ≡ a → Step
-  body-step e d FieldList a = reading (readEntry 2 ws (w .place)) (λ v q r. by (fields e d a r)) (λ i r. by (no-fields e d a r))
+  body-step e d (FieldList b) a = reading (readEntry 2 ws (w .place)) (λ v q r. by (fields e d a r)) (λ i r. by (no-fields e d a r))
   body-step e d CaseList a = reading (readWord ws (w .place)) (λ v q r. by (cases e d a r)) (λ i r. by (no-cases e d a r))
   body-step e d OneType a = by (alias e d a)
   body-step e d NoMore a = member-step e d a

@@ -26,6 +26,8 @@ use Rattle.tree_words.proofs.Runs.{run-none, run-join}
 use Rattle.tree_words.proofs.Spans.{Stands, path-stands}
 use Rattle.declaration_walk.specs.declared.After.{After}
 use Rattle.declaration_walk.specs.declared.After.the-variants.{FieldList, CaseList, OneType}
+use Rattle.declaration_walk.specs.declared.Role.{Role}
+use Rattle.declaration_walk.specs.declared.Role.the-variants.{Constraint, StructField, CaseField, Aliased}
 use Rattle.declaration_walk.specs.Pieces.{runs, attributeTokens, attributesTokens, titleTokens, useTokens}
 use Rattle.declaration_walk.specs.Walks.{readEntry, Opening, readAttributes, readTitle, readUsing, openingAfter, readOpening}
 use Rattle.declaration_walk.proofs.Scans.{entry}
@@ -118,7 +120,7 @@ module _ (ws : List ℕ) where
         subst (λ i. Spelt ws p (map tokenWord (o .tokens)) i) m
         (spelt-as (ap (λ l. k ∷ r .value ∷ l) (sym (map-append tokenWord (attributesTokens (a .value)) (name (t .value .0) ∷ word (t .value .1) ∷ []))) ∙ ap (λ (x : Opening). map tokenWord (x .tokens)) v) all)
 
-    using-spells : (p : ℕ) (o : Opening) (q n : ℕ) → Spelt ws p ((present .useHead) ∷ []) q → readUsing bound ws q ≡ got o n → Spelt ws p (map tokenWord (o .tokens)) n
+    using-spells : (p : ℕ) (o : Opening) (q n : ℕ) → Spelt ws p ((present .useHead) ∷ []) q → readUsing (present .useHead) bound ws q ≡ got o n → Spelt ws p (map tokenWord (o .tokens)) n
     unfolding readUsing useTokens tokenWord
     using-spells p o q n h e =
         let r = bind-got (readBelow 2 ws q) _ e in
@@ -133,7 +135,7 @@ module _ (ws : List ℕ) where
         (spelt-as (ap (λ i. (present .useHead) ∷ i ∷ map tokenWord (pathTokens (pathOf ws (λ j. j) (x .value)))) (sym (visibility-word (r .value) (w .below))) ∙ ap (λ (y : Opening). map tokenWord (y .tokens)) v) all)
 
     -- the own words of an opening, and where it ends
-    pub opening-run : (at : ℕ) (o : Opening) (n : ℕ) → readOpening bound ws at ≡ got o n → Run ws at (map tokenWord (o .tokens)) × (n ≡ at + length (o .tokens))
+    pub opening-run : (at : ℕ) (o : Opening) (n : ℕ) → readOpening present bound ws at ≡ got o n → Run ws at (map tokenWord (o .tokens)) × (n ≡ at + length (o .tokens))
     unfolding readOpening openingAfter
     opening-run at o n e =
         let r = bind-got (readWord ws at) _ e in
@@ -144,9 +146,9 @@ module _ (ws : List ℕ) where
       where
         go : (w p : ℕ) → Spelt ws at (w ∷ []) p → (a : Bool) → (a ≡ true → w ≡ (present .structHead)) → (b : Bool) → (b ≡ true → w ≡ (present .enumHead)) → (c : Bool) → (c ≡ true → w ≡ (present .synonymHead))
             → (d : Bool) → (d ≡ true → w ≡ (present .useHead))
-            → pick a (readTitle bound ws (present .structHead) FieldList p) (pick b (readTitle bound ws (present .enumHead) CaseList p) (pick c (readTitle bound ws (present .synonymHead) OneType p) (pick d (readUsing bound ws p) (stop UnknownWord)))) ≡ got o n
+            → pick a (readTitle bound ws (present .structHead) (FieldList StructField) p) (pick b (readTitle bound ws (present .enumHead) CaseList p) (pick c (readTitle bound ws (present .synonymHead) OneType p) (pick d (readUsing (present .useHead) bound ws p) (stop UnknownWord)))) ≡ got o n
             → Spelt ws at (map tokenWord (o .tokens)) n
-        go w p s true h b hb c hc d hd e = title-spells (present .structHead) FieldList at o p n (spelt-as (ap (λ i. i ∷ []) (h refl)) s) e
+        go w p s true h b hb c hc d hd e = title-spells (present .structHead) (FieldList StructField) at o p n (spelt-as (ap (λ i. i ∷ []) (h refl)) s) e
         go w p s false h true hb c hc d hd e = title-spells (present .enumHead) CaseList at o p n (spelt-as (ap (λ i. i ∷ []) (hb refl)) s) e
         go w p s false h false hb true hc d hd e = title-spells (present .synonymHead) OneType at o p n (spelt-as (ap (λ i. i ∷ []) (hc refl)) s) e
         go w p s false h false hb false hc true hd e = using-spells at o p n (spelt-as (ap (λ i. i ∷ []) (hd refl)) s) e

@@ -23,6 +23,7 @@ use Rattle.declaration_walk.specs.Walks.{Stepped, Opening, opened, readO
 use Rattle.declaration_walk.proofs.Scans.{ended-map}
 use Rattle.declaration_walk.proofs.Openings.{declaration-pieces}
 use Rattle.declaration_walk.proofs.OpeningRuns.{opening-run}
+use Rattle.encoding.specs.Forms.{present}
 
 pub bind-at : {A B : Type 0} (x : Reading A) (f : A → ℕ → Reading B) {a : A} {n : ℕ} → x ≡ got a n → (x >>= f) ≡ f a n
 bind-at x f e = ap (λ y. y >>= f) e
@@ -38,27 +39,27 @@ module _ (ws pairs : List ℕ) (text : Bytes) where
   pub record BegunAt (w : Walk) : Type 0 where
     pub opening : Opening
     pub end : ℕ
-    pub reads : readOpening (nameCount pairs) ws 0 ≡ got opening end
+    pub reads : readOpening present (nameCount pairs) ws 0 ≡ got opening end
     pub walk : w ≡ opened opening end
     pub inside : w .place ≤ length ws
 
-  pub begun : {r : Start} {w : Walk} → r ≡ started (readOpening (nameCount pairs) ws 0) → r ≡ Begun w → BegunAt w
-  begun {r} {w} e d = go (readOpening (nameCount pairs) ws 0) refl e
+  pub begun : {r : Start} {w : Walk} → r ≡ started (readOpening present (nameCount pairs) ws 0) → r ≡ Begun w → BegunAt w
+  begun {r} {w} e d = go (readOpening present (nameCount pairs) ws 0) refl e
     where
-      go : (x : Reading Opening) → readOpening (nameCount pairs) ws 0 ≡ x → r ≡ started x → BegunAt w
+      go : (x : Reading Opening) → readOpening present (nameCount pairs) ws 0 ≡ x → r ≡ started x → BegunAt w
       go (got o n) h k =
           let z : w ≡ opened o n = cc in
           let s = opening-run ws (nameCount pairs) 0 o n h in
           record { opening = o; end = n; reads = h; walk = z; inside = omega (arith, s .0 .ends, s .1, length-map (o .tokens) tokenWord, ap Walk.place z) }
       go (stop i) h k = impossible (cc)
 
-  pub not-begun : {r : Start} {k : Refusal} → r ≡ started (readOpening (nameCount pairs) ws 0) → r ≡ NotBegun k → Refused k ≡ ended (declarationAt ws pairs text 0)
+  pub not-begun : {r : Start} {k : Refusal} → r ≡ started (readOpening present (nameCount pairs) ws 0) → r ≡ NotBegun k → Refused k ≡ ended (declarationAt ws pairs text 0)
   unfolding mapReading
-  not-begun {r} {k} e d = go (readOpening (nameCount pairs) ws 0) refl e
+  not-begun {r} {k} e d = go (readOpening present (nameCount pairs) ws 0) refl e
     where
-      go : (x : Reading Opening) → readOpening (nameCount pairs) ws 0 ≡ x → r ≡ started x → Refused k ≡ ended (declarationAt ws pairs text 0)
+      go : (x : Reading Opening) → readOpening present (nameCount pairs) ws 0 ≡ x → r ≡ started x → Refused k ≡ ended (declarationAt ws pairs text 0)
       go (got o n) h j = impossible (cc)
       go (stop i) h j =
           let z : k ≡ i = cc in
           ap Refused z
-          ∙ sym (sym (ended-map pieces (declarationAt ws pairs text 0)) ∙ ap ended (declaration-pieces (nameCount pairs) ws (nameBytes pairs text) (typeAt ws pairs text) 0 ∙ bind-none (readOpening (nameCount pairs) ws 0) _ h))
+          ∙ sym (sym (ended-map (pieces present) (declarationAt ws pairs text 0)) ∙ ap ended (declaration-pieces (nameCount pairs) ws (nameBytes pairs text) (typeAt ws pairs text) 0 ∙ bind-none (readOpening present (nameCount pairs) ws 0) _ h))

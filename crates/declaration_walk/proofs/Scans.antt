@@ -226,6 +226,6 @@ title-started bound ws k after p = go (readBelow bound ws p)
     go (stop r) = refl
 
 pub opening-none : (bound : ℕ) (ws : List ℕ) (w p : ℕ) → (w ≡ (present .structHead) → ⊥) → (w ≡ (present .enumHead) → ⊥) → (w ≡ (present .synonymHead) → ⊥) → (w ≡ (present .useHead) → ⊥)
-    → openingAfter bound ws w p ≡ stop UnknownWord
+    → openingAfter present bound ws w p ≡ stop UnknownWord
 unfolding openingAfter
 opening-none bound ws w p a b c d = rw (ne-eqb w (present .structHead) a, ne-eqb w (present .enumHead) b, ne-eqb w (present .synonymHead) c, ne-eqb w (present .useHead) d)

@@ -13,7 +13,7 @@ use Rattle.encoding.specs.declared.Refusal.{Refusal}
 use Rattle.encoding.specs.Refusals.{pick}
 use Rattle.encoding.specs.Reading.{Reading, got, stop, _>>=_, readWord, readBelow}
 use Rattle.encoding.specs.Scans.{mapReading}
-use Rattle.encoding.specs.Forms.{present}
+
 use Rattle.encoding.specs.Declarations.{readList, readCounted, visibilityOf, readVisibility, readName, readParameter, readFormal, readField, readNamelessField, readFields, readCase}
 use Rattle.encoding.proofs.Tables.{impossible}
 use Rattle.encoding.proofs.Types.{bind-got}
@@ -25,12 +25,15 @@ use Rattle.tree_words.proofs.Runs.{run-one, run-two}
 use Rattle.tree_words.proofs.Spans.{next-there}
 use Rattle.declaration_walk.specs.declared.After.{After}
 use Rattle.declaration_walk.specs.declared.After.the-variants.{FieldList, CaseList, OneType, NoMore}
+use Rattle.declaration_walk.specs.declared.Role.{Role}
+use Rattle.declaration_walk.specs.declared.Role.the-variants.{Constraint, StructField, CaseField, Aliased}
 use Rattle.declaration_walk.specs.declared.Walk.{Walk}
 use Rattle.declaration_walk.specs.declared.Next.the-variants.{OwnWords, TypeDue, Ended, Halted}
 use Rattle.declaration_walk.specs.Pieces.{Piece, own, type, visibilityWord, runs, owned, typePiece, counted, parameterPieces, fieldPieces, namelessPieces, fieldsPieces, casePieces}
 use Rattle.declaration_walk.specs.Walks.{ahead, _&_, many, someFields, bodyOf, leftOf, readEntry, readTwo, moved, pastType, pastAlias, inParameter, inFields, inCases, inField, inCase, FieldNext, fieldType, Stepped, type-due, parameter, no-parameter, fields, no-fields, cases, no-cases, alias, field, no-field, nameless, no-nameless, case, no-case, end}
 use Rattle.declaration_walk.proofs.Scans.{Pair, NoPair, at-first, at-second, entry, no-entry, two, no-two}
 use Rattle.declaration_walk.proofs.Ahead.{ahead-and, and-none, and-last, and-same, and-stop, many-none, item-more, many-stop, type-and, many-one, list-length}
+use Rattle.encoding.specs.Forms.{plain, present}
 
 pub visibility-word : (v : ℕ) → v < 2 → visibilityWord (visibilityOf v) ≡ v
 unfolding visibilityWord visibilityOf
@@ -53,14 +56,14 @@ two-run ws p {x} {y} {m} s t =
 module _ {N : Type 0} (bound : ℕ) (ws : List ℕ) (nm : ℕ → N) (ty : ℕ → Reading (Ty N)) where
   -- ---- what each thing reads behind its own words
 
-  parameter-read : (p : ℕ) {x m q : ℕ} → Pair (readBelow bound ws p) (readWord ws) x m q
-      → mapReading parameterPieces (readParameter present bound ws nm ty p) ≡ ahead (own (name (nm x)) ∷ own (word m) ∷ []) (many ty typePiece m q)
+  parameter-read : (a : Role) (p : ℕ) {x m q : ℕ} → Pair (readBelow bound ws p) (readWord ws) x m q
+      → mapReading (parameterPieces plain a) (readParameter present bound ws nm ty p) ≡ ahead (own (name (nm x)) ∷ own (word m) ∷ []) (many ty (typePiece a) m q)
   unfolding readParameter readName readCounted parameterPieces counted ahead mapReading many
-  parameter-read p {x} {m} {q} t = rw (t .first, t .second) (go (readList ty m q) (λ ts r e. list-length ty m q e))
+  parameter-read a p {x} {m} {q} t = rw (t .first, t .second) (go (readList ty m q) (λ ts r e. list-length ty m q e))
     where
       go : (y : Reading (List (Ty N))) → ((ts : List (Ty N)) (r : ℕ) → y ≡ got ts r → length ts ≡ m)
-          → mapReading parameterPieces (y >>= λ ts r. got (record { name = nm x; constraints = ts }) r) ≡ mapReading (λ qs. own (name (nm x)) ∷ own (word m) ∷ qs) (mapReading (runs typePiece) y)
-      go (got ts r) h = ap (λ k. got (own (name (nm x)) ∷ own (word k) ∷ runs typePiece ts) r) (h ts r refl)
+          → mapReading (parameterPieces plain a) (y >>= λ ts r. got (record { name = nm x; constraints = ts }) r) ≡ mapReading (λ qs. own (name (nm x)) ∷ own (word m) ∷ qs) (mapReading (runs (typePiece a)) y)
+      go (got ts r) h = ap (λ k. got (own (name (nm x)) ∷ own (word k) ∷ runs (typePiece a) ts) r) (h ts r refl)
       go (stop r) h = refl
 
   pub parameter-halts : (p : ℕ) {r : Refusal} → NoPair (readBelow bound ws p) (readWord ws) r → readParameter present bound ws nm ty p ≡ stop r
@@ -84,27 +87,27 @@ module _ {N : Type 0} (bound : ℕ) (ws : List ℕ) (nm : ℕ → N) (ty : ℕ �
   counted-halts item f p e = rw e
 
   -- the same behind the word k, as fields
-  kind-read : {A : Type 0} (item : ℕ → Reading A) (f : A → List (Piece N)) (c : List A → Fields N) (k p : ℕ) {n q : ℕ}
-      → ((xs : List A) → fieldsPieces (c xs) ≡ own (word k) ∷ counted f xs) → readWord ws p ≡ got n q
-      → mapReading fieldsPieces (readCounted ws item p >>= λ xs r. got (c xs) r) ≡ ahead (own (word k) ∷ own (word n) ∷ []) (many item f n q)
+  kind-read : {A : Type 0} (a : Role) (item : ℕ → Reading A) (f : A → List (Piece N)) (c : List A → Fields N) (k p : ℕ) {n q : ℕ}
+      → ((xs : List A) → fieldsPieces a (c xs) ≡ own (word k) ∷ counted f xs) → readWord ws p ≡ got n q
+      → mapReading (fieldsPieces a) (readCounted ws item p >>= λ xs r. got (c xs) r) ≡ ahead (own (word k) ∷ own (word n) ∷ []) (many item f n q)
   unfolding readCounted counted ahead mapReading many
-  kind-read {A} item f c k p {n} {q} h e = rw e (go (readList item n q) (λ xs r d. list-length item n q d))
+  kind-read {A} a item f c k p {n} {q} h e = rw e (go (readList item n q) (λ xs r d. list-length item n q d))
     where
       go : (y : Reading (List A)) → ((xs : List A) (r : ℕ) → y ≡ got xs r → length xs ≡ n)
-          → mapReading fieldsPieces (y >>= λ xs r. got (c xs) r) ≡ mapReading (λ qs. own (word k) ∷ own (word n) ∷ qs) (mapReading (runs f) y)
+          → mapReading (fieldsPieces a) (y >>= λ xs r. got (c xs) r) ≡ mapReading (λ qs. own (word k) ∷ own (word n) ∷ qs) (mapReading (runs f) y)
       go (got xs r) l = ap (λ ps. got ps r) (h xs) ∙ ap (λ j. got (own (word k) ∷ own (word j) ∷ runs f xs) r) (l xs r refl)
       go (stop r) l = refl
 
-  fields-read : (p : ℕ) {k n q : ℕ} → Pair (readBelow 2 ws p) (readWord ws) k n q
-      → mapReading fieldsPieces (readFields bound ws nm ty p) ≡ ahead (own (word k) ∷ own (word n) ∷ []) (someFields bound ws nm ty k n q)
+  fields-read : (a : Role) (p : ℕ) {k n q : ℕ} → Pair (readBelow 2 ws p) (readWord ws) k n q
+      → mapReading (fieldsPieces a) (readFields bound ws nm ty p) ≡ ahead (own (word k) ∷ own (word n) ∷ []) (someFields present bound ws nm ty a k n q)
   unfolding readFields someFields fieldsPieces
-  fields-read p {k} {n} {q} t = rw (t .first) (go k (t .second) (below-there 2 ws p (t .first) .below))
+  fields-read a p {k} {n} {q} t = rw (t .first) (go k (t .second) (below-there 2 ws p (t .first) .below))
     where
       go : (k : ℕ) → readWord ws (t .middle) ≡ got n q → k < 2
-          → mapReading fieldsPieces (pick (eqb k 0) (readCounted ws (readField bound ws nm ty) (t .middle) >>= λ xs r. got (NamedFields xs) r) (readCounted ws (readNamelessField bound ws nm ty) (t .middle) >>= λ xs r. got (NamelessFields xs) r))
-          ≡ ahead (own (word k) ∷ own (word n) ∷ []) (pick (eqb k 0) (many (readField bound ws nm ty) fieldPieces n q) (many (readNamelessField bound ws nm ty) namelessPieces n q))
-      go zero e h = kind-read (readField bound ws nm ty) fieldPieces NamedFields 0 (t .middle) (λ xs. refl) e
-      go (suc zero) e h = kind-read (readNamelessField bound ws nm ty) namelessPieces NamelessFields 1 (t .middle) (λ xs. refl) e
+          → mapReading (fieldsPieces a) (pick (eqb k 0) (readCounted ws (readField bound ws nm ty) (t .middle) >>= λ xs r. got (NamedFields xs) r) (readCounted ws (readNamelessField bound ws nm ty) (t .middle) >>= λ xs r. got (NamelessFields xs) r))
+          ≡ ahead (own (word k) ∷ own (word n) ∷ []) (pick (eqb k 0) (many (readField bound ws nm ty) (fieldPieces a) n q) (many (readNamelessField bound ws nm ty) (namelessPieces a) n q))
+      go zero e h = kind-read a (readField bound ws nm ty) (fieldPieces a) NamedFields 0 (t .middle) (λ xs. refl) e
+      go (suc zero) e h = kind-read a (readNamelessField bound ws nm ty) (namelessPieces a) NamelessFields 1 (t .middle) (λ xs. refl) e
       go (suc (suc k)) e h = absurd (let z : ⊥ = omega arith in z)
 
   pub fields-halt : (p : ℕ) {r : Refusal} → NoPair (readBelow 2 ws p) (readWord ws) r → readFields bound ws nm ty p ≡ stop r
@@ -116,15 +119,15 @@ module _ {N : Type 0} (bound : ℕ) (ws : List ℕ) (nm : ℕ → N) (ty : ℕ �
       go true = refl
       go false = refl
 
-  field-read : (p : ℕ) {v x q : ℕ} → Pair (readBelow 2 ws p) (readBelow bound ws) v x q
-      → mapReading fieldPieces (readField bound ws nm ty p) ≡ ahead (own (word v) ∷ own (name (nm x)) ∷ []) (mapReading typePiece (ty q))
+  field-read : (a : Role) (p : ℕ) {v x q : ℕ} → Pair (readBelow 2 ws p) (readBelow bound ws) v x q
+      → mapReading (fieldPieces a) (readField bound ws nm ty p) ≡ ahead (own (word v) ∷ own (name (nm x)) ∷ []) (mapReading (typePiece a) (ty q))
   unfolding readField readVisibility readFormal readName fieldPieces ahead mapReading
-  field-read p {v} {x} {q} t = rw (t .first, t .second) (go (ty q) (visibility-word v (below-there 2 ws p (t .first) .below)))
+  field-read a p {v} {x} {q} t = rw (t .first, t .second) (go (ty q) (visibility-word v (below-there 2 ws p (t .first) .below)))
     where
       go : (y : Reading (Ty N)) → visibilityWord (visibilityOf v) ≡ v
-          → mapReading fieldPieces ((y >>= λ t r. got (record { name = nm x; tpe = t }) r) >>= λ f r. got (record { visibility = visibilityOf v; formal = f }) r)
-          ≡ mapReading (λ qs. own (word v) ∷ own (name (nm x)) ∷ qs) (mapReading typePiece y)
-      go (got u r) e = ap (λ k. got (own (word k) ∷ own (name (nm x)) ∷ type u ∷ []) r) e
+          → mapReading (fieldPieces a) ((y >>= λ t r. got (record { name = nm x; tpe = t }) r) >>= λ f r. got (record { visibility = visibilityOf v; formal = f }) r)
+          ≡ mapReading (λ qs. own (word v) ∷ own (name (nm x)) ∷ qs) (mapReading (typePiece a) y)
+      go (got u r) e = ap (λ k. got (own (word k) ∷ own (name (nm x)) ∷ type a u ∷ []) r) e
       go (stop r) e = refl
 
   pub field-halts : (p : ℕ) {r : Refusal} → NoPair (readBelow 2 ws p) (readBelow bound ws) r → readField bound ws nm ty p ≡ stop r
@@ -132,14 +135,14 @@ module _ {N : Type 0} (bound : ℕ) (ws : List ℕ) (nm : ℕ → N) (ty : ℕ �
   field-halts p (at-first d) = rw d
   field-halts p (at-second d e) = rw (d, e)
 
-  nameless-read : (p : ℕ) {v q : ℕ} → readBelow 2 ws p ≡ got v q
-      → mapReading namelessPieces (readNamelessField bound ws nm ty p) ≡ ahead (own (word v) ∷ []) (mapReading typePiece (ty q))
+  nameless-read : (a : Role) (p : ℕ) {v q : ℕ} → readBelow 2 ws p ≡ got v q
+      → mapReading (namelessPieces a) (readNamelessField bound ws nm ty p) ≡ ahead (own (word v) ∷ []) (mapReading (typePiece a) (ty q))
   unfolding readNamelessField readVisibility namelessPieces ahead mapReading
-  nameless-read p {v} {q} e = rw e (go (ty q) (visibility-word v (below-there 2 ws p e .below)))
+  nameless-read a p {v} {q} e = rw e (go (ty q) (visibility-word v (below-there 2 ws p e .below)))
     where
       go : (y : Reading (Ty N)) → visibilityWord (visibilityOf v) ≡ v
-          → mapReading namelessPieces (y >>= λ t r. got (record { visibility = visibilityOf v; tpe = t }) r) ≡ mapReading (λ qs. own (word v) ∷ qs) (mapReading typePiece y)
-      go (got u r) d = ap (λ k. got (own (word k) ∷ type u ∷ []) r) d
+          → mapReading (namelessPieces a) (y >>= λ t r. got (record { visibility = visibilityOf v; tpe = t }) r) ≡ mapReading (λ qs. own (word v) ∷ qs) (mapReading (typePiece a) y)
+      go (got u r) d = ap (λ k. got (own (word k) ∷ type a u ∷ []) r) d
       go (stop r) d = refl
 
   pub nameless-halts : (p : ℕ) {r : Refusal} → readBelow 2 ws p ≡ stop r → readNamelessField bound ws nm ty p ≡ stop r
@@ -147,12 +150,12 @@ module _ {N : Type 0} (bound : ℕ) (ws : List ℕ) (nm : ℕ → N) (ty : ℕ �
   nameless-halts p e = rw e
 
   case-read : (p : ℕ) {d x q : ℕ} → Pair (readBelow bound ws p) (readBelow bound ws) d x q
-      → mapReading casePieces (readCase bound ws nm ty p) ≡ ahead (own (name (nm d)) ∷ own (name (nm x)) ∷ []) (mapReading fieldsPieces (readFields bound ws nm ty q))
+      → mapReading casePieces (readCase bound ws nm ty p) ≡ ahead (own (name (nm d)) ∷ own (name (nm x)) ∷ []) (mapReading (fieldsPieces CaseField) (readFields bound ws nm ty q))
   unfolding readCase readName casePieces ahead mapReading
   case-read p {d} {x} {q} t = rw (t .first, t .second) (go (readFields bound ws nm ty q))
     where
       go : (y : Reading (Fields N)) → mapReading casePieces (y >>= λ fs r. got (record { docString = nm d; name = nm x; fields = fs }) r)
-          ≡ mapReading (λ qs. own (name (nm d)) ∷ own (name (nm x)) ∷ qs) (mapReading fieldsPieces y)
+          ≡ mapReading (λ qs. own (name (nm d)) ∷ own (name (nm x)) ∷ qs) (mapReading (fieldsPieces CaseField) y)
       go (got fs r) = refl
       go (stop r) = refl
 
@@ -163,151 +166,151 @@ module _ {N : Type 0} (bound : ℕ) (ws : List ℕ) (nm : ℕ → N) (ty : ℕ �
 
   -- ---- what is left, by its parts
 
-  abbrev pub left : ℕ → ℕ → (ℕ → Reading (List (Piece N))) → ℕ → Reading (List (Piece N))
-  left k n body p = many ty typePiece k p & λ q. many (readParameter present bound ws nm ty) parameterPieces n q & body
+  abbrev pub left : Role → ℕ → ℕ → (ℕ → Reading (List (Piece N))) → ℕ → Reading (List (Piece N))
+  left a k n body p = many ty (typePiece a) k p & λ q. many (readParameter present bound ws nm ty) (parameterPieces plain a) n q & body
 
-  left-type : (k n : ℕ) (body : ℕ → Reading (List (Piece N))) (p : ℕ) → 0 < k → left k n body p ≡ (ty p >>= λ t q. ahead (typePiece t) (left (k - 1) n body q))
-  left-type k n body p h = item-more ty typePiece k p _ h ∙ type-and (ty p) (left (k - 1) n body)
+  left-type : (a : Role) (k n : ℕ) (body : ℕ → Reading (List (Piece N))) (p : ℕ) → 0 < k → left a k n body p ≡ (ty p >>= λ t q. ahead (typePiece a t) (left a (k - 1) n body q))
+  left-type a k n body p h = item-more ty (typePiece a) k p _ h ∙ type-and a (ty p) (left a (k - 1) n body)
 
-  pub left-parameters : (k n : ℕ) (body : ℕ → Reading (List (Piece N))) (p : ℕ) → k ≡ 0 → left k n body p ≡ many (readParameter present bound ws nm ty) parameterPieces n p & body
-  left-parameters k n body p e =
-      ap (λ x. x & λ q. many (readParameter present bound ws nm ty) parameterPieces n q & body) (many-none ty typePiece k p e) ∙ and-none p _
+  pub left-parameters : (a : Role) (k n : ℕ) (body : ℕ → Reading (List (Piece N))) (p : ℕ) → k ≡ 0 → left a k n body p ≡ many (readParameter present bound ws nm ty) (parameterPieces plain a) n p & body
+  left-parameters a k n body p e =
+      ap (λ x. x & λ q. many (readParameter present bound ws nm ty) (parameterPieces plain a) n q & body) (many-none ty (typePiece a) k p e) ∙ and-none p _
 
-  pub left-body : (k n : ℕ) (body : ℕ → Reading (List (Piece N))) (p : ℕ) → k ≡ 0 → n ≡ 0 → left k n body p ≡ body p
-  left-body k n body p e d =
-      left-parameters k n body p e ∙ ap (λ x. x & body) (many-none (readParameter present bound ws nm ty) parameterPieces n p d) ∙ and-none p body
+  pub left-body : (a : Role) (k n : ℕ) (body : ℕ → Reading (List (Piece N))) (p : ℕ) → k ≡ 0 → n ≡ 0 → left a k n body p ≡ body p
+  left-body a k n body p e d =
+      left-parameters a k n body p e ∙ ap (λ x. x & body) (many-none (readParameter present bound ws nm ty) (parameterPieces plain a) n p d) ∙ and-none p body
 
   -- no types and no parameters are due
-  pub rest-body : (w : Walk) → w .types ≡ 0 → w .parameters ≡ 0 → leftOf bound ws nm ty w ≡ bodyOf bound ws nm ty w (w .after) (w .place)
+  pub rest-body : (w : Walk) → w .types ≡ 0 → w .parameters ≡ 0 → leftOf present bound ws nm ty w ≡ bodyOf present bound ws nm ty w (w .after) (w .place)
   unfolding leftOf
-  rest-body w e d = left-body (w .types) (w .parameters) (bodyOf bound ws nm ty w (w .after)) (w .place) e d
+  rest-body w e d = left-body (w .role) (w .types) (w .parameters) (bodyOf present bound ws nm ty w (w .after)) (w .place) e d
 
-  pub rest-after : (w : Walk) {a : After} → w .types ≡ 0 → w .parameters ≡ 0 → w .after ≡ a → leftOf bound ws nm ty w ≡ bodyOf bound ws nm ty w a (w .place)
-  rest-after w e d k = rest-body w e d ∙ ap (λ a. bodyOf bound ws nm ty w a (w .place)) k
+  pub rest-after : (w : Walk) {a : After} → w .types ≡ 0 → w .parameters ≡ 0 → w .after ≡ a → leftOf present bound ws nm ty w ≡ bodyOf present bound ws nm ty w a (w .place)
+  rest-after w e d k = rest-body w e d ∙ ap (λ a. bodyOf present bound ws nm ty w a (w .place)) k
 
-  no-fields-due : (k n p : ℕ) → n ≡ 0 → someFields bound ws nm ty k n p ≡ got [] p
+  no-fields-due : (a : Role) (k n p : ℕ) → n ≡ 0 → someFields present bound ws nm ty a k n p ≡ got [] p
   unfolding someFields
-  no-fields-due k n p e = go (eqb k 0) (many-none (readField bound ws nm ty) fieldPieces n p e) (many-none (readNamelessField bound ws nm ty) namelessPieces n p e)
+  no-fields-due a k n p e = go (eqb k 0) (many-none (readField bound ws nm ty) (fieldPieces a) n p e) (many-none (readNamelessField bound ws nm ty) (namelessPieces a) n p e)
     where
       go : (b : Bool) {x y : Reading (List (Piece N))} → x ≡ got [] p → y ≡ got [] p → pick b x y ≡ got [] p
-      go true a c = a
-      go false a c = c
+      go true h c = h
+      go false h c = c
 
   -- the fields that are due, and then the cases
-  abbrev pub members : ℕ → ℕ → ℕ → ℕ → Reading (List (Piece N))
-  members kind n c p = someFields bound ws nm ty kind n p & many (readCase bound ws nm ty) casePieces c
+  abbrev pub members : Role → ℕ → ℕ → ℕ → ℕ → Reading (List (Piece N))
+  members a kind n c p = someFields present bound ws nm ty a kind n p & many (readCase bound ws nm ty) casePieces c
 
-  pub members-cases : (kind n c p : ℕ) → n ≡ 0 → members kind n c p ≡ many (readCase bound ws nm ty) casePieces c p
-  members-cases kind n c p e = ap (λ x. x & many (readCase bound ws nm ty) casePieces c) (no-fields-due kind n p e) ∙ and-none p _
+  pub members-cases : (a : Role) (kind n c p : ℕ) → n ≡ 0 → members a kind n c p ≡ many (readCase bound ws nm ty) casePieces c p
+  members-cases a kind n c p e = ap (λ x. x & many (readCase bound ws nm ty) casePieces c) (no-fields-due a kind n p e) ∙ and-none p _
 
-  members-named : (kind n c p : ℕ) → kind ≡ 0 → members kind n c p ≡ many (readField bound ws nm ty) fieldPieces n p & many (readCase bound ws nm ty) casePieces c
+  members-named : (a : Role) (kind n c p : ℕ) → kind ≡ 0 → members a kind n c p ≡ many (readField bound ws nm ty) (fieldPieces a) n p & many (readCase bound ws nm ty) casePieces c
   unfolding someFields
-  members-named kind n c p e = rw (eq-eqb kind 0 e)
+  members-named a kind n c p e = rw (eq-eqb kind 0 e)
 
-  members-nameless : (kind n c p : ℕ) → (kind ≡ 0 → ⊥) → members kind n c p ≡ many (readNamelessField bound ws nm ty) namelessPieces n p & many (readCase bound ws nm ty) casePieces c
+  members-nameless : (a : Role) (kind n c p : ℕ) → (kind ≡ 0 → ⊥) → members a kind n c p ≡ many (readNamelessField bound ws nm ty) (namelessPieces a) n p & many (readCase bound ws nm ty) casePieces c
   unfolding someFields
-  members-nameless kind n c p e = rw (ne-eqb kind 0 e)
+  members-nameless a kind n c p e = rw (ne-eqb kind 0 e)
 
   -- in a field: its type, and the members behind it
-  in-field : (w : Walk) (q : ℕ) → leftOf bound ws nm ty (inField w q) ≡ mapReading typePiece (ty q) & members (w .kind) (w .fields - 1) (w .cases)
+  in-field : (w : Walk) (q : ℕ) → leftOf present bound ws nm ty (inField w q) ≡ mapReading (typePiece (w .role)) (ty q) & members (w .role) (w .kind) (w .fields - 1) (w .cases)
   unfolding leftOf bodyOf
   in-field w q =
-      and-same (many ty typePiece 1 q) _ (members (w .kind) (w .fields - 1) (w .cases))
-      (λ r. ap (λ x. x & members (w .kind) (w .fields - 1) (w .cases)) (many-none (readParameter present bound ws nm ty) parameterPieces 0 r refl) ∙ and-none r _)
-      ∙ ap (λ x. x & members (w .kind) (w .fields - 1) (w .cases)) (many-one ty q)
+      and-same (many ty (typePiece (w .role)) 1 q) _ (members (w .role) (w .kind) (w .fields - 1) (w .cases))
+      (λ r. ap (λ x. x & members (w .role) (w .kind) (w .fields - 1) (w .cases)) (many-none (readParameter present bound ws nm ty) (parameterPieces plain (w .role)) 0 r refl) ∙ and-none r _)
+      ∙ ap (λ x. x & members (w .role) (w .kind) (w .fields - 1) (w .cases)) (many-one (w .role) ty q)
 
   -- ---- the steps
 
   parameter-step : (w : Walk) {x m q : ℕ} → w .types ≡ 0 → 0 < w .parameters → readEntry bound ws (w .place) ≡ got (x, m) q
-      → leftOf bound ws nm ty w ≡ ahead (own (name (nm x)) ∷ own (word m) ∷ []) (leftOf bound ws nm ty (inParameter w m q))
+      → leftOf present bound ws nm ty w ≡ ahead (own (name (nm x)) ∷ own (word m) ∷ []) (leftOf present bound ws nm ty (inParameter w m q))
   unfolding leftOf bodyOf
   parameter-step w {x} {m} {q} e h d =
-      left-parameters (w .types) (w .parameters) _ (w .place) e
-      ∙ item-more (readParameter present bound ws nm ty) parameterPieces (w .parameters) (w .place) _ h
-      ∙ ap (λ y. y & λ r. many (readParameter present bound ws nm ty) parameterPieces (w .parameters - 1) r & bodyOf bound ws nm ty w (w .after)) (parameter-read (w .place) (entry bound ws (w .place) d))
-      ∙ ahead-and _ (many ty typePiece m q) _
+      left-parameters (w .role) (w .types) (w .parameters) _ (w .place) e
+      ∙ item-more (readParameter present bound ws nm ty) (parameterPieces plain (w .role)) (w .parameters) (w .place) _ h
+      ∙ ap (λ y. y & λ r. many (readParameter present bound ws nm ty) (parameterPieces plain (w .role)) (w .parameters - 1) r & bodyOf present bound ws nm ty w (w .after)) (parameter-read (w .role) (w .place) (entry bound ws (w .place) d))
+      ∙ ahead-and _ (many ty (typePiece (w .role)) m q) _
       ∙ ap (ahead (own (name (nm x)) ∷ own (word m) ∷ [])) (same-body (w .after))
     where
-      same-body : (a : After) → left m (w .parameters - 1) (bodyOf bound ws nm ty w a) q ≡ left m (w .parameters - 1) (bodyOf bound ws nm ty (inParameter w m q) a) q
-      same-body FieldList = refl
+      same-body : (a : After) → left (w .role) m (w .parameters - 1) (bodyOf present bound ws nm ty w a) q ≡ left (w .role) m (w .parameters - 1) (bodyOf present bound ws nm ty (inParameter w m q) a) q
+      same-body (FieldList r) = refl
       same-body CaseList = refl
       same-body OneType = refl
       same-body NoMore = refl
 
-  pub type-step : (w : Walk) → 0 < w .types → leftOf bound ws nm ty w ≡ (ty (w .place) >>= λ t q. ahead (typePiece t) (leftOf bound ws nm ty (moved (pastType w) q)))
+  pub type-step : (w : Walk) → 0 < w .types → leftOf present bound ws nm ty w ≡ (ty (w .place) >>= λ t q. ahead (typePiece (w .role) t) (leftOf present bound ws nm ty (moved (pastType w) q)))
   unfolding leftOf bodyOf
-  type-step w h = left-type (w .types) (w .parameters) _ (w .place) h ∙ go (ty (w .place))
+  type-step w h = left-type (w .role) (w .types) (w .parameters) _ (w .place) h ∙ go (ty (w .place))
     where
-      same-body : (a : After) (q : ℕ) → left (w .types - 1) (w .parameters) (bodyOf bound ws nm ty w a) q ≡ left (w .types - 1) (w .parameters) (bodyOf bound ws nm ty (moved (pastType w) q) a) q
-      same-body FieldList q = refl
+      same-body : (a : After) (q : ℕ) → left (w .role) (w .types - 1) (w .parameters) (bodyOf present bound ws nm ty w a) q ≡ left (w .role) (w .types - 1) (w .parameters) (bodyOf present bound ws nm ty (moved (pastType w) q) a) q
+      same-body (FieldList r) q = refl
       same-body CaseList q = refl
       same-body OneType q = refl
       same-body NoMore q = refl
 
-      go : (y : Reading (Ty N)) → (y >>= λ t q. ahead (typePiece t) (left (w .types - 1) (w .parameters) (bodyOf bound ws nm ty w (w .after)) q))
-          ≡ (y >>= λ t q. ahead (typePiece t) (left (w .types - 1) (w .parameters) (bodyOf bound ws nm ty (moved (pastType w) q) (w .after)) q))
-      go (got t q) = ap (ahead (typePiece t)) (same-body (w .after) q)
+      go : (y : Reading (Ty N)) → (y >>= λ t q. ahead (typePiece (w .role) t) (left (w .role) (w .types - 1) (w .parameters) (bodyOf present bound ws nm ty w (w .after)) q))
+          ≡ (y >>= λ t q. ahead (typePiece (w .role) t) (left (w .role) (w .types - 1) (w .parameters) (bodyOf present bound ws nm ty (moved (pastType w) q) (w .after)) q))
+      go (got t q) = ap (ahead (typePiece (w .role) t)) (same-body (w .after) q)
       go (stop r) = refl
 
   alias-step : (w : Walk) → w .types ≡ 0 → w .parameters ≡ 0 → w .after ≡ OneType
-      → leftOf bound ws nm ty w ≡ (ty (w .place) >>= λ t q. ahead (typePiece t) (leftOf bound ws nm ty (moved (pastAlias w) q)))
+      → leftOf present bound ws nm ty w ≡ (ty (w .place) >>= λ t q. ahead (typePiece Aliased t) (leftOf present bound ws nm ty (moved (pastAlias w) q)))
   unfolding bodyOf ahead mapReading
   alias-step w e d k = rest-after w e d k ∙ go (ty (w .place))
     where
-      none : (q : ℕ) → leftOf bound ws nm ty (moved (pastAlias w) q) ≡ got [] q
-      none q = rest-body (moved (pastAlias w) q) refl refl ∙ members-cases 0 0 0 q refl ∙ many-none (readCase bound ws nm ty) casePieces 0 q refl
+      none : (q : ℕ) → leftOf present bound ws nm ty (moved (pastAlias w) q) ≡ got [] q
+      none q = rest-body (moved (pastAlias w) q) refl refl ∙ members-cases Aliased 0 0 0 q refl ∙ many-none (readCase bound ws nm ty) casePieces 0 q refl
 
-      go : (y : Reading (Ty N)) → mapReading typePiece y ≡ (y >>= λ t q. ahead (typePiece t) (leftOf bound ws nm ty (moved (pastAlias w) q)))
-      go (got t q) = sym (ap (ahead (typePiece t)) (none q))
+      go : (y : Reading (Ty N)) → mapReading (typePiece Aliased) y ≡ (y >>= λ t q. ahead (typePiece Aliased t) (leftOf present bound ws nm ty (moved (pastAlias w) q)))
+      go (got t q) = sym (ap (ahead (typePiece Aliased t)) (none q))
       go (stop r) = refl
 
-  fields-step : (w : Walk) {k n q : ℕ} → w .types ≡ 0 → w .parameters ≡ 0 → w .after ≡ FieldList → readEntry 2 ws (w .place) ≡ got (k, n) q
-      → leftOf bound ws nm ty w ≡ ahead (own (word k) ∷ own (word n) ∷ []) (leftOf bound ws nm ty (inFields w k n q))
+  fields-step : (w : Walk) {b : Role} {k n q : ℕ} → w .types ≡ 0 → w .parameters ≡ 0 → w .after ≡ FieldList b → readEntry 2 ws (w .place) ≡ got (k, n) q
+      → leftOf present bound ws nm ty w ≡ ahead (own (word k) ∷ own (word n) ∷ []) (leftOf present bound ws nm ty (inFields w b k n q))
   unfolding bodyOf
-  fields-step w {k} {n} {q} e d a r =
+  fields-step w {b} {k} {n} {q} e d a r =
       rest-after w e d a
-      ∙ ap (λ x. x & many (readCase bound ws nm ty) casePieces (w .cases)) (fields-read (w .place) (entry 2 ws (w .place) r))
-      ∙ ahead-and _ (someFields bound ws nm ty k n q) _
-      ∙ sym (ap (ahead (own (word k) ∷ own (word n) ∷ [])) (rest-body (inFields w k n q) refl refl))
+      ∙ ap (λ x. x & many (readCase bound ws nm ty) casePieces (w .cases)) (fields-read b (w .place) (entry 2 ws (w .place) r))
+      ∙ ahead-and _ (someFields present bound ws nm ty b k n q) _
+      ∙ sym (ap (ahead (own (word k) ∷ own (word n) ∷ [])) (rest-body (inFields w b k n q) refl refl))
 
   cases-step : (w : Walk) {n q : ℕ} → w .types ≡ 0 → w .parameters ≡ 0 → w .after ≡ CaseList → readWord ws (w .place) ≡ got n q
-      → leftOf bound ws nm ty w ≡ ahead (own (word n) ∷ []) (leftOf bound ws nm ty (inCases n q))
+      → leftOf present bound ws nm ty w ≡ ahead (own (word n) ∷ []) (leftOf present bound ws nm ty (inCases n q))
   unfolding bodyOf
   cases-step w {n} {q} e d a r =
       rest-after w e d a ∙ counted-read (readCase bound ws nm ty) casePieces (w .place) r
-      ∙ sym (ap (ahead (own (word n) ∷ [])) (rest-body (inCases n q) refl refl ∙ members-cases 0 0 n q refl))
+      ∙ sym (ap (ahead (own (word n) ∷ [])) (rest-body (inCases n q) refl refl ∙ members-cases CaseField 0 0 n q refl))
 
   field-step : (w : Walk) {v x q : ℕ} → w .types ≡ 0 → w .parameters ≡ 0 → w .after ≡ NoMore → 0 < w .fields → w .kind ≡ 0 → readTwo 2 bound ws (w .place) ≡ got (v, x) q
-      → leftOf bound ws nm ty w ≡ ahead (own (word v) ∷ own (name (nm x)) ∷ []) (leftOf bound ws nm ty (inField w q))
+      → leftOf present bound ws nm ty w ≡ ahead (own (word v) ∷ own (name (nm x)) ∷ []) (leftOf present bound ws nm ty (inField w q))
   unfolding bodyOf
   field-step w {v} {x} {q} e d a h k r =
-      let g : ℕ → Reading (List (Piece N)) = λ s. many (readField bound ws nm ty) fieldPieces (w .fields - 1) s & many (readCase bound ws nm ty) casePieces (w .cases) in
-      rest-after w e d a ∙ members-named (w .kind) (w .fields) (w .cases) (w .place) k
-      ∙ item-more (readField bound ws nm ty) fieldPieces (w .fields) (w .place) _ h
-      ∙ ap (λ y. y & g) (field-read (w .place) (two 2 ws (w .place) bound r))
-      ∙ ahead-and _ (mapReading typePiece (ty q)) g
+      let g : ℕ → Reading (List (Piece N)) = λ s. many (readField bound ws nm ty) (fieldPieces (w .role)) (w .fields - 1) s & many (readCase bound ws nm ty) casePieces (w .cases) in
+      rest-after w e d a ∙ members-named (w .role) (w .kind) (w .fields) (w .cases) (w .place) k
+      ∙ item-more (readField bound ws nm ty) (fieldPieces (w .role)) (w .fields) (w .place) _ h
+      ∙ ap (λ y. y & g) (field-read (w .role) (w .place) (two 2 ws (w .place) bound r))
+      ∙ ahead-and _ (mapReading (typePiece (w .role)) (ty q)) g
       ∙ ap (ahead (own (word v) ∷ own (name (nm x)) ∷ []))
-      (and-same (mapReading typePiece (ty q)) g (members (w .kind) (w .fields - 1) (w .cases)) (λ s. sym (members-named (w .kind) (w .fields - 1) (w .cases) s k)) ∙ sym (in-field w q))
+      (and-same (mapReading (typePiece (w .role)) (ty q)) g (members (w .role) (w .kind) (w .fields - 1) (w .cases)) (λ s. sym (members-named (w .role) (w .kind) (w .fields - 1) (w .cases) s k)) ∙ sym (in-field w q))
 
   nameless-step : (w : Walk) {v q : ℕ} → w .types ≡ 0 → w .parameters ≡ 0 → w .after ≡ NoMore → 0 < w .fields → (w .kind ≡ 0 → ⊥) → readBelow 2 ws (w .place) ≡ got v q
-      → leftOf bound ws nm ty w ≡ ahead (own (word v) ∷ []) (leftOf bound ws nm ty (inField w q))
+      → leftOf present bound ws nm ty w ≡ ahead (own (word v) ∷ []) (leftOf present bound ws nm ty (inField w q))
   unfolding bodyOf
   nameless-step w {v} {q} e d a h k r =
-      let g : ℕ → Reading (List (Piece N)) = λ s. many (readNamelessField bound ws nm ty) namelessPieces (w .fields - 1) s & many (readCase bound ws nm ty) casePieces (w .cases) in
-      rest-after w e d a ∙ members-nameless (w .kind) (w .fields) (w .cases) (w .place) k
-      ∙ item-more (readNamelessField bound ws nm ty) namelessPieces (w .fields) (w .place) _ h
-      ∙ ap (λ y. y & g) (nameless-read (w .place) r)
-      ∙ ahead-and _ (mapReading typePiece (ty q)) g
+      let g : ℕ → Reading (List (Piece N)) = λ s. many (readNamelessField bound ws nm ty) (namelessPieces (w .role)) (w .fields - 1) s & many (readCase bound ws nm ty) casePieces (w .cases) in
+      rest-after w e d a ∙ members-nameless (w .role) (w .kind) (w .fields) (w .cases) (w .place) k
+      ∙ item-more (readNamelessField bound ws nm ty) (namelessPieces (w .role)) (w .fields) (w .place) _ h
+      ∙ ap (λ y. y & g) (nameless-read (w .role) (w .place) r)
+      ∙ ahead-and _ (mapReading (typePiece (w .role)) (ty q)) g
       ∙ ap (ahead (own (word v) ∷ []))
-      (and-same (mapReading typePiece (ty q)) g (members (w .kind) (w .fields - 1) (w .cases)) (λ s. sym (members-nameless (w .kind) (w .fields - 1) (w .cases) s k)) ∙ sym (in-field w q))
+      (and-same (mapReading (typePiece (w .role)) (ty q)) g (members (w .role) (w .kind) (w .fields - 1) (w .cases)) (λ s. sym (members-nameless (w .role) (w .kind) (w .fields - 1) (w .cases) s k)) ∙ sym (in-field w q))
 
   -- the cases that are due, where no field is
-  case-due : (w : Walk) → w .types ≡ 0 → w .parameters ≡ 0 → w .after ≡ NoMore → w .fields ≡ 0 → leftOf bound ws nm ty w ≡ many (readCase bound ws nm ty) casePieces (w .cases) (w .place)
+  case-due : (w : Walk) → w .types ≡ 0 → w .parameters ≡ 0 → w .after ≡ NoMore → w .fields ≡ 0 → leftOf present bound ws nm ty w ≡ many (readCase bound ws nm ty) casePieces (w .cases) (w .place)
   unfolding bodyOf
-  case-due w e d a f = rest-after w e d a ∙ members-cases (w .kind) (w .fields) (w .cases) (w .place) f
+  case-due w e d a f = rest-after w e d a ∙ members-cases (w .role) (w .kind) (w .fields) (w .cases) (w .place) f
 
   case-step : (w : Walk) {d x q : ℕ} → w .types ≡ 0 → w .parameters ≡ 0 → w .after ≡ NoMore → w .fields ≡ 0 → 0 < w .cases → readTwo bound bound ws (w .place) ≡ got (d, x) q
-      → leftOf bound ws nm ty w ≡ ahead (own (name (nm d)) ∷ own (name (nm x)) ∷ []) (leftOf bound ws nm ty (inCase w q))
+      → leftOf present bound ws nm ty w ≡ ahead (own (name (nm d)) ∷ own (name (nm x)) ∷ []) (leftOf present bound ws nm ty (inCase w q))
   unfolding bodyOf
   case-step w {d} {x} {q} e k a f h r =
       let g : ℕ → Reading (List (Piece N)) = λ s. got [] s in
@@ -316,41 +319,41 @@ module _ {N : Type 0} (bound : ℕ) (ws : List ℕ) (nm : ℕ → N) (ty : ℕ �
       ∙ item-more (readCase bound ws nm ty) casePieces (w .cases) (w .place) g h
       ∙ and-same (mapReading casePieces (readCase bound ws nm ty (w .place))) (λ s. more s & g) more (λ s. and-last (more s))
       ∙ ap (λ y. y & more) (case-read (w .place) (two bound ws (w .place) bound r))
-      ∙ ahead-and _ (mapReading fieldsPieces (readFields bound ws nm ty q)) more
+      ∙ ahead-and _ (mapReading (fieldsPieces CaseField) (readFields bound ws nm ty q)) more
       ∙ sym (ap (ahead (own (name (nm d)) ∷ own (name (nm x)) ∷ [])) (rest-body (inCase w q) refl refl))
 
   -- ---- refusals, and the end
 
-  pub halt-step : (w : Walk) {r : Refusal} → Stepped bound ws w (Halted r) → leftOf bound ws nm ty w ≡ stop r
+  pub halt-step : (w : Walk) {r : Refusal} → Stepped bound ws w (Halted r) → leftOf present bound ws nm ty w ≡ stop r
   unfolding leftOf bodyOf mapReading
   halt-step w (no-parameter e h d) =
-      left-parameters (w .types) (w .parameters) _ (w .place) e
-      ∙ many-stop (readParameter present bound ws nm ty) parameterPieces (w .parameters) (w .place) _ h (parameter-halts (w .place) (no-entry bound ws (w .place) d))
-  halt-step w {r} (no-fields e d a k) =
+      left-parameters (w .role) (w .types) (w .parameters) _ (w .place) e
+      ∙ many-stop (readParameter present bound ws nm ty) (parameterPieces plain (w .role)) (w .parameters) (w .place) _ h (parameter-halts (w .place) (no-entry bound ws (w .place) d))
+  halt-step w {r} (no-fields {a = b} e d a k) =
       rest-after w e d a
-      ∙ ap (λ x. mapReading fieldsPieces x & many (readCase bound ws nm ty) casePieces (w .cases)) (fields-halt (w .place) (no-entry 2 ws (w .place) k))
+      ∙ ap (λ x. mapReading (fieldsPieces b) x & many (readCase bound ws nm ty) casePieces (w .cases)) (fields-halt (w .place) (no-entry 2 ws (w .place) k))
       ∙ and-stop r _
   halt-step w (no-cases e d a k) = rest-after w e d a ∙ counted-halts (readCase bound ws nm ty) casePieces (w .place) k
   halt-step w (no-field e d a h k r) =
-      rest-after w e d a ∙ members-named (w .kind) (w .fields) (w .cases) (w .place) k
-      ∙ many-stop (readField bound ws nm ty) fieldPieces (w .fields) (w .place) _ h (field-halts (w .place) (no-two 2 ws (w .place) bound r))
+      rest-after w e d a ∙ members-named (w .role) (w .kind) (w .fields) (w .cases) (w .place) k
+      ∙ many-stop (readField bound ws nm ty) (fieldPieces (w .role)) (w .fields) (w .place) _ h (field-halts (w .place) (no-two 2 ws (w .place) bound r))
   halt-step w (no-nameless e d a h k r) =
-      rest-after w e d a ∙ members-nameless (w .kind) (w .fields) (w .cases) (w .place) k
-      ∙ many-stop (readNamelessField bound ws nm ty) namelessPieces (w .fields) (w .place) _ h (nameless-halts (w .place) r)
+      rest-after w e d a ∙ members-nameless (w .role) (w .kind) (w .fields) (w .cases) (w .place) k
+      ∙ many-stop (readNamelessField bound ws nm ty) (namelessPieces (w .role)) (w .fields) (w .place) _ h (nameless-halts (w .place) r)
   halt-step w (no-case e d a f h r) =
       case-due w e d a f ∙ sym (and-last (many (readCase bound ws nm ty) casePieces (w .cases) (w .place)))
       ∙ many-stop (readCase bound ws nm ty) casePieces (w .cases) (w .place) _ h (case-halts (w .place) (no-two bound ws (w .place) bound r))
 
-  pub end-step : (w : Walk) → Stepped bound ws w Ended → leftOf bound ws nm ty w ≡ got [] (w .place)
+  pub end-step : (w : Walk) → Stepped bound ws w Ended → leftOf present bound ws nm ty w ≡ got [] (w .place)
   end-step w (end e d a f c) = case-due w e d a f ∙ many-none (readCase bound ws nm ty) casePieces (w .cases) (w .place) c
 
   -- ---- types
 
-  pub record TypeStep (w w′ : Walk) : Type 0 where
-    pub reads : leftOf bound ws nm ty w ≡ (ty (w .place) >>= λ t q. ahead (typePiece t) (leftOf bound ws nm ty (moved w′ q)))
+  pub record TypeStep (w : Walk) (a : Role) (w′ : Walk) : Type 0 where
+    pub reads : leftOf present bound ws nm ty w ≡ (ty (w .place) >>= λ t q. ahead (typePiece a t) (leftOf present bound ws nm ty (moved w′ q)))
     pub here : w′ .place ≡ w .place
 
-  pub due-step : (w : Walk) {w′ : Walk} → Stepped bound ws w (TypeDue w′) → TypeStep w w′
+  pub due-step : (w : Walk) {a : Role} {w′ : Walk} → Stepped bound ws w (TypeDue a w′) → TypeStep w a w′
   due-step w (type-due h) = record { reads = type-step w h; here = refl }
   due-step w (alias e d a) = record { reads = alias-step w e d a; here = refl }
 
@@ -359,7 +362,7 @@ module _ {N : Type 0} (bound : ℕ) (ws : List ℕ) (nm : ℕ → N) (ty : ℕ �
   -- the own words between two places, and the pieces that they are
   pub record OwnStep (w w′ : Walk) : Type 0 where
     pub tokens : List (Token ℕ)
-    pub reads : leftOf bound ws nm ty w ≡ ahead (owned (map (renamedToken nm) tokens)) (leftOf bound ws nm ty w′)
+    pub reads : leftOf present bound ws nm ty w ≡ ahead (owned (map (renamedToken nm) tokens)) (leftOf present bound ws nm ty w′)
     pub run : Run ws (w .place) (map tokenWord tokens)
     pub end : w′ .place ≡ w .place + length tokens
     pub further : w .place < w′ .place
@@ -402,7 +405,7 @@ module _ {N : Type 0} (bound : ℕ) (ws : List ℕ) (nm : ℕ → N) (ty : ℕ �
       let z : r₂ .end ≡ q = cc (r₂ .rest) in
       omega (arith, n₁, n₂, z)
 
-  pub field-opens : (w : Walk) {ps : List (Piece N)} {n : ℕ} → leftOf bound ws nm ty w ≡ got ps n → FieldNext w → Stepped bound ws w (OwnWords (inField w (fieldType w)))
+  pub field-opens : (w : Walk) {ps : List (Piece N)} {n : ℕ} → leftOf present bound ws nm ty w ≡ got ps n → FieldNext w → Stepped bound ws w (OwnWords (inField w (fieldType w)))
   field-opens w {ps} {n} l (t, m, a, f) = kinds (eqb (w .kind) 0) refl
     where
       never : {r : Refusal} → Stepped bound ws w (Halted r) → ⊥

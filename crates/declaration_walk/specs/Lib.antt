@@ -1,4 +1,3 @@
 pub mod Pieces
 pub mod Walks
-pub mod Renamed
-pub mod WithTypes
+pub mod Mapped

@@ -1,15 +1,18 @@
--- A declaration as a run of own words and types, in the order that document 01 gives. Names are of type N, as in trees.
+-- A declaration as a run of own words and types, in the order of the words. Names are of type N, as in trees. A type carries its role, what it is in the declaration, so that
+-- whether it is visited is a question about its role, wherever it stands.
 use Prim.Native.Nat.{ℕ}
 use mathlib.Core.List.{List, [], _∷_, _++_, map}
 use lib.ListN.{length}
 use Rattle.rast.specs.Tree.{Ty}
 use Rattle.rast.specs.Declaration.{Visibility, PUB, PRIV, Attribute, TypeParamDecl, Field, NamelessField, Fields, NamedFields, NamelessFields, EnumCase, Use, Declaration, StructDecl, EnumDecl, TypeDecl, UseDecl}
-use Rattle.encoding.specs.Forms.{present}
+use Rattle.encoding.specs.Forms.{Form, Entries, plain}
 use Rattle.tree_words.specs.Encode.{Token, word, name, tokenWord, pathTokens, tokens}
+use Rattle.declaration_walk.specs.declared.Role.{Role}
+use Rattle.declaration_walk.specs.declared.Role.the-variants.{Constraint, StructField, CaseField, Aliased}
 
 pub data Piece (N : Type 0) : Type 0 where
   own : Token N → Piece N
-  type : Ty N → Piece N
+  type : Role → Ty N → Piece N
 
 -- 0 PUB, 1 PRIV
 unfoldable pub visibilityWord : Visibility → ℕ
@@ -34,9 +37,9 @@ module _ {N : Type 0} where
   unfoldable pub titleTokens : ℕ → N → List (Attribute N) → N → ℕ → List (Token N)
   titleTokens k doc attributes x n = word k ∷ name doc ∷ (attributesTokens attributes ++ (name x ∷ word n ∷ []))
 
-  -- a use: visibility, path
-  unfoldable pub useTokens : Use N → List (Token N)
-  useTokens u = word (present .useHead) ∷ word (visibilityWord (u .visibility)) ∷ pathTokens (u .path)
+  -- a use, its head k: visibility, path
+  unfoldable pub useTokens : ℕ → Use N → List (Token N)
+  useTokens k u = word k ∷ word (visibilityWord (u .visibility)) ∷ pathTokens (u .path)
 
   abbrev pub owned : List (Token N) → List (Piece N)
   owned = map own
@@ -45,57 +48,59 @@ module _ {N : Type 0} where
   unfoldable pub counted : {A : Type 0} → (A → List (Piece N)) → List A → List (Piece N)
   counted f xs = own (word (length xs)) ∷ runs f xs
 
-  abbrev pub typePiece : Ty N → List (Piece N)
-  typePiece t = type t ∷ []
+  abbrev pub typePiece : Role → Ty N → List (Piece N)
+  typePiece r t = type r t ∷ []
 
-  -- a parameter: a name, m, m types
-  unfoldable pub parameterPieces : TypeParamDecl N → List (Piece N)
-  parameterPieces p = own (name (p .name)) ∷ counted typePiece (p .constraints)
+  -- a parameter whose constraints have a role, as a form has its entries: a name, m, m types
+  unfoldable pub parameterPieces : Entries → Role → TypeParamDecl N → List (Piece N)
+  parameterPieces plain r p = own (name (p .name)) ∷ counted (typePiece r) (p .constraints)
 
   -- a named field: visibility, name, type; a nameless one
-  unfoldable pub fieldPieces : Field N → List (Piece N)
-  fieldPieces f = own (word (visibilityWord (f .visibility))) ∷ own (name (f .formal .name)) ∷ typePiece (f .formal .tpe)
+  unfoldable pub fieldPieces : Role → Field N → List (Piece N)
+  fieldPieces r f = own (word (visibilityWord (f .visibility))) ∷ own (name (f .formal .name)) ∷ typePiece r (f .formal .tpe)
 
-  unfoldable pub namelessPieces : NamelessField N → List (Piece N)
-  namelessPieces f = own (word (visibilityWord (f .visibility))) ∷ typePiece (f .tpe)
+  unfoldable pub namelessPieces : Role → NamelessField N → List (Piece N)
+  namelessPieces r f = own (word (visibilityWord (f .visibility))) ∷ typePiece r (f .tpe)
 
   -- fields: 0 named or 1 nameless; n; n fields
-  unfoldable pub fieldsPieces : Fields N → List (Piece N)
-  fieldsPieces (NamedFields xs) = own (word 0) ∷ counted fieldPieces xs
-  fieldsPieces (NamelessFields xs) = own (word 1) ∷ counted namelessPieces xs
+  unfoldable pub fieldsPieces : Role → Fields N → List (Piece N)
+  fieldsPieces r (NamedFields xs) = own (word 0) ∷ counted (fieldPieces r) xs
+  fieldsPieces r (NamelessFields xs) = own (word 1) ∷ counted (namelessPieces r) xs
 
   -- a case of an enum: doc, name, fields
   unfoldable pub casePieces : EnumCase N → List (Piece N)
-  casePieces c = own (name (c .docString)) ∷ own (name (c .name)) ∷ fieldsPieces (c .fields)
+  casePieces c = own (name (c .docString)) ∷ own (name (c .name)) ∷ fieldsPieces CaseField (c .fields)
 
+  -- what follows the parameters: fields; n cases; a type
+  unfoldable pub rest : Declaration N → List (Piece N)
+  rest (StructDecl s) = fieldsPieces StructField (s .fields)
+  rest (EnumDecl e) = counted casePieces (e .variants)
+  rest (TypeDecl t) = typePiece Aliased (t .tpe)
+  rest (UseDecl u) = []
+
+  -- the words of a piece
+  unfoldable pub pieceTokens : Piece N → List (Token N)
+  pieceTokens (own k) = k ∷ []
+  pieceTokens (type r t) = tokens t
+
+-- in a form
+module _ {N : Type 0} (form : Form) where
   unfoldable pub heading : ℕ → N → List (Attribute N) → N → List (TypeParamDecl N) → List (Piece N)
-  heading k doc attributes x ps = owned (titleTokens k doc attributes x (length ps)) ++ runs parameterPieces ps
+  heading k doc attributes x ps = owned (titleTokens k doc attributes x (length ps)) ++ runs (parameterPieces (form .entries) Constraint) ps
 
   -- up to the parameters
   unfoldable pub front : Declaration N → List (Piece N)
-  front (StructDecl s) = heading (present .structHead) (s .docString) (s .attributes) (s .name) (s .typeParams)
-  front (EnumDecl e) = heading (present .enumHead) (e .docString) (e .attributes) (e .name) (e .typeParams)
-  front (TypeDecl t) = heading (present .synonymHead) (t .docString) (t .attributes) (t .name) (t .typeParams)
-  front (UseDecl u) = owned (useTokens u)
-
-  -- what follows them: fields; n cases; a type
-  unfoldable pub rest : Declaration N → List (Piece N)
-  rest (StructDecl s) = fieldsPieces (s .fields)
-  rest (EnumDecl e) = counted casePieces (e .variants)
-  rest (TypeDecl t) = typePiece (t .tpe)
-  rest (UseDecl u) = []
+  front (StructDecl s) = heading (form .structHead) (s .docString) (s .attributes) (s .name) (s .typeParams)
+  front (EnumDecl e) = heading (form .enumHead) (e .docString) (e .attributes) (e .name) (e .typeParams)
+  front (TypeDecl t) = heading (form .synonymHead) (t .docString) (t .attributes) (t .name) (t .typeParams)
+  front (UseDecl u) = owned (useTokens (form .useHead) u)
 
   unfoldable pub pieces : Declaration N → List (Piece N)
   pieces d = front d ++ rest d
 
-  -- the words of a piece, and of a declaration
-  unfoldable pub pieceTokens : Piece N → List (Token N)
-  pieceTokens (own k) = k ∷ []
-  pieceTokens (type t) = tokens t
-
   unfoldable pub declarationTokens : Declaration N → List (Token N)
   declarationTokens d = runs pieceTokens (pieces d)
 
--- the encoding of a declaration, names by their numbers
-unfoldable pub encodeDeclaration : Declaration ℕ → List ℕ
-encodeDeclaration d = map tokenWord (declarationTokens d)
+-- the encoding of a declaration in a form, names by their numbers
+unfoldable pub encodeDeclaration : Form → Declaration ℕ → List ℕ
+encodeDeclaration form d = map tokenWord (declarationTokens form d)

@@ -14,11 +14,13 @@ use Rattle.encoding.specs.Scans.{mapReading}
 use Rattle.encoding.specs.Tables.{nameBytes, nameCount}
 use Rattle.encoding.specs.Heads.{readPath}
 use Rattle.encoding.specs.Types.{pathOf, typeAt}
-use Rattle.encoding.specs.Forms.{present}
+use Rattle.encoding.specs.Forms.{Form, present}
 use Rattle.encoding.specs.Declarations.{readList, readCounted, readAttribute, readParameter, readField, readNamelessField, readFields, readCase, visibilityOf}
 use Rattle.tree_words.specs.Encode.{Token}
 use Rattle.declaration_walk.specs.declared.After.{After}
 use Rattle.declaration_walk.specs.declared.After.the-variants.{FieldList, CaseList, OneType, NoMore}
+use Rattle.declaration_walk.specs.declared.Role.{Role}
+use Rattle.declaration_walk.specs.declared.Role.the-variants.{Constraint, StructField, CaseField, Aliased}
 use Rattle.declaration_walk.specs.declared.Walk.{Walk}
 use Rattle.declaration_walk.specs.declared.Next.{Next}
 use Rattle.declaration_walk.specs.declared.Next.the-variants.{OwnWords, TypeDue, Ended, Halted}
@@ -47,24 +49,24 @@ module _ {N : Type 0} where
 -- ---- what is left
 
 -- as in Declarations: `bound` is the number of names, `nm` what each stands for, `type` reads a type that stands inside no other
-module _ {N : Type 0} (bound : ℕ) (ws : List ℕ) (nm : ℕ → N) (type : ℕ → Reading (Ty N)) where
-  -- n fields, named if the kind is 0
-  unfoldable pub someFields : ℕ → ℕ → ℕ → Reading (List (Piece N))
-  someFields kind n p =
-      pick (eqb kind 0) (many (readField bound ws nm type) fieldPieces n p) (many (readNamelessField bound ws nm type) namelessPieces n p)
+module _ {N : Type 0} (form : Form) (bound : ℕ) (ws : List ℕ) (nm : ℕ → N) (type : ℕ → Reading (Ty N)) where
+  -- n fields of a role, named if the kind is 0
+  unfoldable pub someFields : Role → ℕ → ℕ → ℕ → Reading (List (Piece N))
+  someFields r kind n p =
+      pick (eqb kind 0) (many (readField bound ws nm type) (fieldPieces r) n p) (many (readNamelessField bound ws nm type) (namelessPieces r) n p)
 
   -- behind the parameters: fields and then cases; cases; a type; or the fields and cases that are due
   unfoldable pub bodyOf : Walk → After → ℕ → Reading (List (Piece N))
-  bodyOf w FieldList p = mapReading fieldsPieces (readFields bound ws nm type p) & many (readCase bound ws nm type) casePieces (w .cases)
+  bodyOf w (FieldList r) p = mapReading (fieldsPieces r) (readFields bound ws nm type p) & many (readCase bound ws nm type) casePieces (w .cases)
   bodyOf w CaseList p = mapReading (counted casePieces) (readCounted ws (readCase bound ws nm type) p)
-  bodyOf w OneType p = mapReading typePiece (type p)
-  bodyOf w NoMore p = someFields (w .kind) (w .fields) p & many (readCase bound ws nm type) casePieces (w .cases)
+  bodyOf w OneType p = mapReading (typePiece Aliased) (type p)
+  bodyOf w NoMore p = someFields (w .role) (w .kind) (w .fields) p & many (readCase bound ws nm type) casePieces (w .cases)
 
   -- the types that are due, then the parameters, then what follows them
   unfoldable pub leftOf : Walk → Reading (List (Piece N))
   leftOf w =
-      many type typePiece (w .types) (w .place) & λ p.
-      many (readParameter present bound ws nm type) parameterPieces (w .parameters) p & λ q.
+      many type (typePiece (w .role)) (w .types) (w .place) & λ p.
+      many (readParameter form bound ws nm type) (parameterPieces (form .entries) (w .role)) (w .parameters) p & λ q.
       bodyOf w (w .after) q
 
 -- ---- steps
@@ -82,34 +84,34 @@ twoScan (stop r) = Neither r
 
 -- the walk at another place
 abbrev pub moved : Walk → ℕ → Walk
-moved w q = record { place = q; types = w .types; parameters = w .parameters; after = w .after; kind = w .kind; fields = w .fields; cases = w .cases }
+moved w q = record { place = q; role = w .role; types = w .types; parameters = w .parameters; after = w .after; kind = w .kind; fields = w .fields; cases = w .cases }
 
 -- behind the type that is due
 abbrev pub pastType : Walk → Walk
-pastType w = record { place = w .place; types = w .types - 1; parameters = w .parameters; after = w .after; kind = w .kind; fields = w .fields; cases = w .cases }
+pastType w = record { place = w .place; role = w .role; types = w .types - 1; parameters = w .parameters; after = w .after; kind = w .kind; fields = w .fields; cases = w .cases }
 
 abbrev pub pastAlias : Walk → Walk
-pastAlias w = record { place = w .place; types = 0; parameters = 0; after = NoMore; kind = 0; fields = 0; cases = 0 }
+pastAlias w = record { place = w .place; role = Aliased; types = 0; parameters = 0; after = NoMore; kind = 0; fields = 0; cases = 0 }
 
 -- in a parameter, of which m types follow at q
 abbrev pub inParameter : Walk → ℕ → ℕ → Walk
-inParameter w m q = record { place = q; types = m; parameters = w .parameters - 1; after = w .after; kind = w .kind; fields = w .fields; cases = w .cases }
+inParameter w m q = record { place = q; role = w .role; types = m; parameters = w .parameters - 1; after = w .after; kind = w .kind; fields = w .fields; cases = w .cases }
 
--- in a list of n fields, which follow at q
-abbrev pub inFields : Walk → ℕ → ℕ → ℕ → Walk
-inFields w k n q = record { place = q; types = 0; parameters = 0; after = NoMore; kind = k; fields = n; cases = w .cases }
+-- in a list of n fields of a role, which follow at q
+abbrev pub inFields : Walk → Role → ℕ → ℕ → ℕ → Walk
+inFields w r k n q = record { place = q; role = r; types = 0; parameters = 0; after = NoMore; kind = k; fields = n; cases = w .cases }
 
 -- in a list of n cases
 abbrev pub inCases : ℕ → ℕ → Walk
-inCases n q = record { place = q; types = 0; parameters = 0; after = NoMore; kind = 0; fields = 0; cases = n }
+inCases n q = record { place = q; role = CaseField; types = 0; parameters = 0; after = NoMore; kind = 0; fields = 0; cases = n }
 
 -- in a field, whose type follows at q
 abbrev pub inField : Walk → ℕ → Walk
-inField w q = record { place = q; types = 1; parameters = 0; after = NoMore; kind = w .kind; fields = w .fields - 1; cases = w .cases }
+inField w q = record { place = q; role = w .role; types = 1; parameters = 0; after = NoMore; kind = w .kind; fields = w .fields - 1; cases = w .cases }
 
 -- in a case, whose fields follow at q
 abbrev pub inCase : Walk → ℕ → Walk
-inCase w q = record { place = q; types = 0; parameters = 0; after = FieldList; kind = 0; fields = 0; cases = w .cases - 1 }
+inCase w q = record { place = q; role = CaseField; types = 0; parameters = 0; after = FieldList CaseField; kind = 0; fields = 0; cases = w .cases - 1 }
 
 -- a field comes next; where its type stands; and the walk behind it, at q
 abbrev pub FieldNext : Walk → Type 0
@@ -119,18 +121,18 @@ abbrev pub fieldType : Walk → ℕ
 fieldType w = pick (eqb (w .kind) 0) (w .place + 2) (w .place + 1)
 
 abbrev pub pastField : Walk → ℕ → Walk
-pastField w q = record { place = q; types = 0; parameters = 0; after = NoMore; kind = w .kind; fields = w .fields - 1; cases = w .cases }
+pastField w q = record { place = q; role = w .role; types = 0; parameters = 0; after = NoMore; kind = w .kind; fields = w .fields - 1; cases = w .cases }
 
 -- the own words of the next step, and how it goes on
 pub data Stepped (bound : ℕ) (ws : List ℕ) (w : Walk) : Next → Type 0 where
-  type-due : 0 < w .types → Stepped bound ws w (TypeDue (pastType w))
+  type-due : 0 < w .types → Stepped bound ws w (TypeDue (w .role) (pastType w))
   parameter : {x m q : ℕ} → w .types ≡ 0 → 0 < w .parameters → readEntry bound ws (w .place) ≡ got (x, m) q → Stepped bound ws w (OwnWords (inParameter w m q))
   no-parameter : {r : Refusal} → w .types ≡ 0 → 0 < w .parameters → readEntry bound ws (w .place) ≡ stop r → Stepped bound ws w (Halted r)
-  fields : {k n q : ℕ} → w .types ≡ 0 → w .parameters ≡ 0 → w .after ≡ FieldList → readEntry 2 ws (w .place) ≡ got (k, n) q → Stepped bound ws w (OwnWords (inFields w k n q))
-  no-fields : {r : Refusal} → w .types ≡ 0 → w .parameters ≡ 0 → w .after ≡ FieldList → readEntry 2 ws (w .place) ≡ stop r → Stepped bound ws w (Halted r)
+  fields : {r : Role} {k n q : ℕ} → w .types ≡ 0 → w .parameters ≡ 0 → w .after ≡ FieldList r → readEntry 2 ws (w .place) ≡ got (k, n) q → Stepped bound ws w (OwnWords (inFields w r k n q))
+  no-fields : {a : Role} {r : Refusal} → w .types ≡ 0 → w .parameters ≡ 0 → w .after ≡ FieldList a → readEntry 2 ws (w .place) ≡ stop r → Stepped bound ws w (Halted r)
   cases : {n q : ℕ} → w .types ≡ 0 → w .parameters ≡ 0 → w .after ≡ CaseList → readWord ws (w .place) ≡ got n q → Stepped bound ws w (OwnWords (inCases n q))
   no-cases : {r : Refusal} → w .types ≡ 0 → w .parameters ≡ 0 → w .after ≡ CaseList → readWord ws (w .place) ≡ stop r → Stepped bound ws w (Halted r)
-  alias : w .types ≡ 0 → w .parameters ≡ 0 → w .after ≡ OneType → Stepped bound ws w (TypeDue (pastAlias w))
+  alias : w .types ≡ 0 → w .parameters ≡ 0 → w .after ≡ OneType → Stepped bound ws w (TypeDue Aliased (pastAlias w))
   field : {v x q : ℕ} → w .types ≡ 0 → w .parameters ≡ 0 → w .after ≡ NoMore → 0 < w .fields → w .kind ≡ 0 → readTwo 2 bound ws (w .place) ≡ got (v, x) q
       → Stepped bound ws w (OwnWords (inField w q))
   no-field : {r : Refusal} → w .types ≡ 0 → w .parameters ≡ 0 → w .after ≡ NoMore → 0 < w .fields → w .kind ≡ 0 → readTwo 2 bound ws (w .place) ≡ stop r
@@ -165,29 +167,29 @@ readTitle bound ws k after p =
     readBelow bound ws p >>= λ d q. readAttributes bound ws q >>= λ l r. readEntry bound ws r >>= λ e s.
     got (record { tokens = titleTokens k d l (e .0) (e .1); parameters = e .1; after = after }) s
 
-unfoldable pub readUsing : ℕ → List ℕ → ℕ → Reading Opening
-readUsing bound ws p =
+unfoldable pub readUsing : ℕ → ℕ → List ℕ → ℕ → Reading Opening
+readUsing k bound ws p =
     readBelow 2 ws p >>= λ v q. readPath bound ws q >>= λ x r.
-    got (record { tokens = useTokens (record { visibility = visibilityOf v; path = pathOf ws (λ i. i) x }); parameters = 0; after = NoMore }) r
+    got (record { tokens = useTokens k (record { visibility = visibilityOf v; path = pathOf ws (λ i. i) x }); parameters = 0; after = NoMore }) r
 
-unfoldable pub openingAfter : ℕ → List ℕ → ℕ → ℕ → Reading Opening
-openingAfter bound ws w p =
-    pick (eqb w (present .structHead)) (readTitle bound ws (present .structHead) FieldList p)
-    (pick (eqb w (present .enumHead)) (readTitle bound ws (present .enumHead) CaseList p)
-    (pick (eqb w (present .synonymHead)) (readTitle bound ws (present .synonymHead) OneType p)
-    (pick (eqb w (present .useHead)) (readUsing bound ws p)
+unfoldable pub openingAfter : Form → ℕ → List ℕ → ℕ → ℕ → Reading Opening
+openingAfter form bound ws w p =
+    pick (eqb w (form .structHead)) (readTitle bound ws (form .structHead) (FieldList StructField) p)
+    (pick (eqb w (form .enumHead)) (readTitle bound ws (form .enumHead) CaseList p)
+    (pick (eqb w (form .synonymHead)) (readTitle bound ws (form .synonymHead) OneType p)
+    (pick (eqb w (form .useHead)) (readUsing (form .useHead) bound ws p)
     (stop UnknownWord))))
 
-unfoldable pub readOpening : ℕ → List ℕ → ℕ → Reading Opening
-readOpening bound ws at = readWord ws at >>= λ w p. openingAfter bound ws w p
+unfoldable pub readOpening : Form → ℕ → List ℕ → ℕ → Reading Opening
+readOpening form bound ws at = readWord ws at >>= λ w p. openingAfter form bound ws w p
 
 -- the walk behind an opening
 abbrev pub opened : Opening → ℕ → Walk
-opened o n = record { place = n; types = 0; parameters = o .parameters; after = o .after; kind = 0; fields = 0; cases = 0 }
+opened o n = record { place = n; role = Constraint; types = 0; parameters = o .parameters; after = o .after; kind = 0; fields = 0; cases = 0 }
 
 -- a title behind its head, by the walk alone: its own words do not matter to it
 abbrev pub startedAt : After → Reading (ℕ × ℕ) → Start
-startedAt after (got e n) = Begun (record { place = n; types = 0; parameters = e .1; after = after; kind = 0; fields = 0; cases = 0 })
+startedAt after (got e n) = Begun (record { place = n; role = Constraint; types = 0; parameters = e .1; after = after; kind = 0; fields = 0; cases = 0 })
 startedAt after (stop r) = NotBegun r
 
 abbrev pub startedBehind : {A : Type 0} → Reading A → (ℕ → Start) → Start
@@ -205,4 +207,4 @@ started (stop r) = NotBegun r
 -- ---- of an encoding
 
 abbrev pub leftAt : List ℕ → List ℕ → Bytes → Walk → Reading (List (Piece Bytes))
-leftAt ws pairs text w = leftOf (nameCount pairs) ws (nameBytes pairs text) (typeAt ws pairs text) w
+leftAt ws pairs text w = leftOf present (nameCount pairs) ws (nameBytes pairs text) (typeAt ws pairs text) w

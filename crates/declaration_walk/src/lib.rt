@@ -3,6 +3,7 @@ ghost use mathlib.Core.Path.{_≡_};
 ghost use mathlib.Core.Bool.{true};
 ghost use Prim.Native.Nat.{_^_, _≤_, _<_};
 ghost use Rattle.encoding.specs.Declarations.{readList};
+ghost use Rattle.encoding.specs.Forms.{present};
 ghost use Rattle.encoding.specs.Scans.{ended};
 ghost use Rattle.declaration_walk.specs.declared.After.the-variants.{FieldList, CaseList, NoMore};
 ghost use Rattle.declaration_walk.specs.Walks.{readEntry, readTwo, twoScan, moved, inField, FieldNext, fieldType, pastField, Stepped, readOneAttribute, readAttributes, readUsing, readOpening, startedAt, titled, started};
@@ -12,18 +13,27 @@ use encoding::Scan;
 use encoding::WordScan;
 use encoding::words::{ENUM, FIELD_KINDS, NAMED, STRUCT, TYPE_SYNONYM, USE, VISIBILITIES};
 
-// What follows the parameters.
+// What a type is in its declaration.
+pub enum Role {
+    Constraint,
+    StructField,
+    CaseField,
+    Aliased,
+}
+
+// What follows the parameters: fields, whose types have a role; cases; a type; or nothing.
 pub enum After {
-    FieldList,
+    FieldList(Role),
     CaseList,
     OneType,
     NoMore,
 }
 
 // Where a walk has come to: `types` types are due at `place`, then `parameters` parameters, then what `after` says, or so many fields
-// (`kind` 0 named, 1 nameless) and cases. Counts may be as large as a word, since no more is known of them.
+// (`kind` 0 named, 1 nameless) and cases. The types that are due, those of the parameters and those of the fields have the role `role`. Counts may be as large as a word, since no more is known of them.
 pub struct Walk {
     pub place: usize,
+    pub role: Role,
     pub types: u32,
     pub parameters: u32,
     pub after: After,
@@ -32,10 +42,10 @@ pub struct Walk {
     pub cases: u32,
 }
 
-// The next step of a walk: own words up to the walk's place; a type at its place, with the walk behind it but for the place; or the end.
+// The next step of a walk: own words up to the walk's place; a type at its place, with its role and the walk behind it but for the place; or the end.
 pub enum Next {
     OwnWords(Walk),
-    TypeDue(Walk),
+    TypeDue(Role, Walk),
     Ended,
     Halted(Refusal),
 }
@@ -112,8 +122,10 @@ fn open_parameter(words: &[u32], bound: usize, walk: Walk) -> Next
             next,
         } => {
             let after = walk.after;
+            let role = walk.role;
             Next::OwnWords(Walk {
                 place: next,
+                role,
                 types: second,
                 parameters: walk.parameters - 1,
                 after,
@@ -127,8 +139,8 @@ fn open_parameter(words: &[u32], bound: usize, walk: Walk) -> Next
 }
 
 // The own words before fields.
-fn open_fields(words: &[u32], bound: usize, walk: Walk) -> Next
-    requires { ⌜ (walk .types ≡ 0) × (walk .parameters ≡ 0) × (walk .after ≡ FieldList) ⌝ }
+fn open_fields(words: &[u32], bound: usize, walk: Walk, role: Role) -> Next
+    requires { ⌜ (walk .types ≡ 0) × (walk .parameters ≡ 0) × (walk .after ≡ FieldList role) ⌝ }
     ensures { λ r. ⌜ Stepped bound (now (words .entry)) walk r ⌝ }
 {
     match scan_entry(words, FIELD_KINDS, walk.place) {
@@ -138,6 +150,7 @@ fn open_fields(words: &[u32], bound: usize, walk: Walk) -> Next
             next,
         } => Next::OwnWords(Walk {
             place: next,
+            role,
             types: 0,
             parameters: 0,
             after: After::NoMore,
@@ -157,6 +170,7 @@ fn open_cases(words: &[u32], bound: usize, walk: Walk) -> Next
     match encoding::scan_word(words, walk.place) {
         WordScan::Word { value, next } => Next::OwnWords(Walk {
             place: next,
+            role: Role::CaseField,
             types: 0,
             parameters: 0,
             after: After::NoMore,
@@ -173,8 +187,10 @@ fn in_field(walk: Walk, next: usize) -> Walk
     requires { ⌜ 0 < walk .fields ⌝ }
     ensures { λ r. ⌜ r ≡ inField walk next ⌝ }
 {
+    let role = walk.role;
     Walk {
         place: next,
+        role,
         types: 1,
         parameters: 0,
         after: After::NoMore,
@@ -218,9 +234,10 @@ fn open_case(words: &[u32], bound: usize, walk: Walk) -> Next
             next,
         } => Next::OwnWords(Walk {
             place: next,
+            role: Role::CaseField,
             types: 0,
             parameters: 0,
-            after: After::FieldList,
+            after: After::FieldList(Role::CaseField),
             kind: 0,
             fields: 0,
             cases: walk.cases - 1,
@@ -255,7 +272,7 @@ pub fn is_at_members(walk: Walk) -> bool
         return false;
     }
     match after {
-        After::FieldList => false,
+        After::FieldList(_) => false,
         After::CaseList => false,
         After::OneType => false,
         After::NoMore => true,
@@ -288,8 +305,10 @@ pub fn past_field(walk: Walk, place: usize) -> Walk
     requires { ⌜ 0 < walk .fields ⌝ }
     ensures { λ r. ⌜ r ≡ pastField walk place ⌝ }
 {
+    let role = walk.role;
     Walk {
         place,
+        role,
         types: 0,
         parameters: 0,
         after: After::NoMore,
@@ -304,9 +323,11 @@ pub fn next_piece(words: &[u32], bound: usize, walk: Walk) -> Next
     ensures { λ r. ⌜ Stepped bound (now (words .entry)) walk r ⌝ }
 {
     let after = walk.after;
+    let role = walk.role;
     if walk.types != 0 {
-        return Next::TypeDue(Walk {
+        return Next::TypeDue(role, Walk {
             place: walk.place,
+            role,
             types: walk.types - 1,
             parameters: walk.parameters,
             after,
@@ -319,10 +340,11 @@ pub fn next_piece(words: &[u32], bound: usize, walk: Walk) -> Next
         return open_parameter(words, bound, walk);
     }
     match after {
-        After::FieldList => open_fields(words, bound, walk),
+        After::FieldList(fields) => open_fields(words, bound, walk, fields),
         After::CaseList => open_cases(words, bound, walk),
-        After::OneType => Next::TypeDue(Walk {
+        After::OneType => Next::TypeDue(Role::Aliased, Walk {
             place: walk.place,
+            role: Role::Aliased,
             types: 0,
             parameters: 0,
             after: After::NoMore,
@@ -339,8 +361,10 @@ pub fn move_to(walk: Walk, place: usize) -> Walk
     ensures { λ r. ⌜ r ≡ moved walk place ⌝ }
 {
     let after = walk.after;
+    let role = walk.role;
     Walk {
         place,
+        role,
         types: walk.types,
         parameters: walk.parameters,
         after,
@@ -403,6 +427,7 @@ fn start_parameters(words: &[u32], bound: usize, after: After, at: usize) -> Sta
             next,
         } => Start::Begun(Walk {
             place: next,
+            role: Role::Constraint,
             types: 0,
             parameters: second,
             after,
@@ -429,12 +454,13 @@ fn start_title(words: &[u32], bound: usize, after: After, at: usize) -> Start
 
 // A use behind its head: visibility and path, and nothing after them.
 fn start_use(words: &[u32], bound: usize, at: usize) -> Start
-    ensures { λ r. ⌜ r ≡ started (readUsing bound (now (words .entry)) at) ⌝ }
+    ensures { λ r. ⌜ r ≡ started (readUsing (present .useHead) bound (now (words .entry)) at) ⌝ }
 {
     match encoding::scan_below(words, VISIBILITIES, at) {
         WordScan::Word { value: _, next } => match encoding::scan_path(words, bound, next) {
             PathScan::OwnPath { path: _, next: end } => Start::Begun(Walk {
                 place: end,
+                role: Role::Constraint,
                 types: 0,
                 parameters: 0,
                 after: After::NoMore,
@@ -450,11 +476,11 @@ fn start_use(words: &[u32], bound: usize, at: usize) -> Start
 
 // The walk behind the first own words of the declaration at `at`.
 pub fn start_walk(words: &[u32], bound: usize, at: usize) -> Start
-    ensures { λ r. ⌜ r ≡ started (readOpening bound (now (words .entry)) at) ⌝ }
+    ensures { λ r. ⌜ r ≡ started (readOpening present bound (now (words .entry)) at) ⌝ }
 {
     match encoding::scan_word(words, at) {
         WordScan::Word { value, next } => match value {
-            STRUCT => start_title(words, bound, After::FieldList, next),
+            STRUCT => start_title(words, bound, After::FieldList(Role::StructField), next),
             ENUM => start_title(words, bound, After::CaseList, next),
             TYPE_SYNONYM => start_title(words, bound, After::OneType, next),
             USE => start_use(words, bound, next),

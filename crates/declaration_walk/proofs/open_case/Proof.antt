@@ -10,8 +10,8 @@ scan-two-requires c κs = search needs
 enum-known-next : tie.Need-enum-known-next
 enum-known-next c = search needs
 
-sub-t9 : tie.Need-sub-t9
-sub-t9 c = search needs
+sub-t11 : tie.Need-sub-t11
+sub-t11 c = search needs
 
 enum-known-r : tie.Need-enum-known-r
 enum-known-r c = search needs
@@ -30,7 +30,7 @@ open-case-spec =
     (tie.spec
     scan-two-requires
     enum-known-next
-    sub-t9
+    sub-t11
     enum-known-r
     returns
     returns-2)

@@ -10,8 +10,8 @@ scan-entry-requires c κs = search needs
 enum-known-second : tie.Need-enum-known-second
 enum-known-second c = search needs
 
-sub-t10 : tie.Need-sub-t10
-sub-t10 c = search needs
+sub-t11 : tie.Need-sub-t11
+sub-t11 c = search needs
 
 enum-known-r : tie.Need-enum-known-r
 enum-known-r c = search needs
@@ -30,7 +30,7 @@ open-parameter-spec =
     (tie.spec
     scan-entry-requires
     enum-known-second
-    sub-t10
+    sub-t11
     enum-known-r
     returns
     returns-2)

@@ -4,6 +4,7 @@ use Rattle.encoding.specs.Reading.{readWord}
 use Rattle.declaration_walk.proofs.Scans.{opening-none, title-started}
 use Rattle.declaration_walk.specs.Walks.{openingAfter, readOpening}
 use Rattle.declaration_walk.specs.declared.After.the-variants.{CaseList, FieldList, OneType}
+use Rattle.declaration_walk.specs.declared.Role.the-variants.{StructField}
 use mathlib.Core.Path.{_∙_, sym}
 use borrow.Author.Needs.{needs}
 use Rattle.declaration_walk.proofs.start_walk.Statement.{statement}
@@ -33,7 +34,7 @@ enum-known-r c = search needs
 returns : tie.Need-returns
 unfolding readOpening openingAfter
 returns c =
-    c .start-title .ensures ∙ sym (title-started (c .before .before .before .before .before .before .before .args .bound) (c .before .before .before .before .before .before .before .args .words .now) (present .structHead) FieldList _) ∙ rw (word-got (readWord (c .before .before .before .before .before .before .before .args .words .now) (c .before .before .before .before .before .before .before .args .at)) (c .before .before .before .before .before .scan-word .ensures) (c .before .before .before .value .given .1), c .before .match2 .keys1)
+    c .start-title .ensures ∙ sym (title-started (c .before .before .before .before .before .before .before .args .bound) (c .before .before .before .before .before .before .before .args .words .now) (present .structHead) (FieldList StructField) _) ∙ rw (word-got (readWord (c .before .before .before .before .before .before .before .args .words .now) (c .before .before .before .before .before .before .before .args .at)) (c .before .before .before .before .before .scan-word .ensures) (c .before .before .before .value .given .1), c .before .match2 .keys1)
 
 returns-2 : tie.Need-returns-2
 unfolding readOpening openingAfter
