@@ -347,6 +347,23 @@ module _ {N : Type 0} (bound : ℕ) (ws : List ℕ) (nm : ℕ → N) (ty : ℕ �
   pub end-step : (w : Walk) → Stepped bound ws w Ended → leftOf present bound ws nm ty w ≡ got [] (w .place)
   end-step w (end e d a f c) = case-due w e d a f ∙ many-none (readCase bound ws nm ty) casePieces (w .cases) (w .place) c
 
+  -- a list of fields is all that is left
+  pub record FieldsLeft (b : Role) (ps : List (Piece N)) : Type 0 where
+    pub fields : Fields N
+    pub parts : ps ≡ fieldsPieces b fields
+
+  pub fields-left : (w : Walk) {b : Role} {ps : List (Piece N)} {n : ℕ} → w .types ≡ 0 → w .parameters ≡ 0 → w .after ≡ FieldList b → w .cases ≡ 0
+      → leftOf present bound ws nm ty w ≡ got ps n → FieldsLeft b ps
+  unfolding bodyOf mapReading
+  fields-left w {b} {ps} {n} e d a c l =
+      let x = readFields bound ws nm ty (w .place) in
+      let alone = and-same (mapReading (fieldsPieces b) x) _ (λ q. got [] q) (λ q. many-none (readCase bound ws nm ty) casePieces (w .cases) q c) ∙ and-last (mapReading (fieldsPieces b) x) in
+      go x (sym alone ∙ sym (rest-after w e d a) ∙ l)
+    where
+      go : (y : Reading (Fields N)) → mapReading (fieldsPieces b) y ≡ got ps n → FieldsLeft b ps
+      go (got fs m) h = record { fields = fs; parts = cc }
+      go (stop r) h = impossible (cc)
+
   -- ---- types
 
   pub record TypeStep (w : Walk) (a : Role) (w′ : Walk) : Type 0 where

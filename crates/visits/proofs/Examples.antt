@@ -12,7 +12,7 @@ use Rattle.encoding.specs.Types.{primitives, rootOf, pathOf, sizeOf, readTypes,
 use Rattle.encoding.specs.Declarations.{readList, readCounted, visibilityOf, readVisibility, readName, readAttribute, readParameter, readFormal, readField, readNamelessField, readFields, readCase, readStruct, readEnum, readTypeSynonym, readUse, declarationAfter, readDeclaration, declarationOf}
 use Rattle.tree_words.specs.Encode.{primitiveWord, flagsWord, rootWord, names, pathTokens, tokens, words, wordsAll}
 use Rattle.declaration_walk.specs.Pieces.{visibilityWord, runs, attributeTokens, attributesTokens, titleTokens, useTokens, counted, parameterPieces, fieldPieces, namelessPieces, fieldsPieces, casePieces, heading, front, rest, pieces}
-use Rattle.visits.specs.Visited.{visited, visitedFrom, visitedPieces, entered, visitedDeclaration, typeVisits, declarationVisits}
+use Rattle.visits.specs.Visited.{visited, visitedFrom, visitedPieces, isEntered, visitedDeclaration, typeVisits, declarationVisits}
 
 abbrev pairs : List ℕ
 pairs = 0 ∷ 5 ∷ 5 ∷ 13 ∷ 18 ∷ 2 ∷ 20 ∷ 2 ∷ []
@@ -58,5 +58,5 @@ unfolding types typeVisits visited visitedFrom typeOf mapAnswer unless whole che
 type-examples = refl
 
 pub declaration-examples : declarationLists declarations ≡ asked declarations
-unfolding declarations declarationVisits visitedDeclaration visitedPieces entered front rest pieces heading counted runs titleTokens attributesTokens attributeTokens useTokens parameterPieces fieldPieces namelessPieces fieldsPieces casePieces visibilityWord declarationOf readDeclaration declarationAfter readStruct readEnum readTypeSynonym readUse readCase readFields readField readNamelessField readFormal readParameter readAttribute readName readVisibility visibilityOf readCounted readList visitedFrom mapAnswer unless whole checkTables overlong goodPairs ascii _and_ readType readNode readTypes readHead headAfter pathHead readPath readNames readWord readBelow primitives pathOf rootOf sizeOf MSels nameBytes fixedNames pairBytes words wordsAll tokens pathTokens names rootWord primitiveWord flagsWord count
+unfolding declarations declarationVisits visitedDeclaration visitedPieces isEntered front rest pieces heading counted runs titleTokens attributesTokens attributeTokens useTokens parameterPieces fieldPieces namelessPieces fieldsPieces casePieces visibilityWord declarationOf readDeclaration declarationAfter readStruct readEnum readTypeSynonym readUse readCase readFields readField readNamelessField readFormal readParameter readAttribute readName readVisibility visibilityOf readCounted readList visitedFrom mapAnswer unless whole checkTables overlong goodPairs ascii _and_ readType readNode readTypes readHead headAfter pathHead readPath readNames readWord readBelow primitives pathOf rootOf sizeOf MSels nameBytes fixedNames pairBytes words wordsAll tokens pathTokens names rootWord primitiveWord flagsWord count
 declaration-examples = refl

@@ -2,6 +2,7 @@
 use Prim.Native.Nat.{ℕ, zero, suc, _+_, _≤_, _<_}
 use mathlib.Core.Path.{_≡_, refl, ap, sym, _∙_, subst}
 use mathlib.Core.Logic.{⊎-elim}
+use mathlib.Core.Bool.{Bool, true, false}
 use mathlib.Core.List.{List, [], _∷_, _++_, List·Memᴰ, List·Memᴰ·not-nil, List·Memᴰ·cases-cons, List·Memᴰ·append-cases}
 use native.Mathlib.Decide.{ℕ-discrete}
 use native.Mathlib.Omega.{arith}
@@ -13,7 +14,8 @@ use Rattle.encoding.specs.Reading.{Reading, got, stop}
 use Rattle.encoding.specs.Tables.{checkTables, nameBytes, nameCount}
 use Rattle.encoding.specs.Heads.{readHead}
 use Rattle.encoding.specs.HeadWords.{kids}
-use Rattle.encoding.specs.Refusals.{given}
+use Rattle.encoding.specs.Refusals.{pick, given}
+use Rattle.encoding.specs.Forms.{present}
 use Rattle.encoding.specs.Types.{readTypes, readNode, readType, typeAt, typeOf}
 use Rattle.encoding.specs.Declarations.{declarationAt, declarationOf}
 use Rattle.encoding.proofs.Tables.{impossible}
@@ -29,13 +31,13 @@ use Rattle.accepted_types.proofs.Accepted.{type-here, synonym-head}
 use Rattle.declaration_walk.specs.declared.Walk.{Walk}
 use Rattle.declaration_walk.specs.declared.Next.{Next}
 use Rattle.declaration_walk.specs.declared.Next.the-variants.{OwnWords, TypeDue, Ended, Halted}
+use Rattle.declaration_walk.specs.declared.Role.{Role}
 use Rattle.declaration_walk.specs.Pieces.{Piece, type, typePiece}
 use Rattle.declaration_walk.specs.Walks.{leftAt, moved, Stepped, Opening, opened, readOpening, started}
 use Rattle.declaration_walk.proofs.Steps.{own-step, due-step, end-step, halt-step}
 use Rattle.declaration_walk.proofs.NextSteps.{next-step}
-use Rattle.declaration_walk.proofs.Fronts.{behind-got}
-use Rattle.visits.specs.Visited.{visited, visitedFrom, visitedAll, visitedPieces, visitedDeclaration}
-use Rattle.visits.specs.Passes.{enteredWalk}
+use Rattle.declaration_walk.proofs.Behind.{behind-got}
+use Rattle.visits.specs.Visited.{isEntered, visited, visitedFrom, visitedAll, visitedPieces, visitedDeclaration}
 use Rattle.visits.proofs.Lists.{visited-synonym, visited-node}
 use Rattle.visits.proofs.Passes.{types-words}
 use Rattle.visits.proofs.Entering.{visited-behind, entered-left, not-begun-read}
@@ -108,27 +110,30 @@ module _ (ws pairs : List ℕ) (text : Bytes) (x : Place Bytes) where
   -- ---- declarations
 
   -- a type, and what is behind it
-  piece-held : (p : ℕ) (t : Ty Bytes) (qs : List (Piece Bytes)) {ps : List (Piece Bytes)} {n : ℕ} → ps ≡ type t ∷ qs → typeAt ws pairs text p ≡ got t n → Held (visitedPieces n qs) → Held (visitedPieces p ps)
+  piece-held : (a : Role) (p : ℕ) (t : Ty Bytes) (qs : List (Piece Bytes)) {ps : List (Piece Bytes)} {n : ℕ} → ps ≡ type a t ∷ qs → typeAt ws pairs text p ≡ got t n → Held (visitedPieces isEntered n qs) → Held (visitedPieces isEntered p ps)
   unfolding visitedPieces
-  piece-held p t qs g e h =
-      rw g (both-held (visitedFrom p t) (visitedPieces (p + words t) qs) (here-held p e) (rw (type-words ws pairs text p e) at h))
+  piece-held a p t qs g e h = rw g (both-held (pick (isEntered a) (visitedFrom p t) []) (visitedPieces isEntered (p + words t) qs) (go (isEntered a)) (rw (type-words ws pairs text p e) at h))
+    where
+      go : (b : Bool) → Held (pick b (visitedFrom p t) [])
+      go true = here-held p e
+      go false = none-held
 
   -- what is left to a walk, by its next step
   step-held : (w : Walk) {ps : List (Piece Bytes)} {n : ℕ} → leftAt ws pairs text w ≡ got ps n
-      → ((v : Walk) (qs : List (Piece Bytes)) → w .place < v .place → v .place ≤ length ws → leftAt ws pairs text v ≡ got qs n → Held (visitedPieces (v .place) qs))
-      → (s : Next) → Stepped (nameCount pairs) ws w s → Held (visitedPieces (w .place) ps)
+      → ((v : Walk) (qs : List (Piece Bytes)) → w .place < v .place → v .place ≤ length ws → leftAt ws pairs text v ≡ got qs n → Held (visitedPieces isEntered (v .place) qs))
+      → (s : Next) → Stepped (nameCount pairs) ws w s → Held (visitedPieces isEntered (w .place) ps)
   unfolding visitedPieces
   step-held w e again (OwnWords v) s =
       let k = own-step (nameCount pairs) ws (nameBytes pairs text) (typeAt ws pairs text) w s in
       let b = behind-got _ (leftAt ws pairs text v) (sym (k .reads) ∙ e) in
-      rw (visited-behind (nameBytes pairs text) (k .tokens) (b .left) (w .place) (v .place) (b .parts) (k .end))
+      rw (visited-behind isEntered (nameBytes pairs text) (k .tokens) (b .left) (w .place) (v .place) (b .parts) (k .end))
       (again v (b .left) (k .further) (omega (arith, k .run .ends, k .end, length-map (k .tokens) tokenWord)) (b .reads))
-  step-held w e again (TypeDue v) s =
+  step-held w e again (TypeDue a v) s =
       let k = due-step (nameCount pairs) ws (nameBytes pairs text) (typeAt ws pairs text) w s in
       let t = bind-got (typeAt ws pairs text (w .place)) _ (sym (k .reads) ∙ e) in
-      let b = behind-got (typePiece (t .value)) (leftAt ws pairs text (moved v (t .end))) (t .rest) in
+      let b = behind-got (typePiece a (t .value)) (leftAt ws pairs text (moved v (t .end))) (t .rest) in
       let l = type-lies ws pairs text (w .place) (omega (arith, type-here ws pairs text (w .place) (t .first))) (t .first) in
-      piece-held (w .place) (t .value) (b .left) (b .parts) (t .first) (again (moved v (t .end)) (b .left) (l .starts) (l .ends) (b .reads))
+      piece-held a (w .place) (t .value) (b .left) (b .parts) (t .first) (again (moved v (t .end)) (b .left) (l .starts) (l .ends) (b .reads))
   step-held w {ps} e again Ended s =
       let k = end-step (nameCount pairs) ws (nameBytes pairs text) (typeAt ws pairs text) w s in
       let z : ps ≡ [] = cc in
@@ -136,18 +141,18 @@ module _ (ws pairs : List ℕ) (text : Bytes) (x : Place Bytes) where
   step-held w e again (Halted r) s = let k = halt-step (nameCount pairs) ws (nameBytes pairs text) (typeAt ws pairs text) w s in impossible (cc)
 
   -- what is left to a walk, where at most m words are left
-  left-held : (m : ℕ) (w : Walk) {ps : List (Piece Bytes)} {n : ℕ} → length ws ≤ w .place + m → leftAt ws pairs text w ≡ got ps n → Held (visitedPieces (w .place) ps)
+  left-held : (m : ℕ) (w : Walk) {ps : List (Piece Bytes)} {n : ℕ} → length ws ≤ w .place + m → leftAt ws pairs text w ≡ got ps n → Held (visitedPieces isEntered (w .place) ps)
   left-held zero w h e = let s = next-step (nameCount pairs) ws w in step-held w e (λ v qs l k d. impossible (omega arith)) (s .next) (s .steps)
   left-held (suc m) w h e = let s = next-step (nameCount pairs) ws w in step-held w e (λ v qs l k d. left-held m v (omega arith) d) (s .next) (s .steps)
 
   -- and in a declaration that was read
   pub declaration-held : {d : Declaration Bytes} {n : ℕ} → declarationAt ws pairs text 0 ≡ got d n → List·Memᴰ x (visitedDeclaration d) → Holding ws pairs text x
-  declaration-held {d} {n} e = go (readOpening (nameCount pairs) ws 0) refl
+  declaration-held {d} {n} e = go (readOpening present (nameCount pairs) ws 0) refl
     where
-      go : (y : Reading Opening) → readOpening (nameCount pairs) ws 0 ≡ y → Held (visitedDeclaration d)
+      go : (y : Reading Opening) → readOpening present (nameCount pairs) ws 0 ≡ y → Held (visitedDeclaration d)
       go (got o k) h =
           let l = entered-left ws pairs text e h in
-          rw (l .list) at (left-held (length ws) (enteredWalk (opened o k)) (omega arith) (l .reads))
+          rw (l .list) at (left-held (length ws) (opened o k) (omega arith) (l .reads))
       go (stop r) h = absurd (not-begun-read ws pairs text {k = r} (ap started (sym h)) refl (record { value = d; end = n; reads = e }))
 
 -- ---- what an encoding holds

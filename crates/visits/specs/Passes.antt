@@ -1,32 +1,34 @@
 -- What a pass over accepted types and declarations needs and does, and what it lays down for a whole encoding.
 use Prim.Native.Nat.{ℕ, _≤_}
 use mathlib.Core.Path.{_≡_}
-use mathlib.Core.List.{List}
+use mathlib.Core.Bool.{true, false}
+use mathlib.Core.List.{List, []}
 use lib.ListN.{length}
 use Rattle.rast.specs.Bytes.{Bytes}
-use Rattle.rast.specs.Tree.{Tys}
+use Rattle.rast.specs.Tree.{Ty, Tys}
 use Rattle.buffer.specs.Wrote.{Wrote}
-use Rattle.encoding.specs.Refusals.{Answer, mapAnswer}
+use Rattle.encoding.specs.Words.{maxWords}
+use Rattle.encoding.specs.Refusals.{pick, Answer, mapAnswer}
 use Rattle.encoding.specs.Reading.{got, whole}
 use Rattle.encoding.specs.Types.{readTypes, typeAt}
 use Rattle.accepted_types.specs.declared.Spot.{Spot}
 use Rattle.accepted_types.specs.Accepted.{Readable}
 use Rattle.tree_words.specs.Places.{place}
-use Rattle.declaration_walk.specs.declared.After.{After}
-use Rattle.declaration_walk.specs.declared.After.the-variants.{FieldList, CaseList, OneType, NoMore}
+use Rattle.declaration_walk.specs.declared.Role.{Role}
+use Rattle.declaration_walk.specs.declared.After.the-variants.{FieldList, NoMore}
 use Rattle.declaration_walk.specs.declared.Walk.{Walk}
 use Rattle.declaration_walk.specs.Pieces.{Piece}
-use Rattle.declaration_walk.specs.Walks.{leftAt}
+use Rattle.declaration_walk.specs.Walks.{leftAt, FieldNext}
 use Rattle.accept_declaration.specs.Ends.{Held, heldAt}
 use Rattle.accept_declaration.specs.declared.Whole.{Whole}
 use Rattle.accept_declaration.specs.declared.Whole.the-variants.{AType, ADeclaration}
-use Rattle.visits.specs.Visited.{visited, visitedAll, visitedPieces, visitedDeclaration, positions}
+use Rattle.visits.specs.Visited.{isEntered, visited, visitedFrom, visitedAll, visitedPieces, visitedDeclaration, positions}
 
 -- ---- types
 
 -- `due` types stand at `at`, and no more positions were laid down than words passed
 pub record Due (ws pairs : List ℕ) (text : Bytes) (at due pos : ℕ) : Type 0 where
-  pub few : length ws ≤ 8192
+  pub few : length ws ≤ maxWords
   pub inside : at ≤ length ws
   pub counted : pos ≤ at
   pub there : Readable (readTypes (typeAt ws pairs text) due at)
@@ -40,19 +42,16 @@ pub record Visited (ws pairs : List ℕ) (text : Bytes) (at due : ℕ) (o : List
 
 -- ---- declarations
 
--- a walk that ends where the visitor does: a struct's fields are not entered
-abbrev pub enteredAfter : After → After
-enteredAfter FieldList = NoMore
-enteredAfter CaseList = CaseList
-enteredAfter OneType = OneType
-enteredAfter NoMore = NoMore
-
-abbrev pub enteredWalk : Walk → Walk
-enteredWalk w = record { place = w .place; types = w .types; parameters = w .parameters; after = enteredAfter (w .after); kind = w .kind; fields = w .fields; cases = w .cases }
+-- a type was passed, and its list laid down if its role is entered
+pub record Passed (ws pairs : List ℕ) (text : Bytes) (a : Role) (at : ℕ) (o : List ℕ) (pos : ℕ) (o′ : List ℕ) (s : Spot) : Type 0 where
+  pub tpe : Ty Bytes
+  pub reads : typeAt ws pairs text at ≡ got tpe (s .next)
+  pub wrote : Wrote o pos (positions (pick (isEntered a) (visitedFrom at tpe) [])) o′ (s .pos)
+  pub counted : s .pos ≤ s .next
 
 -- what is left to the walk w was accepted
 pub record Ahead (ws pairs : List ℕ) (text : Bytes) (w : Walk) : Type 0 where
-  pub few : length ws ≤ 8192
+  pub few : length ws ≤ maxWords
   pub inside : w .place ≤ length ws
   pub there : Readable (leftAt ws pairs text w)
 
@@ -63,22 +62,27 @@ pub record Going (ws pairs : List ℕ) (text : Bytes) (w₀ : Walk) (o : List �
   pub end : ℕ
   pub reads : leftAt ws pairs text w₀ ≡ got all end
   pub left : leftAt ws pairs text w ≡ got rest end
-  pub lays : (o″ : List ℕ) (p″ : ℕ) → Wrote o′ p (positions (visitedPieces (w .place) rest)) o″ p″ → Wrote o pos (positions (visitedPieces (w₀ .place) all)) o″ p″
-  pub few : length ws ≤ 8192
+  pub lays : (o″ : List ℕ) (p″ : ℕ) → Wrote o′ p (positions (visitedPieces isEntered (w .place) rest)) o″ p″ → Wrote o pos (positions (visitedPieces isEntered (w₀ .place) all)) o″ p″
+  pub few : length ws ≤ maxWords
   pub inside : w .place ≤ length ws
   pub counted : p ≤ w .place
   pub kept : length o′ ≡ length o
 
--- nothing is left to the walk
-abbrev pub Done : Walk → Type 0
-Done w = (w .types ≡ 0) × (w .parameters ≡ 0) × (w .after ≡ NoMore) × (w .fields ≡ 0) × (w .cases ≡ 0)
+-- nothing is left to the walk that is entered: nothing at all, or a list of fields that are not
+pub data Done (w : Walk) : Type 0 where
+  nothing : w .types ≡ 0 → w .parameters ≡ 0 → w .after ≡ NoMore → w .fields ≡ 0 → w .cases ≡ 0 → Done w
+  fieldsAlone : {a : Role} → w .types ≡ 0 → w .parameters ≡ 0 → w .after ≡ FieldList a → isEntered a ≡ false → w .cases ≡ 0 → Done w
+
+-- a field comes next whose type is entered
+abbrev pub EntersField : Walk → Type 0
+EntersField w = FieldNext w × (isEntered (w .role) ≡ true)
 
 -- its list was laid down
 pub record Entered (ws pairs : List ℕ) (text : Bytes) (w : Walk) (o o′ : List ℕ) (p : ℕ) : Type 0 where
   pub pieces : List (Piece Bytes)
   pub end : ℕ
   pub reads : leftAt ws pairs text w ≡ got pieces end
-  pub wrote : Wrote o 0 (positions (visitedPieces (w .place) pieces)) o′ p
+  pub wrote : Wrote o 0 (positions (visitedPieces isEntered (w .place) pieces)) o′ p
   pub counted : p ≤ length ws
 
 -- ---- what an encoding holds

@@ -1,15 +1,26 @@
 -- The types that `Type.Fold` and the visitor go through, in their order, each where it stands.
 use Prim.Native.Nat.{ℕ, _+_}
+use mathlib.Core.Bool.{Bool, true, false}
 use mathlib.Core.List.{List, [], _∷_, _++_, map}
 use Rattle.rast.specs.Bytes.{Bytes}
-use Rattle.rast.specs.Declaration.{Declaration, StructDecl, EnumDecl, TypeDecl, UseDecl}
+use Rattle.rast.specs.Declaration.{Declaration}
 use Rattle.rast.specs.Tree.{Ty, Tys, Primitive, TIdentifier, TypeFromPath, TypeApp, Borrowed, BorrowedMut, ImplType, DynType, TupleType, FnType, IntersectionType, Array, TSynonym, TMetaData, nil, cons}
-use Rattle.encoding.specs.Refusals.{Answer, mapAnswer}
+use Rattle.encoding.specs.Refusals.{pick, Answer, mapAnswer}
+use Rattle.encoding.specs.Forms.{present}
 use Rattle.encoding.specs.Types.{typeOf}
 use Rattle.encoding.specs.Declarations.{declarationOf}
 use Rattle.tree_words.specs.Encode.{words, wordsAll}
 use Rattle.tree_words.specs.Places.{Place, place}
-use Rattle.declaration_walk.specs.Pieces.{Piece, own, type, front, pieces}
+use Rattle.declaration_walk.specs.declared.Role.{Role}
+use Rattle.declaration_walk.specs.declared.Role.the-variants.{Constraint, StructField, CaseField, Aliased}
+use Rattle.declaration_walk.specs.Pieces.{Piece, own, type, pieces}
+
+-- the types of a declaration that the source's visitor goes through: all but those of a struct's fields
+unfoldable pub isEntered : Role → Bool
+isEntered Constraint = true
+isEntered StructField = false
+isEntered CaseField = true
+isEntered Aliased = true
 
 module _ {N : Type 0} where
   unfoldable mutual
@@ -38,21 +49,14 @@ module _ {N : Type 0} where
   unfoldable pub visited : Place N → List (Place N)
   visited q = visitedFrom (q .at) (q .tpe)
 
-  -- the types of a run of pieces that begins at p
-  unfoldable pub visitedPieces : ℕ → List (Piece N) → List (Place N)
-  visitedPieces p [] = []
-  visitedPieces p (own k ∷ ps) = visitedPieces (p + 1) ps
-  visitedPieces p (type t ∷ ps) = visitedFrom p t ++ visitedPieces (p + words t) ps
-
-  -- what the visitor goes through: of a struct the parameters, of an enum and a type synonym all, of a use nothing
-  unfoldable pub entered : Declaration N → List (Piece N)
-  entered (StructDecl s) = front (StructDecl s)
-  entered (EnumDecl e) = pieces (EnumDecl e)
-  entered (TypeDecl t) = pieces (TypeDecl t)
-  entered (UseDecl u) = []
+  -- of a run of pieces that begins at p, those types whose role is entered
+  unfoldable pub visitedPieces : (Role → Bool) → ℕ → List (Piece N) → List (Place N)
+  visitedPieces enters p [] = []
+  visitedPieces enters p (own k ∷ ps) = visitedPieces enters (p + 1) ps
+  visitedPieces enters p (type r t ∷ ps) = pick (enters r) (visitedFrom p t) [] ++ visitedPieces enters (p + words t) ps
 
   unfoldable pub visitedDeclaration : Declaration N → List (Place N)
-  visitedDeclaration d = visitedPieces 0 (entered d)
+  visitedDeclaration d = visitedPieces isEntered 0 (pieces present d)
 
   -- the positions alone
   abbrev pub positions : List (Place N) → List ℕ

@@ -5,34 +5,33 @@ ghost use mathlib.Core.List.{[], _∷_};
 ghost use Prim.Native.Nat.{_≤_, _<_, _^_};
 ghost use lib.ListN.{length};
 ghost use Rattle.buffer.specs.Wrote.{Wrote};
+ghost use Rattle.encoding.specs.Words.{maxWords};
 ghost use Rattle.encoding.specs.Tables.{nameCount};
 ghost use Rattle.encoding.specs.Tested.{Good};
 ghost use Rattle.encoding.specs.Declarations.{declarationAt};
 ghost use Rattle.accepted_types.specs.Accepted.{Readable};
-ghost use Rattle.visits.specs.Visited.{typeVisits, declarationVisits};
+ghost use Rattle.visits.specs.Visited.{isEntered, typeVisits, declarationVisits};
 ghost use Rattle.visits.specs.Calls.{filled};
-ghost use Rattle.visits.specs.Passes.{Due, Visited, enteredAfter, enteredWalk, Ahead, Going, Done, Entered, AllVisited, Fills, wholeVisits};
+ghost use Rattle.visits.specs.Passes.{Due, Visited, Passed, Ahead, Going, EntersField, Done, Entered, AllVisited, Fills, wholeVisits};
 ghost use Rattle.accept_declaration.specs.Ends.{heldAt};
-ghost use Rattle.declaration_walk.specs.Walks.{FieldNext};
 ghost use Rattle.accept_declaration.specs.declared.Whole.the-variants.{AType, ADeclaration};
 use accepted_types::Spot;
 use declaration_walk::After;
 use declaration_walk::Next;
+use declaration_walk::Role;
 use declaration_walk::Start;
 use declaration_walk::Walk;
 use accept_declaration::Whole;
 use encoding::Check;
 use encoding::Refusal;
 use encoding::Scan;
+use encoding::words::T_SYNONYM;
 
 // The length of the list that fills the front of the buffer, or a refusal: then the buffer is as it was.
 pub enum VisitAnswer {
     Count(usize),
     Refused(Refusal),
 }
-
-// A synonym's kind.
-const SYNONYM: u32 = 23;
 
 // One position, if the buffer goes so far. It counts either way.
 fn put_place(place: usize, out: &mut [u32], pos: usize) -> usize
@@ -66,7 +65,7 @@ fn visit_types(
     while 0 < left {
         let w = words[place];
         p = put_place(place, out, p);
-        if w == SYNONYM {
+        if w == T_SYNONYM {
             let shown = visit_type(words, pairs, text, place + 1, out, p);
             place = accepted_types::skip_type(words, pairs, text, shown.next);
             left -= 1;
@@ -100,7 +99,7 @@ fn visit_type(
     let mut p = pos;
     while 0 < left {
         let w = words[place];
-        if w == SYNONYM {
+        if w == T_SYNONYM {
             let rest = visit_types(words, pairs, text, place, left, out, p);
             return Spot {
                 next: rest.next,
@@ -120,32 +119,37 @@ fn visit_type(
 
 // ---- declarations
 
-// What follows the parameters, as far as the visitor goes.
-fn entered_after(after: After) -> After
-    ensures { λ r. ⌜ r ≡ enteredAfter after ⌝ }
+// Whether the source's visitor enters the types of a role: a struct's fields are not visited.
+fn is_entered(role: Role) -> bool
+    ensures { λ r. ⌜ r ≡ isEntered role ⌝ }
 {
-    match after {
-        After::FieldList => After::NoMore,
-        After::CaseList => After::CaseList,
-        After::OneType => After::OneType,
-        After::NoMore => After::NoMore,
+    match role {
+        Role::Constraint => true,
+        Role::StructField => false,
+        Role::CaseField => true,
+        Role::Aliased => true,
     }
 }
 
-// The walk that ends where the visitor does.
-fn entered_walk(walk: Walk) -> Walk
-    ensures { λ r. ⌜ r ≡ enteredWalk walk ⌝ }
+// The type at `at`, which was accepted: visited if its role is entered, else passed over.
+fn pass_type(
+    words: &[u32],
+    pairs: &[u32],
+    text: &[u8],
+    role: Role,
+    at: usize,
+    out: &mut [u32],
+    pos: usize,
+) -> Spot
+    requires { ⌜ Due (now words) (now pairs) (now text) at 1 pos ⌝ }
+    ensures { λ r. ⌜ Passed (now (words .entry)) (now (pairs .entry)) (now (text .entry)) role at (now (out .entry)) pos (now (out .exit)) r ⌝ }
 {
-    let own = walk.after;
-    let after = entered_after(own);
-    Walk {
-        place: walk.place,
-        types: walk.types,
-        parameters: walk.parameters,
-        after,
-        kind: walk.kind,
-        fields: walk.fields,
-        cases: walk.cases,
+    if is_entered(role) {
+        return visit_types(words, pairs, text, at, 1, out, pos);
+    }
+    Spot {
+        next: accepted_types::skip_type(words, pairs, text, at),
+        pos,
     }
 }
 
@@ -164,7 +168,7 @@ fn visit_fields(
     out: &mut [u32],
     pos: usize,
 ) -> Reached
-    requires { ⌜ Ahead (now words) (now pairs) (now text) walk × FieldNext walk × (pos ≤ walk .place) ⌝ }
+    requires { ⌜ Ahead (now words) (now pairs) (now text) walk × EntersField walk × (pos ≤ walk .place) ⌝ }
     ensures { λ r. ⌜ Going (now (words .entry)) (now (pairs .entry)) (now (text .entry)) walk (now (out .entry)) pos (r .walk) (now (out .exit)) (r .pos)
         × (walk .place < r .walk .place) ⌝ }
 {
@@ -178,17 +182,37 @@ fn visit_fields(
     Reached { walk: w, pos: p }
 }
 
-// Whether nothing is left to a walk. A struct without parameters needs no further step.
+// Whether a field comes next whose type is entered.
+fn enters_field(walk: Walk) -> bool
+    ensures { λ r. ⌜ (r ≡ true → EntersField walk) ⌝ }
+{
+    let role = walk.role;
+    if declaration_walk::is_field_next(walk) {
+        return is_entered(role);
+    }
+    false
+}
+
+// Whether nothing is left to a walk that is entered. A struct without parameters needs no further step.
 fn is_done(walk: Walk) -> bool
     ensures { λ r. ⌜ (r ≡ true → Done walk) ⌝ }
 {
+    let after = walk.after;
+    if walk.types != 0 {
+        return false;
+    }
+    if walk.parameters != 0 {
+        return false;
+    }
     if walk.cases != 0 {
         return false;
     }
-    if walk.fields != 0 {
-        return false;
+    match after {
+        After::FieldList(role) => !is_entered(role),
+        After::CaseList => false,
+        After::OneType => false,
+        After::NoMore => walk.fields == 0,
     }
-    declaration_walk::is_at_members(walk)
 }
 
 // The types that a walk comes to, which were accepted. The answer is how many positions there are.
@@ -206,7 +230,7 @@ fn visit_walk(
     let mut w = walk;
     let mut p = 0;
     loop {
-        if declaration_walk::is_field_next(w) {
+        if enters_field(w) {
             let behind = visit_fields(words, pairs, text, w, out, p);
             w = behind.walk;
             p = behind.pos;
@@ -220,8 +244,8 @@ fn visit_walk(
                 w = next;
                 continue;
             }
-            Next::TypeDue(next) => {
-                let spot = visit_types(words, pairs, text, w.place, 1, out, p);
+            Next::TypeDue(role, next) => {
+                let spot = pass_type(words, pairs, text, role, w.place, out, p);
                 w = declaration_walk::move_to(next, spot.next);
                 p = spot.pos;
             }
@@ -233,12 +257,12 @@ fn visit_walk(
 
 // The declaration at 0, which was accepted.
 fn visit_declaration(words: &[u32], pairs: &[u32], text: &[u8], out: &mut [u32]) -> usize
-    requires { ⌜ (length (now words) ≤ 8192) × Readable (declarationAt (now words) (now pairs) (now text) 0) ⌝ }
+    requires { ⌜ (length (now words) ≤ maxWords) × Readable (declarationAt (now words) (now pairs) (now text) 0) ⌝ }
     ensures { λ r. ⌜ AllVisited ADeclaration (now (words .entry)) (now (pairs .entry)) (now (text .entry)) (now (out .entry)) (now (out .exit)) r ⌝ }
 {
     let bound = encoding::name_count(pairs);
     match declaration_walk::start_walk(words, bound, 0) {
-        Start::Begun(walk) => visit_walk(words, pairs, text, bound, entered_walk(walk), out),
+        Start::Begun(walk) => visit_walk(words, pairs, text, bound, walk, out),
         Start::NotBegun(_) => 0,
     }
 }
@@ -247,7 +271,7 @@ fn visit_declaration(words: &[u32], pairs: &[u32], text: &[u8], out: &mut [u32])
 
 // The type or the declaration at 0, which was accepted.
 fn visit_whole(what: Whole, words: &[u32], pairs: &[u32], text: &[u8], out: &mut [u32]) -> usize
-    requires { ⌜ (length (now words) ≤ 8192) × Readable (heldAt what (now words) (now pairs) (now text)) ⌝ }
+    requires { ⌜ (length (now words) ≤ maxWords) × Readable (heldAt what (now words) (now pairs) (now text)) ⌝ }
     ensures { λ r. ⌜ AllVisited what (now (words .entry)) (now (pairs .entry)) (now (text .entry)) (now (out .entry)) (now (out .exit)) r ⌝ }
 {
     match what {
@@ -268,7 +292,7 @@ fn fill_short(
     text: &[u8],
     out: &mut [u32],
 ) -> VisitAnswer
-    requires { ⌜ (length (now words) ≤ 8192) × Fills what (now words) (now pairs) (now text) ⌝ }
+    requires { ⌜ (length (now words) ≤ maxWords) × Fills what (now words) (now pairs) (now text) ⌝ }
     ensures { λ r. ⌜ (r, now (out .exit)) ≡ filled (now (out .entry)) (wholeVisits what (now (words .entry)) (now (pairs .entry)) (now (text .entry))) ⌝ }
 {
     let mut none = [0u32; 0];
@@ -280,7 +304,7 @@ fn fill_short(
 
 // The list of the type that fills the words.
 fn fill_type(words: &[u32], pairs: &[u32], text: &[u8], out: &mut [u32]) -> VisitAnswer
-    requires { ⌜ Good (now pairs) (now text) × (length (now words) ≤ 8192) ⌝ }
+    requires { ⌜ Good (now pairs) (now text) × (length (now words) ≤ maxWords) ⌝ }
     ensures { λ r. ⌜ (r, now (out .exit)) ≡ filled (now (out .entry)) (wholeVisits AType (now (words .entry)) (now (pairs .entry)) (now (text .entry))) ⌝ }
 {
     match accept_type::accept_type(words, pairs, text, 0, 0) {
@@ -300,7 +324,7 @@ fn fill_type(words: &[u32], pairs: &[u32], text: &[u8], out: &mut [u32]) -> Visi
 
 // The list of the declaration that fills the words.
 fn fill_declaration(words: &[u32], pairs: &[u32], text: &[u8], out: &mut [u32]) -> VisitAnswer
-    requires { ⌜ Good (now pairs) (now text) × (length (now words) ≤ 8192) ⌝ }
+    requires { ⌜ Good (now pairs) (now text) × (length (now words) ≤ maxWords) ⌝ }
     ensures { λ r. ⌜ (r, now (out .exit)) ≡ filled (now (out .entry)) (wholeVisits ADeclaration (now (words .entry)) (now (pairs .entry)) (now (text .entry))) ⌝ }
 {
     match accept_declaration::accept_declaration(words, pairs, text, 0) {

@@ -4,6 +4,28 @@ use borrow.Author.Needs.{needs}
 use Rattle.visits.proofs.visit_declaration.Statement.{statement}
 use Rattle.visits.proofs.visit_declaration.Tie as tie
 
+visit-walk-requires : tie.Need-visit-walk-requires
+visit-walk-requires c κs =
+    let s = c .before .before .before .before .before .before .before .before .before .before in
+    let a = s .args in
+    let n = c .before .before .before .before .before .name-count .ensures in
+    let b = begun (a .words .now) (a .pairs .now) (a .text .now) (rw n at (c .before .before .before .before .start-walk .ensures)) (c .before .before .walk .given .1) in
+    (n, entered-ahead (a .words .now) (a .pairs .now) (a .text .now) (s .pre .0) (s .pre .1) b)
+
+returns : tie.Need-returns
+returns c =
+    let s = c .before .before .before .before .before .before .before .before .before .before .before .before .before in
+    let a = s .args in
+    let n = c .before .before .before .before .before .before .before .before .name-count .ensures in
+    let b = begun (a .words .now) (a .pairs .now) (a .text .now) (rw n at (c .before .before .before .before .before .before .before .start-walk .ensures)) (c .before .before .before .before .before .walk .given .1) in
+    entered-all (a .words .now) (a .pairs .now) (a .text .now) (s .pre .1) b (c .before .before .visit-walk .ensures)
+
+returns-2 : tie.Need-returns-2
+returns-2 c =
+    let s = c .before .before .before .before .before .before .before .before in
+    let a = s .args in
+    absurd (not-begun-read (a .words .now) (a .pairs .now) (a .text .now) (rw (c .before .before .before .name-count .ensures) at (c .before .before .start-walk .ensures)) (c .enum-told .given .1) (s .pre .1))
+
 name-count-requires : tie.Need-name-count-requires
 name-count-requires c κs = search needs
 
@@ -13,26 +35,11 @@ start-walk-requires c κs = search needs
 enum-known-walk : tie.Need-enum-known-walk
 enum-known-walk c = search needs
 
-entered-walk-requires : tie.Need-entered-walk-requires
-entered-walk-requires c κs = search needs
-
-visit-walk-requires : tie.Need-visit-walk-requires
-visit-walk-requires c κs =
-    (c .before .before .before .before .before .before .name-count .ensures, rw (c .before .entered-walk .ensures) (entered-ahead (c .before .before .before .before .before .before .before .before .before .before .before .args .words .now) (c .before .before .before .before .before .before .before .before .before .before .before .args .pairs .now) (c .before .before .before .before .before .before .before .before .before .before .before .args .text .now) (c .before .before .before .before .before .before .before .before .before .before .before .pre .0) (c .before .before .before .before .before .before .before .before .before .before .before .pre .1) (begun (c .before .before .before .before .before .before .before .before .before .before .before .args .words .now) (c .before .before .before .before .before .before .before .before .before .before .before .args .pairs .now) (c .before .before .before .before .before .before .before .before .before .before .before .args .text .now) (rw (c .before .before .before .before .before .before .name-count .ensures) at (c .before .before .before .before .before .start-walk .ensures)) (c .before .before .before .walk .given .1))))
-
 enum-told : tie.Need-enum-told
 enum-told c = search needs
 
 same-length : tie.Need-same-length
 same-length c = search needs
-
-returns : tie.Need-returns
-returns c =
-    entered-all (c .before .before .before .before .before .before .before .before .before .before .before .before .before .before .args .words .now) (c .before .before .before .before .before .before .before .before .before .before .before .before .before .before .args .pairs .now) (c .before .before .before .before .before .before .before .before .before .before .before .before .before .before .args .text .now) (c .before .before .before .before .before .before .before .before .before .before .before .before .before .before .pre .1) (begun (c .before .before .before .before .before .before .before .before .before .before .before .before .before .before .args .words .now) (c .before .before .before .before .before .before .before .before .before .before .before .before .before .before .args .pairs .now) (c .before .before .before .before .before .before .before .before .before .before .before .before .before .before .args .text .now) (rw (c .before .before .before .before .before .before .before .before .before .name-count .ensures) at (c .before .before .before .before .before .before .before .before .start-walk .ensures)) (c .before .before .before .before .before .before .walk .given .1)) (rw (c .before .before .before .before .entered-walk .ensures) at (c .before .before .visit-walk .ensures))
-
-returns-2 : tie.Need-returns-2
-returns-2 c =
-    absurd (not-begun-read (c .before .before .before .before .before .before .before .before .args .words .now) (c .before .before .before .before .before .before .before .before .args .pairs .now) (c .before .before .before .before .before .before .before .before .args .text .now) (rw (c .before .before .before .name-count .ensures) at (c .before .before .start-walk .ensures)) (c .enum-told .given .1) (c .before .before .before .before .before .before .before .before .pre .1))
 
 pub visit-declaration-spec : {M : Type 1} → statement M
 visit-declaration-spec =
@@ -41,7 +48,6 @@ visit-declaration-spec =
     name-count-requires
     start-walk-requires
     enum-known-walk
-    entered-walk-requires
     visit-walk-requires
     enum-told
     same-length

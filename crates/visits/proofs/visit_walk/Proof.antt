@@ -1,8 +1,7 @@
 use Prim.Native.Nat.{_-_}
-use Rattle.declaration_walk.specs.Walks.{end}
 use Rattle.declaration_walk.proofs.Passes.{stepped}
 use Rattle.visits.specs.Passes.{Going}
-use Rattle.visits.proofs.Entering.{going-ahead, going-due, going-end, going-halt, going-on, going-own, going-start, going-type}
+use Rattle.visits.proofs.Entering.{going-ahead, going-done, going-due, going-end, going-halt, going-on, going-own, going-start, going-type}
 use lib.ListN.{length}
 use native.Mathlib.Omega.{arith}
 use Rattle.visits.proofs.visit_walk.Statement.{statement}
@@ -20,14 +19,14 @@ loop-holds c =
     let a = c .before .before .before .before .args in
     going-start (a .words .now) (a .pairs .now) (a .text .now) (a .walk) (a .out .now) 0 (c .before .before .before .before .pre .1) (omega arith)
 
-is-field-next-requires : tie.Need-is-field-next-requires Inv-loop μ-loop
-is-field-next-requires c κs = search needs
+enters-field-requires : tie.Need-enters-field-requires Inv-loop μ-loop
+enters-field-requires c κs = search needs
 
 visit-fields-requires : tie.Need-visit-fields-requires Inv-loop μ-loop
 visit-fields-requires c κs =
     let a = c .before .before .before .before .before .before .before .before .args in
     let g = c .before .before .before .loop .inv in
-    (going-ahead (a .words .now) (a .pairs .now) (a .text .now) (a .walk) (a .out .now) 0 g, c .before .before .is-field-next .ensures (c .before .if1 .taken), g .counted)
+    (going-ahead (a .words .now) (a .pairs .now) (a .text .now) (a .walk) (a .out .now) 0 g, c .before .before .enters-field .ensures (c .before .if1 .taken), g .counted)
 
 loop-less : tie.Need-loop-less Inv-loop μ-loop
 loop-less c = omega (arith, c .before .before .before .visit-fields .ensures .1, c .before .before .before .visit-fields .ensures .0 .inside)
@@ -46,8 +45,7 @@ same-length c = c .before .before .before .before .loop .inv .kept
 returns : tie.Need-returns Inv-loop μ-loop
 returns c =
     let a = c .before .before .before .before .before .before .before .before .before .args in
-    let d = c .before .is-done .ensures (c .if2 .taken) in
-    going-end (a .words .now) (a .pairs .now) (a .text .now) (a .walk) (a .out .now) 0 (c .before .before .before .before .loop .inv) (end (d .0) (d .1) (d .2) (d .3) (d .4))
+    going-done (a .words .now) (a .pairs .now) (a .text .now) (a .walk) (a .out .now) 0 (c .before .before .before .before .loop .inv) (c .before .is-done .ensures (c .if2 .taken))
 
 next-piece-requires : tie.Need-next-piece-requires Inv-loop μ-loop
 next-piece-requires c κs = search needs
@@ -66,13 +64,13 @@ loop-again-2 c =
     let a = c .before .before .before .before .before .before .before .before .before .before .before .before .before .args in
     going-own (a .words .now) (a .pairs .now) (a .text .now) (a .walk) (a .out .now) 0 (c .before .before .before .before .before .before .before .before .loop .inv) (stepped (a .words .now) (a .pairs .now) (c .before .before .before .before .before .before .before .before .before .before .before .before .before .pre .0) (c .before .next .given .1) (c .before .before .before .next-piece .ensures)) .next
 
-enum-known-next-2 : tie.Need-enum-known-next-2 Inv-loop μ-loop
-enum-known-next-2 c = search needs
+enum-known-role : tie.Need-enum-known-role Inv-loop μ-loop
+enum-known-role c = search needs
 
-visit-types-requires : tie.Need-visit-types-requires Inv-loop μ-loop
-visit-types-requires c κs =
+pass-type-requires : tie.Need-pass-type-requires Inv-loop μ-loop
+pass-type-requires c κs =
     let a = c .before .before .before .before .before .before .before .before .before .before .before .before .before .before .args in
-    going-due (a .words .now) (a .pairs .now) (a .text .now) (a .walk) (a .out .now) 0 (c .before .before .before .before .before .before .before .before .before .loop .inv) (stepped (a .words .now) (a .pairs .now) (c .before .before .before .before .before .before .before .before .before .before .before .before .before .before .pre .0) (c .before .before .next2 .given .1) (c .before .before .before .before .next-piece .ensures))
+    going-due (a .words .now) (a .pairs .now) (a .text .now) (a .walk) (a .out .now) 0 (c .before .before .before .before .before .before .before .before .before .loop .inv) (stepped (a .words .now) (a .pairs .now) (c .before .before .before .before .before .before .before .before .before .before .before .before .before .before .pre .0) (c .before .before .role .given .1) (c .before .before .before .before .next-piece .ensures))
 
 move-to-requires : tie.Need-move-to-requires Inv-loop μ-loop
 move-to-requires c κs = search needs
@@ -80,13 +78,13 @@ move-to-requires c κs = search needs
 loop-less-3 : tie.Need-loop-less-3 Inv-loop μ-loop
 loop-less-3 c =
     let a = c .before .before .before .before .before .before .before .before .before .before .before .before .before .before .before .before .before .before .args in
-    let g = going-type (a .words .now) (a .pairs .now) (a .text .now) (a .walk) (a .out .now) 0 (c .before .before .before .before .before .before .before .before .before .before .before .before .before .loop .inv) (stepped (a .words .now) (a .pairs .now) (c .before .before .before .before .before .before .before .before .before .before .before .before .before .before .before .before .before .before .pre .0) (c .before .before .before .before .before .before .next2 .given .1) (c .before .before .before .before .before .before .before .before .next-piece .ensures)) (c .before .before .before .visit-types .ensures) in
+    let g = going-type (a .words .now) (a .pairs .now) (a .text .now) (a .walk) (a .out .now) 0 (c .before .before .before .before .before .before .before .before .before .before .before .before .before .loop .inv) (stepped (a .words .now) (a .pairs .now) (c .before .before .before .before .before .before .before .before .before .before .before .before .before .before .before .before .before .before .pre .0) (c .before .before .before .before .before .before .role .given .1) (c .before .before .before .before .before .before .before .before .next-piece .ensures)) (c .before .before .before .pass-type .ensures) in
     rw (c .move-to .ensures) (omega (arith, g .further, g .next .inside))
 
 loop-again-3 : tie.Need-loop-again-3 Inv-loop μ-loop
 loop-again-3 c =
     let a = c .before .before .before .before .before .before .before .before .before .before .before .before .before .before .before .before .before .before .args in
-    rw (c .move-to .ensures) (going-type (a .words .now) (a .pairs .now) (a .text .now) (a .walk) (a .out .now) 0 (c .before .before .before .before .before .before .before .before .before .before .before .before .before .loop .inv) (stepped (a .words .now) (a .pairs .now) (c .before .before .before .before .before .before .before .before .before .before .before .before .before .before .before .before .before .before .pre .0) (c .before .before .before .before .before .before .next2 .given .1) (c .before .before .before .before .before .before .before .before .next-piece .ensures)) (c .before .before .before .visit-types .ensures) .next)
+    rw (c .move-to .ensures) (going-type (a .words .now) (a .pairs .now) (a .text .now) (a .walk) (a .out .now) 0 (c .before .before .before .before .before .before .before .before .before .before .before .before .before .loop .inv) (stepped (a .words .now) (a .pairs .now) (c .before .before .before .before .before .before .before .before .before .before .before .before .before .before .before .before .before .before .pre .0) (c .before .before .before .before .before .before .role .given .1) (c .before .before .before .before .before .before .before .before .next-piece .ensures)) (c .before .before .before .pass-type .ensures) .next)
 
 enum-told : tie.Need-enum-told Inv-loop μ-loop
 enum-told c = search needs
@@ -117,7 +115,7 @@ visit-walk-spec =
     Inv-loop
     μ-loop
     loop-holds
-    is-field-next-requires
+    enters-field-requires
     visit-fields-requires
     loop-less
     loop-again
@@ -128,8 +126,8 @@ visit-walk-spec =
     enum-known-next
     loop-less-2
     loop-again-2
-    enum-known-next-2
-    visit-types-requires
+    enum-known-role
+    pass-type-requires
     move-to-requires
     loop-less-3
     loop-again-3
