@@ -38,7 +38,7 @@ use Rattle.rebuild_type.specs.Attempts.{sameWords, Fills}
 use Rattle.rebuild_type.proofs.Calls.{both-given, copied-fills, run-whole}
 use Rattle.accept_declaration.specs.Ends.{heldAt}
 use Rattle.declaration_walk.specs.Pieces.{Piece, own, type, pieces, declarationTokens, encodeDeclaration}
-use Rattle.declaration_walk.specs.WithTypes.{pieceWith}
+use Rattle.declaration_walk.specs.Mapped.{pieceWith}
 use Rattle.declaration_walk.proofs.Encoded.{declaration-run}
 use Rattle.rebuild_declaration.specs.Laying.{deepestPiece, topPieces}
 use Rattle.rebuild_declaration.specs.Steps.{encodePieces}
@@ -49,6 +49,7 @@ use Rattle.accept_declaration.specs.declared.Whole.the-variants.{AType, ADeclar
 use Rattle.rebuild_calls.specs.Wholes.{laidBy, wholeRebuilt}
 use Rattle.rebuild_calls.proofs.Wholes.{tree-got, laid-ends, whole-answered}
 use Rattle.rebuild_calls.proofs.EachType.{Every, each-type, declaration-deep}
+use Rattle.encoding.specs.Forms.{present}
 
 -- a list of no rules
 no-rules : (pairs : List ℕ) (text : Bytes) → rulesOf (0 ∷ []) pairs text ≡ given []
@@ -71,18 +72,18 @@ module _ (m : Ty ℕ → Ty ℕ) where
   unfolding pieceWith
   pieces-kept [] h = refl
   pieces-kept (own k ∷ ps) h = ap (_∷_ (own k)) (pieces-kept ps h)
-  pieces-kept (type t ∷ ps) h = ap (λ (u : Ty ℕ). type u ∷ map (pieceWith (Replace m)) ps) (h .0 .replaced) ∙ ap (_∷_ (type t)) (pieces-kept ps (h .1))
+  pieces-kept (type a t ∷ ps) h = ap (λ (u : Ty ℕ). type a u ∷ map (pieceWith (Replace m)) ps) (h .0 .replaced) ∙ ap (_∷_ (type a t)) (pieces-kept ps (h .1))
 
   top-kept : (ps : List (Piece ℕ)) → Every (Kept m) ps → topPieces m ps ≡ length (encodePieces ps)
   unfolding topPieces
   top-kept [] h = sym encode-none
   top-kept (own k ∷ ps) h = let i = top-kept ps h in omega (arith, i, encode-own k ps)
-  top-kept (type t ∷ ps) h = let i = top-kept ps (h .1) in omega (arith, i, ap words (h .0 .replaced), h .0 .peaked, encode-type t ps)
+  top-kept (type a t ∷ ps) h = let i = top-kept ps (h .1) in omega (arith, i, ap words (h .0 .replaced), h .0 .peaked, encode-type a t ps)
 
-  laid-kept : (d : Declaration ℕ) → Every (Kept m) (pieces d) → laidDeclaration m d ≡ sameWords (encodeDeclaration d) (deepestPiece (pieces d))
+  laid-kept : (d : Declaration ℕ) → Every (Kept m) (pieces present d) → laidDeclaration m d ≡ sameWords (encodeDeclaration present d) (deepestPiece (pieces present d))
   unfolding encodeDeclaration declarationTokens encodePieces
   laid-kept d h =
-      alike (declaration-words m d ∙ ap encodePieces (pieces-kept (pieces d) h)) (top-kept (pieces d) h) (declaration-depth m d ∙ ap deepestPiece (pieces-kept (pieces d) h))
+      alike (declaration-words m d ∙ ap encodePieces (pieces-kept (pieces present d) h)) (top-kept (pieces present d) h) (declaration-depth m d ∙ ap deepestPiece (pieces-kept (pieces present d) h))
 
 module _ (ws pairs : List ℕ) (m : Ty ℕ → Ty ℕ) (stays : (q : ℕ) (t : Ty ℕ) → Run ws q (encode t) → m t ≡ t) where
   type-kept : {t : Ty ℕ} → treeAt ws pairs 0 ≡ got t (length ws) → laidType m t ≡ sameWords ws (depth t)
@@ -92,10 +93,10 @@ module _ (ws pairs : List ℕ) (m : Ty ℕ → Ty ℕ) (stays : (q : ℕ) (t : T
       let k = still ws pairs m stays 0 e in
       alike (ap encode (k .replaced) ∙ w) (k .peaked ∙ (let z : words t ≡ length ws = omega (arith, r .1) in z)) (ap depth (k .replaced))
 
-  declaration-kept : {d : Declaration ℕ} → declarationIn ws pairs ≡ got d (length ws) → laidDeclaration m d ≡ sameWords ws (deepestPiece (pieces d))
+  declaration-kept : {d : Declaration ℕ} → declarationIn ws pairs ≡ got d (length ws) → laidDeclaration m d ≡ sameWords ws (deepestPiece (pieces present d))
   declaration-kept {d} e =
       let r = declaration-run ws pairs 0 e in
-      laid-kept m d (each-type ws pairs (Kept m) (λ p t n i. still ws pairs m stays p i) e) ∙ ap (λ l. sameWords l (deepestPiece (pieces d))) (run-whole (r .0) (omega (arith, r .1)))
+      laid-kept m d (each-type ws pairs (Kept m) (λ p t n i. still ws pairs m stays p i) e) ∙ ap (λ l. sameWords l (deepestPiece (pieces present d))) (run-whole (r .0) (omega (arith, r .1)))
 
 -- ---- the calls
 
@@ -105,7 +106,7 @@ module _ (ws pairs : List ℕ) (m : Ty ℕ → Ty ℕ) (stays : (q : ℕ) (t : T
   unaltered-fills AType e h = let t = tree-got AType ws pairs m e in copied-fills (laidType m) depth (t .reads) (tree-deep ws pairs 0 (t .reads)) (type-kept ws pairs m stays (t .reads)) h
   unaltered-fills ADeclaration e h =
       let d = tree-got ADeclaration ws pairs m e in
-      copied-fills (laidDeclaration m) (λ x. deepestPiece (pieces x)) (d .reads) (declaration-deep ws pairs (d .reads)) (declaration-kept ws pairs m stays (d .reads)) h
+      copied-fills (laidDeclaration m) (λ x. deepestPiece (pieces present x)) (d .reads) (declaration-deep ws pairs (d .reads)) (declaration-kept ws pairs m stays (d .reads)) h
 
 -- ---- without rules
 
@@ -129,9 +130,9 @@ module _ (ws pairs : List ℕ) (text : Bytes) where
   unaltered e = same-given laidType depth (treeAt ws pairs 0) (type-kept ws pairs (mappingOf pairs text []) none-given) e
 
   pub unaltered-declaration : {d : Declaration ℕ} → unless (checkTables ws pairs text) (whole (length ws) (declarationIn ws pairs)) ≡ given d
-      → declarationRebuilt ws pairs text (0 ∷ []) ≡ given (sameWords ws (deepestPiece (pieces d)))
+      → declarationRebuilt ws pairs text (0 ∷ []) ≡ given (sameWords ws (deepestPiece (pieces present d)))
   unfolding declarationRebuilt
-  unaltered-declaration e = same-given laidDeclaration (λ x. deepestPiece (pieces x)) (declarationIn ws pairs) (declaration-kept ws pairs (mappingOf pairs text []) none-given) e
+  unaltered-declaration e = same-given laidDeclaration (λ x. deepestPiece (pieces present x)) (declarationIn ws pairs) (declaration-kept ws pairs (mappingOf pairs text []) none-given) e
 
   pub copied : (what : Whole) {s : Scan} → s ≡ ended (heldAt what ws pairs text) → (o : List ℕ) {rules o′ : List ℕ} {r : RebuildAnswer} {n : ℕ} → s ≡ At n → n ≡ length ws → rules ≡ 0 ∷ []
       → (r, o′) ≡ laidDown o (given (sameWords ws 0)) → (r, o′) ≡ laidDown o (wholeRebuilt what ws pairs text rules)

@@ -9,6 +9,7 @@ use Rattle.rast.specs.Tree.{Ty}
 use Rattle.encoding.specs.declared.Refusal.{Refusal}
 use Rattle.encoding.specs.Reading.{Reading, got}
 use Rattle.encoding.specs.Scans.{ended, mapReading}
+use Rattle.encoding.specs.Forms.{present}
 use Rattle.encoding.specs.Tables.{nameCount}
 use Rattle.encoding.specs.Tested.{Good}
 use Rattle.encoding.proofs.Tables.{impossible}
@@ -25,6 +26,7 @@ use Rattle.declaration_walk.specs.declared.Next.{Next}
 use Rattle.declaration_walk.specs.declared.Next.the-variants.{OwnWords, TypeDue, Ended, Halted}
 use Rattle.declaration_walk.specs.declared.Start.{Start}
 use Rattle.declaration_walk.specs.declared.Start.the-variants.{Begun, NotBegun}
+use Rattle.declaration_walk.specs.declared.Role.{Role}
 use Rattle.declaration_walk.specs.Pieces.{Piece, type, owned, pieces}
 use Rattle.declaration_walk.specs.Walks.{ahead, moved, pastType, inField, FieldNext, fieldType, pastField, Stepped, type-due, readOpening, started}
 use Rattle.declaration_walk.proofs.Ahead.{ahead-none, ahead-twice}
@@ -32,7 +34,7 @@ use Rattle.declaration_walk.proofs.Steps.{own-step, due-step, end-step, halt-st
 use Rattle.declaration_walk.proofs.Openings.{tokens-same}
 use Rattle.declaration_walk.proofs.OpeningRuns.{opening-run}
 use Rattle.declaration_walk.proofs.Passes.{bind-at, stepped, begun, not-begun}
-use Rattle.declaration_walk.proofs.Fronts.{behind-got, whole-left}
+use Rattle.declaration_walk.proofs.Behind.{behind-got, whole-left}
 use Rattle.declaration_walk.proofs.RenamedReading.{declaration-spelled}
 use Rattle.declaration_walk.proofs.Scans.{ended-map}
 use Rattle.rebuild_type.specs.declared.Laying.{Laying}
@@ -67,11 +69,11 @@ module _ {m : Ty ℕ → Ty ℕ} {limit p : ℕ} {o : List ℕ} where
   own-over ks e l d = let h = lays-over l d in record { over = omega (arith, h .0, own-words m ks .1, ap length e, length-map ks tokenWord); kept = h .1 }
 
   -- a type, rebuilt
-  type-done : {x : Reading (Ty ℕ)} {t : Ty ℕ} {o′ : List ℕ} {r : Rebuilt} {e n q d : ℕ} → TypeRebuilds m limit o p x o′ r → r ≡ Done n q d → x ≡ got t e → PiecesLaid m limit o p (type t ∷ []) o′ q d × (n ≡ e)
-  type-done {t = t} {o′ = o′} {q = q} k h e =
+  type-done : (a : Role) {x : Reading (Ty ℕ)} {t : Ty ℕ} {o′ : List ℕ} {r : Rebuilt} {e n q d : ℕ} → TypeRebuilds m limit o p x o′ r → r ≡ Done n q d → x ≡ got t e → PiecesLaid m limit o p (type a t ∷ []) o′ q d × (n ≡ e)
+  type-done a {t = t} {o′ = o′} {q = q} k h e =
       let b = came k h in
       let i : b .value ≡ t = cc (b .reads, e) in
-      let c = one-type m t in (
+      let c = one-type m a t in (
         record {
           fits = omega (arith, b .fits, c .1, ap (peak m) i);
           within = b .within;
@@ -81,8 +83,8 @@ module _ {m : Ty ℕ → Ty ℕ} {limit p : ℕ} {o : List ℕ} where
         cc (b .reads, e),
       )
 
-  type-over : {x : Reading (Ty ℕ)} {t : Ty ℕ} {o′ : List ℕ} {r : Rebuilt} {e : ℕ} → TypeRebuilds m limit o p x o′ r → r ≡ Full → x ≡ got t e → PiecesOver m limit o p (type t ∷ []) o′
-  type-over {t = t} k h e = let f = filled k h e in record { over = omega (arith, f .0, one-type m t .1); kept = f .1 }
+  type-over : (a : Role) {x : Reading (Ty ℕ)} {t : Ty ℕ} {o′ : List ℕ} {r : Rebuilt} {e : ℕ} → TypeRebuilds m limit o p x o′ r → r ≡ Full → x ≡ got t e → PiecesOver m limit o p (type a t ∷ []) o′
+  type-over a {t = t} k h e = let f = filled k h e in record { over = omega (arith, f .0, one-type m a t .1); kept = f .1 }
 
   -- others behind them
   over-more : {ps : List (Piece ℕ)} {o′ : List ℕ} (qs : List (Piece ℕ)) → PiecesOver m limit o p ps o′ → PiecesOver m limit o p (ps ++ qs) o′
@@ -111,11 +113,11 @@ pub record OwnLaid (ws pairs : List ℕ) (w w′ : Walk) : Type 0 where
   pub inside : w′ .place ≤ length ws
 
 -- a type
-pub record TypeLeft (ws pairs : List ℕ) (w w′ : Walk) : Type 0 where
+pub record TypeLeft (ws pairs : List ℕ) (w : Walk) (a : Role) (w′ : Walk) : Type 0 where
   pub tree : Ty ℕ
   pub end : ℕ
   pub first : treeAt ws pairs (w .place) ≡ got tree end
-  pub reads : leftIn ws pairs w ≡ ahead (type tree ∷ []) (leftIn ws pairs (moved w′ end))
+  pub reads : leftIn ws pairs w ≡ ahead (type a tree ∷ []) (leftIn ws pairs (moved w′ end))
 
 -- the words of a run of own words, which lies inside
 run-taken : {ws : List ℕ} {at : ℕ} (n : ℕ) (ks : List (Token ℕ)) → Run ws at (map tokenWord ks) → n ≡ length ks → (take n (drop at ws) ≡ map tokenWord ks) × (at + n ≤ length ws)
@@ -140,7 +142,7 @@ module _ {ws pairs : List ℕ} {text : Bytes} {rules table : List ℕ} {k : ℕ}
           inside = omega (arith, v .1, t .further);
         }
 
-    pub type-left : {w′ : Walk} → r ≡ TypeDue w′ → TypeLeft ws pairs w w′
+    pub type-left : {a : Role} {w′ : Walk} → r ≡ TypeDue a w′ → TypeLeft ws pairs w a w′
     type-left e =
         let t = due-step (nameCount pairs) ws (λ x. x) (treeAt ws pairs) w (stepped ws pairs b e h) in
         let v = bind-got (treeAt ws pairs (w .place)) _ (sym (t .reads) ∙ s .readable .reads) in
@@ -166,17 +168,17 @@ module _ {ws pairs : List ℕ} {text : Bytes} {rules table : List ℕ} {k : ℕ}
       pub own-full : r ≡ Over → Advanced m ws pairs w limit o p o′ NoSpace
       own-full e = step-over (owned (t .tokens)) (leftIn ws pairs w′) (t .reads) (own-over (t .tokens) (t .words) l e)
 
-    module _ (t : TypeLeft ws pairs w w′) {r : Rebuilt} (l : TypeRebuilds m limit o p (treeAt ws pairs (w .place)) o′ r) where
+    module _ {a : Role} (t : TypeLeft ws pairs w a w′) {r : Rebuilt} (l : TypeRebuilds m limit o p (treeAt ws pairs (w .place)) o′ r) where
       pub type-further : {n q d : ℕ} → r ≡ Done n q d → Advanced m ws pairs w limit o p o′ (Further (moved w′ n) q d)
       type-further {n} e =
-          let b = type-done l e (t .first) in
+          let b = type-done a l e (t .first) in
           let v = tree-run ws pairs (w .place) (s .inside) (t .first) in
           let h : w .place < n = omega (arith, b .1, v .1, words-some (t .tree)) in
           let i : n ≤ length ws = omega (arith, b .1, v .1, v .0 .ends, encode-words (t .tree)) in
-          further (type (t .tree) ∷ []) (t .reads ∙ ap (λ x. ahead (type (t .tree) ∷ []) (leftIn ws pairs (moved w′ x))) (sym (b .1))) h i (b .0)
+          further (type a (t .tree) ∷ []) (t .reads ∙ ap (λ x. ahead (type a (t .tree) ∷ []) (leftIn ws pairs (moved w′ x))) (sym (b .1))) h i (b .0)
 
       pub type-full : r ≡ Full → Advanced m ws pairs w limit o p o′ NoSpace
-      type-full e = step-over (type (t .tree) ∷ []) (leftIn ws pairs (moved w′ (t .end))) (t .reads) (type-over l e (t .first))
+      type-full e = step-over (type a (t .tree) ∷ []) (leftIn ws pairs (moved w′ (t .end))) (t .reads) (type-over a l e (t .first))
 
 -- ---- the walk
 
@@ -266,7 +268,7 @@ module _ {ws pairs : List ℕ} {text : Bytes} {rules table : List ℕ} {k : ℕ}
       pub field-ready : Ready ws pairs text rules table k inner o₁ q limit
       field-ready = field-begun .ready
 
-      field-left : TypeLeft ws pairs inner (pastType inner)
+      field-left : TypeLeft ws pairs inner (w .role) (pastType inner)
       field-left = type-left field-ready refl (type-due (omega arith)) refl
 
       pub field-readable : Readable (treeAt ws pairs at)
@@ -326,13 +328,13 @@ module _ (ws pairs : List ℕ) (text : Bytes) (c : Readable (declarationIn ws pa
     pub tokens : List (Token ℕ)
     pub left : List (Piece ℕ)
     pub reads : leftIn ws pairs w ≡ got left (c .end)
-    pub parts : pieces (c .value) ≡ owned tokens ++ left
+    pub parts : pieces present (c .value) ≡ owned tokens ++ left
     pub words : take (w .place) (drop 0 ws) ≡ map tokenWord tokens
     pub inside : w .place ≤ length ws
 
-  module _ {bound : ℕ} {r : Start} (b : bound ≡ nameCount pairs) (e : r ≡ started (readOpening bound ws 0)) where
-    begins : r ≡ started (readOpening (nameCount pairs) ws 0)
-    begins = e ∙ ap (λ n. started (readOpening n ws 0)) b
+  module _ {bound : ℕ} {r : Start} (b : bound ≡ nameCount pairs) (e : r ≡ started (readOpening present bound ws 0)) where
+    begins : r ≡ started (readOpening present (nameCount pairs) ws 0)
+    begins = e ∙ ap (λ n. started (readOpening present n ws 0)) b
 
     pub opens : {w : Walk} → r ≡ Begun w → Opened w
     opens d =
@@ -364,7 +366,7 @@ module _ (ws pairs : List ℕ) (text : Bytes) (c : Readable (declarationIn ws pa
 
     module _ (m : Ty ℕ → Ty ℕ) where
       declared-over : {o′ : List ℕ} → PiecesOver m limit o 0 (owned (k .tokens) ++ k .left) o′ → DeclarationRebuilds m limit o (declarationIn ws pairs) o′ Full
-      declared-over {o′} f = let g : PiecesOver m limit o 0 (pieces (c .value)) o′ = rw (k .parts) f in full (c .reads) (g .over) (g .kept)
+      declared-over {o′} f = let g : PiecesOver m limit o 0 (pieces present (c .value)) o′ = rw (k .parts) f in full (c .reads) (g .over) (g .kept)
 
       -- its own words do not fit
       pub opening-over : l ≡ Over → DeclarationRebuilds m limit o (declarationIn ws pairs) o₁ Full
@@ -382,7 +384,7 @@ module _ (ws pairs : List ℕ) (text : Bytes) (c : Readable (declarationIn ws pa
               let y : k .left ≡ ps = cc (k .reads, x) in
               let j : c .end ≡ n = cc (k .reads, x) in
               let t : PiecesLaid m limit o₁ q ps o₂ q′ d = record { fits = f; within = v; grown = g; deeps = i } in
-              let a : PiecesLaid m limit o 0 (pieces (c .value)) o₂ q′ d = rw (k .parts, y) (laid-then front t (omega arith)) in
+              let a : PiecesLaid m limit o 0 (pieces present (c .value)) o₂ q′ d = rw (k .parts, y) (laid-then front t (omega arith)) in
               rebuilt (c .reads ∙ ap (got (c .value)) j) (a .fits) (a .within) (rw (declaration-words m (c .value)) (a .grown)) (a .deeps ∙ sym (declaration-depth m (c .value)))
           go (full {a = ps} x f i) =
               let y : k .left ≡ ps = cc (k .reads, x) in

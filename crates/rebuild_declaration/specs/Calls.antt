@@ -23,7 +23,7 @@ declarationIn ws pairs = readDeclaration present (nameCount pairs) ws (λ x. x) 
 
 -- a declaration rebuilt by a mapping
 abbrev pub laidDeclaration : (Ty ℕ → Ty ℕ) → Declaration ℕ → Laid
-laidDeclaration m d = record { words = encodeDeclaration (ReplaceModDecl m d); top = topPieces m (pieces d); deep = deepestPiece (pieces (ReplaceModDecl m d)) }
+laidDeclaration m d = record { words = encodeDeclaration present (ReplaceModDecl m d); top = topPieces m (pieces present d); deep = deepestPiece (pieces present (ReplaceModDecl m d)) }
 
 -- the declaration that an encoding holds, rebuilt by the rules of a list
 unfoldable pub declarationRebuilt : List ℕ → List ℕ → Bytes → List ℕ → Answer Laid

@@ -11,10 +11,10 @@ use Rattle.declaration_walk.specs.Pieces.{Piece, own, type}
 unfoldable pub deepestPiece : {N : Type 0} → List (Piece N) → ℕ
 deepestPiece [] = 0
 deepestPiece (own k ∷ ps) = deepestPiece ps
-deepestPiece (type t ∷ ps) = max (depth t) (deepestPiece ps)
+deepestPiece (type r t ∷ ps) = max (depth t) (deepestPiece ps)
 
 -- the most words that lie there while pieces are laid down, their types rebuilt
 unfoldable pub topPieces : {N : Type 0} → (Ty N → Ty N) → List (Piece N) → ℕ
 topPieces m [] = 0
 topPieces m (own k ∷ ps) = 1 + topPieces m ps
-topPieces m (type t ∷ ps) = max (peak m t) (words (Replace m t) + topPieces m ps)
+topPieces m (type r t ∷ ps) = max (peak m t) (words (Replace m t) + topPieces m ps)

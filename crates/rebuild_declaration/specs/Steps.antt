@@ -7,6 +7,7 @@ use Rattle.rast.specs.Bytes.{Bytes}
 use Rattle.rast.specs.Tree.{Ty}
 use Rattle.rast.specs.Declaration.{Declaration}
 use Rattle.encoding.specs.Reading.{Reading, got}
+use Rattle.encoding.specs.Forms.{present}
 use Rattle.encoding.specs.Tables.{nameCount}
 use Rattle.encoding.specs.Tested.{Good}
 use Rattle.tree_words.specs.Encode.{tokenWord}
@@ -16,7 +17,7 @@ use Rattle.rebuild_spec.specs.Replace.{Replace}
 use Rattle.declaration_walk.specs.declared.Walk.{Walk}
 use Rattle.declaration_walk.specs.Pieces.{Piece, runs, pieceTokens}
 use Rattle.declaration_walk.specs.Walks.{ahead, leftOf, pastField}
-use Rattle.declaration_walk.specs.WithTypes.{pieceWith}
+use Rattle.declaration_walk.specs.Mapped.{pieceWith}
 use Rattle.rebuild_type.specs.declared.Rebuilt.{Rebuilt}
 use Rattle.rebuild_type.specs.declared.Rebuilt.the-variants.{Done, Full}
 use Rattle.rebuild_type.specs.Laid.{Grown, Rebuilds, Ruled}
@@ -38,7 +39,7 @@ rebuiltDepth m ps = deepestPiece (map (pieceWith (Replace m)) ps)
 
 -- what is left of a declaration to a walk, by name numbers
 abbrev pub leftIn : List ℕ → List ℕ → Walk → Reading (List (Piece ℕ))
-leftIn ws pairs w = leftOf (nameCount pairs) ws (λ x. x) (treeAt ws pairs) w
+leftIn ws pairs w = leftOf present (nameCount pairs) ws (λ x. x) (treeAt ws pairs) w
 
 -- they were rebuilt, or more words would lie there than the limit
 abbrev pub PiecesRebuild : (Ty ℕ → Ty ℕ) → ℕ → List ℕ → ℕ → Reading (List (Piece ℕ)) → List ℕ → Rebuilt → Type 0

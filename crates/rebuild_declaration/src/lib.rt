@@ -55,7 +55,7 @@ fn lay_next(
                 Laying::Over => Advance::NoSpace,
             }
         }
-        Next::TypeDue(next) => match rebuild_type::rebuild_type(
+        Next::TypeDue(_, next) => match rebuild_type::rebuild_type(
             words,
             pairs,
             text,

@@ -20,6 +20,10 @@ use Rattle.rebuild_spec.proofs.Nodes.{depth-node, depth-words}
 use Rattle.rebuild_rules.specs.declared.Deep.{Deep}
 use Rattle.rebuild_rules.specs.Scans.{Deepens}
 
+-- one type is due, and as many behind its head as follow it
+pub alone : {d k : ℕ} → d ≡ 1 - 1 + k → d ≡ k
+alone e = omega (arith, e)
+
 -- a pass over the types of x: those from `place` on are left, and those before it are `found` deep
 pub record Deepening (ws pairs : List ℕ) (x : Reading (Tys ℕ)) (place found left : ℕ) : Type 0 where
   pub types : Tys ℕ

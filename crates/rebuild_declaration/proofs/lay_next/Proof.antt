@@ -8,7 +8,7 @@ use Rattle.rebuild_declaration.proofs.lay_next.Tie as tie
 own : (c : tie.After-next) → let s = c .before .before .before .before .before .before .before .before .before in OwnLaid (s .args .words .now) (s .args .pairs .now) (s .args .walk) (c .next .given .0 .0)
 own c = own-laid (c .before .before .before .before .before .before .before .before .before .pre) (c .before .before .before .name-count .ensures) (c .before .before .next-piece .ensures) (c .next .given .1)
 
-due : (c : tie.After-next2) → let s = c .before .before .before .before .before .before .before .before .before in TypeLeft (s .args .words .now) (s .args .pairs .now) (s .args .walk) (c .next2 .given .0 .0)
+due : (c : tie.After-next2) → let s = c .before .before .before .before .before .before .before .before .before in TypeLeft (s .args .words .now) (s .args .pairs .now) (s .args .walk) (c .next2 .given .0 .0) (c .next2 .given .0 .1 .0)
 due c = type-left (c .before .before .before .before .before .before .before .before .before .pre) (c .before .before .before .name-count .ensures) (c .before .before .next-piece .ensures) (c .next2 .given .1)
 
 name-count-requires : tie.Need-name-count-requires

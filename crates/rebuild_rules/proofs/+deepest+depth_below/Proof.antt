@@ -1,8 +1,6 @@
 use Prim.Native.Nat.{_*_, _+_, _-_, _<_, _≤_, ℕ}
-use mathlib.Core.Path.{_≡_}
-use Rattle.encoding.specs.HeadWords.{typesBelow}
 use Rattle.encoding.specs.Types.{readTypes}
-use Rattle.rebuild_rules.proofs.Depths.{Deepening, deepening-ends, deepening-starts, head-due, inner}
+use Rattle.rebuild_rules.proofs.Depths.{Deepening, alone, deepening-ends, deepening-starts, head-due, inner}
 use Rattle.tree_words.specs.Numbered.{treeAt}
 use lib.ListN.{length}
 use native.Mathlib.Omega.{arith}
@@ -62,14 +60,14 @@ deepest-depth-below-requires t c κs =
     let l = c .before .before .loop in
     let s = inner (c .before .loop-test .taken) (l .inv .1) in
     let e = c .pass-head .ensures in
-    let d : c .pass-head .result .due ≡ typesBelow _ _ = omega (arith, e .1) in
+    let d = alone (e .1) in
     (omega (arith, c .before .before .before .before .before .pre .0, e .0, s .ahead, s .inside, l .inv .0), (omega (arith, e .0, s .inside), rw (e .0, d) (s .readable)))
 
 deepest-add-larger : (t : ℕ) → deepest-lts.Need-add-larger (deepest-calls t) (deepest-at t) deepest.Post deepest-Inv-loop deepest-μ-loop
 deepest-add-larger t c =
     let s = inner (c .before .before .before .loop-test .taken) (c .before .before .before .before .loop .inv .1) in
     let e = c .before .before .pass-head .ensures in
-    let d : c .before .before .pass-head .result .due ≡ typesBelow _ _ = omega (arith, e .1) in
+    let d = alone (e .1) in
     omega (arith, s .small _ (rw (e .0, d) at (c .before .depth-below .ensures)))
 
 deepest-larger-requires : (t : ℕ) → deepest-lts.Need-larger-requires (deepest-calls t) (deepest-at t) deepest.Post deepest-Inv-loop deepest-μ-loop
@@ -86,7 +84,7 @@ deepest-loop-again t c =
     let l = c .before .before .before .before .before .loop in
     let s = inner (c .before .before .before .before .loop-test .taken) (l .inv .1) in
     let e = c .before .before .before .pass-head .ensures in
-    let k : c .before .before .before .pass-head .result .due ≡ typesBelow _ _ = omega (arith, e .1) in
+    let k = alone (e .1) in
     let d = rw (e .0, k) at (c .before .before .depth-below .ensures) in
     (omega (arith, l .inv .0, s .past _ d), s .next _ _ d (c .larger .ensures))
 
