@@ -2,7 +2,7 @@
 ghost use mathlib.Core.Path.{_≡_};
 ghost use Prim.Native.Nat.{_-_, _^_, _≤_, _<_};
 ghost use lib.ListN.{length};
-ghost use Rattle.encoding.specs.Words.{maxWords};
+ghost use Rattle.encoding.specs.Words.{plainKinds, maxWords, maxDepth};
 ghost use Rattle.encoding.specs.Reading.{readWord, readBelow};
 ghost use Rattle.encoding.specs.Tables.{nameBytes, nameCount};
 ghost use Rattle.encoding.specs.Tested.{Good};
@@ -17,7 +17,23 @@ use encoding::PathAt;
 use encoding::Refusal;
 use encoding::Scan;
 use encoding::WordScan;
+use encoding::words::ARRAY;
+use encoding::words::BORROWED;
+use encoding::words::BORROWED_MUT;
+use encoding::words::DYN_TYPE;
+use encoding::words::FLAGS;
+use encoding::words::FN_TYPE;
+use encoding::words::IMPL_TYPE;
+use encoding::words::INTERSECTION_TYPE;
+use encoding::words::MAX_DEPTH;
 use encoding::words::PLAIN_KINDS;
+use encoding::words::ROOTS;
+use encoding::words::T_IDENTIFIER;
+use encoding::words::T_META_DATA;
+use encoding::words::T_SYNONYM;
+use encoding::words::TUPLE_TYPE;
+use encoding::words::TYPE_APP;
+use encoding::words::TYPE_FROM_PATH;
 
 // A head: where its own words end, and if types follow, how many.
 enum OwnScan {
@@ -52,7 +68,7 @@ fn own_name(words: &[u32], bound: usize, at: usize) -> OwnScan
 
 // The head of a path, from its names.
 fn own_names(words: &[u32], bound: usize, path: PathAt) -> OwnScan
-    requires { ⌜ (length (now words) ≤ 8192) × (path .start ≤ length (now words)) ⌝ }
+    requires { ⌜ (length (now words) ≤ maxWords) × (path .start ≤ length (now words)) ⌝ }
     ensures { λ r. ⌜ Scanned (headOfPath (namesPath bound (now (words .entry)) path)) r ⌝ }
 {
     let mut i = path.start;
@@ -72,10 +88,10 @@ fn own_names(words: &[u32], bound: usize, path: PathAt) -> OwnScan
 
 // A path's head.
 fn own_path(words: &[u32], bound: usize, at: usize) -> OwnScan
-    requires { ⌜ length (now words) ≤ 8192 ⌝ }
+    requires { ⌜ length (now words) ≤ maxWords ⌝ }
     ensures { λ r. ⌜ Scanned (pathHead bound (now (words .entry)) at) r ⌝ }
 {
-    match encoding::scan_below(words, 3, at) {
+    match encoding::scan_below(words, ROOTS, at) {
         WordScan::Word {
             value: root,
             next: p,
@@ -131,47 +147,47 @@ fn own_one(words: &[u32], bound: usize, at: usize) -> OwnScan
     }
 }
 
-// The head of kind `w`, 12 or above, whose further words begin at `at`.
+// The head of kind `w`, no plain type, whose further words begin at `at`.
 fn own_after(words: &[u32], bound: usize, w: u32, at: usize) -> OwnScan
-    requires { ⌜ (12 ≤ w) × (bound < 2 ^ 63) × (length (now words) ≤ 8192) ⌝ }
+    requires { ⌜ (plainKinds ≤ w) × (bound < 2 ^ 63) × (length (now words) ≤ maxWords) ⌝ }
     ensures { λ r. ⌜ Scanned (headAfter bound (now (words .entry)) w at) r ⌝ }
 {
     match w {
-        12 => own_name(words, bound, at),
-        13 => own_path(words, bound, at),
-        14 => own_more(words, at),
-        15 => OwnScan::Node { next: at, kids: 1 },
-        16 => OwnScan::Node { next: at, kids: 1 },
-        17 => OwnScan::Node { next: at, kids: 1 },
-        18 => OwnScan::Node { next: at, kids: 1 },
-        19 => own_tuple(words, at),
-        20 => own_more(words, at),
-        21 => OwnScan::Node { next: at, kids: 2 },
-        22 => own_one(words, bound + 1, at),
-        23 => OwnScan::Node { next: at, kids: 2 },
-        24 => own_one(words, 4, at),
+        T_IDENTIFIER => own_name(words, bound, at),
+        TYPE_FROM_PATH => own_path(words, bound, at),
+        TYPE_APP => own_more(words, at),
+        BORROWED => OwnScan::Node { next: at, kids: 1 },
+        BORROWED_MUT => OwnScan::Node { next: at, kids: 1 },
+        IMPL_TYPE => OwnScan::Node { next: at, kids: 1 },
+        DYN_TYPE => OwnScan::Node { next: at, kids: 1 },
+        TUPLE_TYPE => own_tuple(words, at),
+        FN_TYPE => own_more(words, at),
+        INTERSECTION_TYPE => OwnScan::Node { next: at, kids: 2 },
+        ARRAY => own_one(words, bound + 1, at),
+        T_SYNONYM => OwnScan::Node { next: at, kids: 2 },
+        T_META_DATA => own_one(words, FLAGS, at),
         _ => OwnScan::NoNode(Refusal::UnknownWord),
     }
 }
 
 // The head at `at`.
 fn scan_own(words: &[u32], bound: usize, at: usize) -> OwnScan
-    requires { ⌜ (bound < 2 ^ 63) × (length (now words) ≤ 8192) ⌝ }
+    requires { ⌜ (bound < 2 ^ 63) × (length (now words) ≤ maxWords) ⌝ }
     ensures { λ r. ⌜ Scanned (readHead bound (now (words .entry)) at) r ⌝ }
 {
     if words.len() <= at {
         return OwnScan::NoNode(Refusal::EndsEarly);
     }
     let w = words[at];
-    if w < 12 {
+    if w < PLAIN_KINDS {
         return OwnScan::Leaf(at + 1);
     }
     own_after(words, bound, w, at + 1)
 }
 
 // The walk behind the innermost level: the one around it is taken up.
-fn leave(levels: &[u16; 64], walk: Walk) -> Walk
-    requires { ⌜ (0 < walk .depth) × (walk .depth ≤ 64) ⌝ }
+fn leave(levels: &[u16; MAX_DEPTH], walk: Walk) -> Walk
+    requires { ⌜ (0 < walk .depth) × (walk .depth ≤ maxDepth) ⌝ }
     ensures { λ r. ⌜ (passOf r ≡ leaving (passLevels (now (levels .entry))) (passOf walk)) × (r .due < 2 ^ 15) ⌝ }
 {
     let above = walk.depth - 1;
@@ -184,8 +200,8 @@ fn leave(levels: &[u16; 64], walk: Walk) -> Walk
 }
 
 // The walk behind all levels that have ended.
-fn settle(levels: &[u16; 64], walk: Walk) -> Walk
-    requires { ⌜ (walk .depth ≤ 64) × (walk .due ≤ 2 ^ 15) ⌝ }
+fn settle(levels: &[u16; MAX_DEPTH], walk: Walk) -> Walk
+    requires { ⌜ (walk .depth ≤ maxDepth) × (walk .due ≤ 2 ^ 15) ⌝ }
     ensures { λ r. ⌜ Outward (passLevels (now (levels .entry))) (passOf walk) (passOf r) × (r .due ≡ 0 → r .depth ≡ 0) ⌝ }
 {
     let mut p = walk;
@@ -199,8 +215,8 @@ fn settle(levels: &[u16; 64], walk: Walk) -> Walk
 }
 
 // The walk behind a head that ends at `next`, one level down.
-fn enter(levels: &mut [u16; 64], walk: Walk, next: usize, kids: u64) -> Walk
-    requires { ⌜ (0 < walk .due) × (walk .due ≤ 2 ^ 15) × (walk .depth < 64) ⌝ }
+fn enter(levels: &mut [u16; MAX_DEPTH], walk: Walk, next: usize, kids: u64) -> Walk
+    requires { ⌜ (0 < walk .due) × (walk .due ≤ 2 ^ 15) × (walk .depth < maxDepth) ⌝ }
     ensures { λ r. ⌜ (passOf r ≡ under (passOf walk) next kids 0 0) × (passLevels (now (levels .exit)) ≡ pushed (passLevels (now (levels .entry))) (passOf walk)) ⌝ }
 {
     let depth = walk.depth;
@@ -224,16 +240,19 @@ fn past_leaf(walk: Walk, next: usize) -> Walk
     }
 }
 
+// How many levels are open where the deepest types stand.
+const DEEPEST: usize = MAX_DEPTH - 1;
+
 // One step of the pass: a head, and the levels that end with it. The types behind a head may be too deep: this is tested where a level opens, and so not at each head.
 fn advance(
     words: &[u32],
     pairs: &[u32],
     text: &[u8],
     bound: usize,
-    levels: &mut [u16; 64],
+    levels: &mut [u16; MAX_DEPTH],
     walk: Walk,
 ) -> Step
-    requires { ⌜ (bound ≡ nameCount (now pairs)) × Good (now pairs) (now text) × (length (now words) ≤ 8192)
+    requires { ⌜ (bound ≡ nameCount (now pairs)) × Good (now pairs) (now text) × (length (now words) ≤ maxWords)
         × Kept (now words) (passLevels (now levels)) (passOf walk) ⌝ }
     ensures { λ r. ⌜ Stepped (now (words .entry)) (now (pairs .entry)) (now (text .entry)) (passLevels (now (levels .entry))) (passOf walk) (passLevels (now (levels .exit))) (passStep r) ⌝ }
 {
@@ -246,7 +265,7 @@ fn advance(
             Step::On(p)
         }
         OwnScan::Node { next, kids } => {
-            if walk.depth == 63 {
+            if walk.depth == DEEPEST {
                 return Step::Halt(Refusal::TooDeep);
             }
             Step::On(enter(levels, walk, next, kids))
@@ -258,15 +277,15 @@ fn advance(
 // Where the type at `at` ends, or the refusal that is met first. `inside` types stand around it: it may be so much less deep. The steps are lent a copy of the slice,
 // since one that is only read here is handed over in registers.
 pub fn accept_type(words: &[u32], pairs: &[u32], text: &[u8], at: usize, inside: usize) -> Scan
-    requires { ⌜ Good (now pairs) (now text) × (length (now words) ≤ 8192) × (inside < 64) ⌝ }
-    ensures { λ r. ⌜ r ≡ ended (readType (nameCount (now (pairs .entry))) (now (words .entry)) (nameBytes (now (pairs .entry)) (now (text .entry))) (64 - inside) at) ⌝ }
+    requires { ⌜ Good (now pairs) (now text) × (length (now words) ≤ maxWords) × (inside < maxDepth) ⌝ }
+    ensures { λ r. ⌜ r ≡ ended (readType (nameCount (now (pairs .entry))) (now (words .entry)) (nameBytes (now (pairs .entry)) (now (text .entry))) (maxDepth - inside) at) ⌝ }
 {
     let all = words;
     if words.len() < at {
         return Scan::Refused(Refusal::EndsEarly);
     }
     let bound = encoding::name_count(pairs);
-    let mut levels = [0u16; 64];
+    let mut levels = [0u16; MAX_DEPTH];
     let mut walk = Walk {
         place: at,
         depth: inside,

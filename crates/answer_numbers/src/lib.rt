@@ -66,7 +66,7 @@ pub fn shape_number(answer: ShapeAnswer) -> u64
     }
 }
 
-// A part lies within 8192 words, so its start and its length fit in one number.
+// A part lies within the words, of which there are at most `MAX_WORDS`, so its start and its length fit in one number.
 pub fn part_number(answer: PartAnswer) -> u64
     requires { ⌜ Small answer ⌝ }
     ensures { λ n. ⌜ n ≡ partNumber answer ⌝ }

@@ -4,6 +4,7 @@ use mathlib.Core.List.{List, [], _∷_, _++_}
 use lib.Dec.{leb, ltb, eqb}
 use lib.ListN.{length, drop}
 use Rattle.rast.specs.Bytes.{Bytes, ascii, _or_}
+use Rattle.encoding.specs.Words.{maxWords, maxPairs, maxText}
 use Rattle.encoding.specs.declared.Refusal.{Refusal}
 use Rattle.encoding.specs.declared.Refusal.the-variants.{Overlong, BufferTooShort, BadFileLength}
 use Rattle.encoding.specs.Refusals.{pick, number, Answer, given, refused}
@@ -18,7 +19,7 @@ encodedText pairs words file =
 -- with the counts of pairs, words and text bytes that the header gives: the limits, and then the length that they ask for
 unfoldable pub describedText : ℕ → ℕ → ℕ → Bytes → Answer Bytes
 describedText pairs words text file =
-    pick (ltb 1024 pairs or ltb 8192 words or ltb 16384 text) (refused Overlong)
+    pick (ltb maxPairs pairs or ltb maxWords words or ltb maxText text) (refused Overlong)
     (pick (eqb (length file) (12 + 8 * pairs + 4 * words + text)) (encodedText pairs words file) (refused BadFileLength))
 
 -- a file too short for a header is refused before all else

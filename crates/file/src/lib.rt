@@ -6,30 +6,28 @@ ghost use mathlib.Core.Path.{_≡_};
 ghost use Prim.Native.Nat.{_+_, _*_, _≤_, _<_};
 ghost use lib.ListN.{length};
 ghost use Rattle.buffer.specs.Wrote.{Wrote};
+ghost use Rattle.encoding.specs.Words.{maxWords, maxPairs, maxText};
 ghost use Rattle.text_calls.specs.Calls.{filled};
 ghost use Rattle.file.specs.File.{decimal, refusalLine, encodedText, fileText, printedFile, atFront};
 use encoding::Refusal;
+use encoding::words::MAX_PAIRS;
+use encoding::words::MAX_TEXT;
+use encoding::words::MAX_WORDS;
 use text_calls::TextAnswer;
 
 const HEADER_BYTES: usize = 12;
-
-const MOST_PAIRS: usize = 1024;
-
-const MOST_WORDS: usize = 8192;
-
-const MOST_TEXT: usize = 16384;
 
 // The longest text that is printed. The newline behind it is not counted.
 const MOST_PRINTED: usize = 65536;
 
 // The text of the declaration in a file of the length that its header gives, in the front of `out`.
 fn encoded_text(file: &[u8], pairs: usize, words: usize, size: usize, out: &mut [u8]) -> TextAnswer
-    requires { ⌜ (pairs ≤ 1024) × (words ≤ 8192) × (size ≤ 16384) × (length (now file) ≡ 12 + 8 * pairs + 4 * words + size) ⌝ }
+    requires { ⌜ (pairs ≤ maxPairs) × (words ≤ maxWords) × (size ≤ maxText) × (length (now file) ≡ 12 + 8 * pairs + 4 * words + size) ⌝ }
     ensures { λ r. ⌜ (r, now (out .exit)) ≡ filled (now (out .entry)) (encodedText pairs words (now (file .entry))) ⌝ }
 {
-    let mut pair_array = [0u32; 2 * MOST_PAIRS];
-    let mut word_array = [0u32; MOST_WORDS];
-    let mut text_array = [0u8; MOST_TEXT];
+    let mut pair_array = [0u32; 2 * MAX_PAIRS];
+    let mut word_array = [0u32; MAX_WORDS];
+    let mut text_array = [0u8; MAX_TEXT];
     let pair_numbers = 2 * pairs;
     let words_at = HEADER_BYTES + 8 * pairs;
     let text_at = words_at + 4 * words;
@@ -55,13 +53,13 @@ fn file_text(file: &[u8], out: &mut [u8]) -> TextAnswer
     let pairs = little_endian::number_at(file, 0) as usize;
     let words = little_endian::number_at(file, 4) as usize;
     let size = little_endian::number_at(file, 8) as usize;
-    if MOST_PAIRS < pairs {
+    if MAX_PAIRS < pairs {
         return TextAnswer::Refused(Refusal::Overlong);
     }
-    if MOST_WORDS < words {
+    if MAX_WORDS < words {
         return TextAnswer::Refused(Refusal::Overlong);
     }
-    if MOST_TEXT < size {
+    if MAX_TEXT < size {
         return TextAnswer::Refused(Refusal::Overlong);
     }
     if file.len() != HEADER_BYTES + 8 * pairs + 4 * words + size {

@@ -5,6 +5,7 @@ ghost use Prim.Native.Nat.{_<_};
 ghost use lib.ListN.{getD};
 ghost use mathlib.Core.List.{[]};
 ghost use Rattle.rast.specs.Bytes.{among, same, begins, ascii};
+ghost use Rattle.encoding.specs.Words.{firstPair};
 ghost use Rattle.encoding.specs.Tables.{fixedNames, nameBytes, nameCount};
 ghost use Rattle.encoding.specs.Tested.{Good};
 ghost use Rattle.encoding.specs.HeadWords.{InsidePath};
@@ -18,6 +19,23 @@ ghost use Rattle.known_paths.specs.Paths.{samePath, inStd, runtimeMember
 use encoding::Head;
 use encoding::HeadScan;
 use encoding::PathAt;
+use encoding::words::ARC;
+use encoding::words::BOX;
+use encoding::words::BOXED;
+use encoding::words::DAFNY_RUNTIME;
+use encoding::words::FIRST_PAIR;
+use encoding::words::GLOBAL;
+use encoding::words::MAYBE_PLACEBO;
+use encoding::words::MAYBE_UNINIT;
+use encoding::words::MEM;
+use encoding::words::OBJECT;
+use encoding::words::PTR;
+use encoding::words::RC;
+use encoding::words::RC_MODULE;
+use encoding::words::STD;
+use encoding::words::SYNC;
+use encoding::words::TYPE_APP;
+use encoding::words::TYPE_FROM_PATH;
 
 // The paths whose applications are told apart: `Rc` and `Arc`, `Box`, `MaybeUninit`, and members of `dafny_runtime`.
 pub enum Class {
@@ -45,7 +63,7 @@ fn is_other_name(pairs: &[u32], text: &[u8], name: u32, bytes: &[u8]) -> bool
     requires { ⌜ (name < nameCount (now pairs)) × Good (now pairs) (now text) × (among (now bytes) fixedNames ≡ false) ⌝ }
     ensures { λ r. ⌜ r ≡ same (nameBytes (now (pairs .entry)) (now (text .entry)) name) (now (bytes .entry)) ⌝ }
 {
-    if name < 16 {
+    if name < FIRST_PAIR {
         return false;
     }
     encoding::same_bytes(encoding::pair_bytes(pairs, text, name), bytes)
@@ -56,7 +74,7 @@ fn is_array_name(pairs: &[u32], text: &[u8], name: u32) -> bool
     requires { ⌜ (name < nameCount (now pairs)) × Good (now pairs) (now text) ⌝ }
     ensures { λ r. ⌜ r ≡ begins (ascii "Array") (nameBytes (now (pairs .entry)) (now (text .entry)) name) ⌝ }
 {
-    if name < 16 {
+    if name < FIRST_PAIR {
         return false;
     }
     let bytes = encoding::pair_bytes(pairs, text, name);
@@ -92,18 +110,18 @@ fn is_in_std(
     last: &[u8],
 ) -> bool
     requires { ⌜ InsidePath (nameCount (now pairs)) (now words) path × Good (now pairs) (now text)
-        × (second < 16) × (now middle ≡ getD fixedNames second []) × (third < 16) × (now last ≡ getD fixedNames third []) ⌝ }
+        × (second < firstPair) × (now middle ≡ getD fixedNames second []) × (third < firstPair) × (now last ≡ getD fixedNames third []) ⌝ }
     ensures { λ r. ⌜ r ≡ samePath (pathOf (now (words .entry)) (nameBytes (now (pairs .entry)) (now (text .entry))) path)
         (inStd (getD fixedNames second []) (getD fixedNames third [])) ⌝ }
 {
-    if path.root != 0 {
+    if path.root != GLOBAL {
         return false;
     }
     if path.count != 3 {
         return false;
     }
     let start = path.start;
-    if !encoding::is_name(pairs, text, words[start], 1, b"std") {
+    if !encoding::is_name(pairs, text, words[start], STD, b"std") {
         return false;
     }
     if !encoding::is_name(pairs, text, words[start + 1], second, middle) {
@@ -117,14 +135,14 @@ fn is_in_runtime(words: &[u32], pairs: &[u32], text: &[u8], path: PathAt) -> boo
     requires { ⌜ InsidePath (nameCount (now pairs)) (now words) path × Good (now pairs) (now text) ⌝ }
     ensures { λ r. ⌜ InRuntime (now (words .entry)) (now (pairs .entry)) (now (text .entry)) path r ⌝ }
 {
-    if path.root != 0 {
+    if path.root != GLOBAL {
         return false;
     }
     if path.count != 2 {
         return false;
     }
     let start = path.start;
-    encoding::is_name(pairs, text, words[start], 10, b"dafny_runtime")
+    encoding::is_name(pairs, text, words[start], DAFNY_RUNTIME, b"dafny_runtime")
 }
 
 // Whether the member `name` of `dafny_runtime` is of the class.
@@ -136,9 +154,9 @@ fn is_member(pairs: &[u32], text: &[u8], class: Class, name: u32) -> bool
         Class::Counted => false,
         Class::Boxed => false,
         Class::Uninit => false,
-        Class::Placebo => encoding::is_name(pairs, text, name, 13, b"MaybePlacebo"),
-        Class::ObjectClass => encoding::is_name(pairs, text, name, 11, b"Object"),
-        Class::PtrClass => encoding::is_name(pairs, text, name, 12, b"Ptr"),
+        Class::Placebo => encoding::is_name(pairs, text, name, MAYBE_PLACEBO, b"MaybePlacebo"),
+        Class::ObjectClass => encoding::is_name(pairs, text, name, OBJECT, b"Object"),
+        Class::PtrClass => encoding::is_name(pairs, text, name, PTR, b"Ptr"),
         Class::ArrayClass => is_array_name(pairs, text, name),
         Class::Collection => is_set_name(pairs, text, name),
         Class::MapClass => is_other_name(pairs, text, name, b"Map"),
@@ -162,10 +180,10 @@ fn is_counted(words: &[u32], pairs: &[u32], text: &[u8], path: PathAt) -> bool
     requires { ⌜ InsidePath (nameCount (now pairs)) (now words) path × Good (now pairs) (now text) ⌝ }
     ensures { λ r. ⌜ r ≡ inClass Counted (pathOf (now (words .entry)) (nameBytes (now (pairs .entry)) (now (text .entry))) path) ⌝ }
 {
-    if is_in_std(words, pairs, text, path, 2, b"rc", 3, b"Rc") {
+    if is_in_std(words, pairs, text, path, RC_MODULE, b"rc", RC, b"Rc") {
         return true;
     }
-    is_in_std(words, pairs, text, path, 4, b"sync", 5, b"Arc")
+    is_in_std(words, pairs, text, path, SYNC, b"sync", ARC, b"Arc")
 }
 
 // Whether a path is of the class. It is made again from its parts: as a whole it would be copied at once, and wait for the stores that made it.
@@ -180,8 +198,17 @@ fn is_in_class(words: &[u32], pairs: &[u32], text: &[u8], class: Class, path: Pa
     };
     match class {
         Class::Counted => is_counted(words, pairs, text, path),
-        Class::Boxed => is_in_std(words, pairs, text, path, 6, b"boxed", 7, b"Box"),
-        Class::Uninit => is_in_std(words, pairs, text, path, 8, b"mem", 9, b"MaybeUninit"),
+        Class::Boxed => is_in_std(words, pairs, text, path, BOXED, b"boxed", BOX, b"Box"),
+        Class::Uninit => is_in_std(
+            words,
+            pairs,
+            text,
+            path,
+            MEM,
+            b"mem",
+            MAYBE_UNINIT,
+            b"MaybeUninit",
+        ),
         Class::Placebo => is_runtime_class(words, pairs, text, class, path),
         Class::ObjectClass => is_runtime_class(words, pairs, text, class, path),
         Class::PtrClass => is_runtime_class(words, pairs, text, class, path),
@@ -221,11 +248,6 @@ fn form_of(class: Class) -> Form
 }
 
 // ---- on an accepted type
-
-// The kinds of a path's type and of a type with arguments.
-const PATH: u32 = 13;
-
-const APPLY: u32 = 14;
 
 // The first argument of an application of a path of the class.
 pub fn first_argument(words: &[u32], pairs: &[u32], text: &[u8], class: Class, at: usize) -> Found
@@ -268,7 +290,7 @@ pub fn is_of(words: &[u32], pairs: &[u32], text: &[u8], class: Class, at: usize)
     requires { ⌜ Good (now pairs) (now text) × Readable (typeAt (now words) (now pairs) (now text) at) ⌝ }
     ensures { λ r. ⌜ Judges (isOf class) (typeAt (now (words .entry)) (now (pairs .entry)) (now (text .entry)) at) r ⌝ }
 {
-    if words[at] != APPLY {
+    if words[at] != TYPE_APP {
         return false;
     }
     let form = form_of(class);
@@ -276,7 +298,7 @@ pub fn is_of(words: &[u32], pairs: &[u32], text: &[u8], class: Class, at: usize)
         return false;
     }
     let base = at + 2;
-    if words[base] != PATH {
+    if words[base] != TYPE_FROM_PATH {
         return false;
     }
     if words[base + 2] != form.names {

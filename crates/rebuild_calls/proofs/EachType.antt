@@ -69,10 +69,10 @@ module _ (ws pairs : List ℕ) (P : Ty ℕ → Type 0) (read : (p : ℕ) (t : Ty
   abbrev ty : ℕ → Reading (Ty ℕ)
   ty = treeAt ws pairs
 
-  types : (p : ℕ) → Shows (by typePiece) (ty p)
-  types p = go (ty p) (read p)
+  types : (a : Role) (p : ℕ) → Shows (by (typePiece a)) (ty p)
+  types a p = go (ty p) (read p)
     where
-      go : (x : Reading (Ty ℕ)) → ((t : Ty ℕ) (n : ℕ) → x ≡ got t n → P t) → Shows (by typePiece) x
+      go : (x : Reading (Ty ℕ)) → ((t : Ty ℕ) (n : ℕ) → x ≡ got t n → P t) → Shows (by (typePiece a)) x
       go (got t n) h = (h t n refl, tt)
       go (stop r) h = tt
 
@@ -89,11 +89,11 @@ module _ (ws pairs : List ℕ) (P : Ty ℕ → Type 0) (read : (p : ℕ) (t : Ty
 
   parameters : (p : ℕ) → Shows (by (parameterPieces plain Constraint)) (readParameter present b ws nm ty p)
   unfolding readParameter parameterPieces counted
-  parameters p = past _ (readName b ws nm ty p) _ λ x q. then _ (readCounted ws ty q) _ (some (typePiece Constraint) ty types q) λ ts r h. h
+  parameters p = past _ (readName b ws nm ty p) _ λ x q. then _ (readCounted ws ty q) _ (some (typePiece Constraint) ty (types Constraint) q) λ ts r h. h
 
   formals : (a : Role) (p : ℕ) → Shows (λ f. Every P (typePiece a (f .tpe))) (readFormal b ws nm ty p)
   unfolding readFormal
-  formals a p = past _ (readName b ws nm ty p) _ λ x q. then _ (ty q) _ (types q) λ t r h. h
+  formals a p = past _ (readName b ws nm ty p) _ λ x q. then _ (ty q) _ (types a q) λ t r h. h
 
   fields : (a : Role) (p : ℕ) → Shows (by (fieldPieces a)) (readField b ws nm ty p)
   unfolding readField fieldPieces
@@ -101,7 +101,7 @@ module _ (ws pairs : List ℕ) (P : Ty ℕ → Type 0) (read : (p : ℕ) (t : Ty
 
   nameless : (a : Role) (p : ℕ) → Shows (by (namelessPieces a)) (readNamelessField b ws nm ty p)
   unfolding readNamelessField namelessPieces
-  nameless a p = past _ (readVisibility ws p) _ λ v q. then _ (ty q) _ (types q) λ t r h. h
+  nameless a p = past _ (readVisibility ws p) _ λ v q. then _ (ty q) _ (types a q) λ t r h. h
 
   field-lists : (a : Role) (p : ℕ) → Shows (by (fieldsPieces a)) (readFields b ws nm ty p)
   unfolding readFields fieldsPieces counted
@@ -144,7 +144,7 @@ module _ (ws pairs : List ℕ) (P : Ty ℕ → Type 0) (read : (p : ℕ) (t : Ty
 
   synonyms : (p : ℕ) → Shows (λ t. Every P (pieces present (TypeDecl t))) (readTypeSynonym present b ws nm ty p)
   unfolding readTypeSynonym pieces front rest
-  synonyms p = titled _ _ (λ d l x ps v h. then _ (ty v) _ (types v) λ t u i. headed (present .synonymHead) d l x ps (typePiece Aliased t) h i) p
+  synonyms p = titled _ _ (λ d l x ps v h. then _ (ty v) _ (types Aliased v) λ t u i. headed (present .synonymHead) d l x ps (typePiece Aliased t) h i) p
 
   uses : (u : Use ℕ) → Every P (pieces present (UseDecl u))
   unfolding pieces front rest

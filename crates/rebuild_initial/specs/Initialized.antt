@@ -9,6 +9,7 @@ use lib.ListN.{length, getD, take, drop}
 use Rattle.rast.specs.Bytes.{Bytes, _and_}
 use Rattle.rast.specs.Tree.{Path, Ty}
 use Rattle.rast.specs.DeclarationToString.{Expand}
+use Rattle.encoding.specs.Words.{fromPathKind, typeAppKind}
 use Rattle.encoding.specs.Refusals.{pick, Answer, mapAnswer}
 use Rattle.encoding.specs.Reading.{Reading, got, whole}
 use Rattle.encoding.specs.Tables.{nameBytes, nameCount}
@@ -48,10 +49,10 @@ typeWithin deep words pairs text = readType (nameCount pairs) words (nameBytes p
 
 -- the words of `Object` or `Ptr` of a type, and of `MaybeUninit` of a type, before those of the type
 abbrev pub pointerWords : ℕ → List ℕ
-pointerWords name = 14 ∷ 1 ∷ 13 ∷ 0 ∷ 2 ∷ 10 ∷ name ∷ []
+pointerWords name = typeAppKind ∷ 1 ∷ fromPathKind ∷ 0 ∷ 2 ∷ 10 ∷ name ∷ []
 
 abbrev pub uninitWords : List ℕ
-uninitWords = 14 ∷ 1 ∷ 13 ∷ 0 ∷ 3 ∷ 1 ∷ 8 ∷ 9 ∷ []
+uninitWords = typeAppKind ∷ 1 ∷ fromPathKind ∷ 0 ∷ 3 ∷ 1 ∷ 8 ∷ 9 ∷ []
 
 -- the words of the whole: the array's own words stand from `start` to `element`, its element's from there to `end`
 abbrev pub initialWords : List ℕ → ℕ → ℕ → ℕ → ℕ → List ℕ

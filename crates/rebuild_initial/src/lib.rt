@@ -4,6 +4,7 @@ ghost use Prim.Native.Nat.{_+_, _-_, _≤_, _<_};
 ghost use lib.Dec.{ltb};
 ghost use lib.ListN.{length};
 ghost use lib.Seq.{sets};
+ghost use Rattle.encoding.specs.Words.{maxWords, maxDepth};
 ghost use Rattle.encoding.specs.Reading.{whole};
 ghost use Rattle.encoding.specs.Scans.{mapReading};
 ghost use Rattle.encoding.specs.Tables.{nameBytes};
@@ -23,22 +24,33 @@ ghost use Rattle.rebuild_initial.specs.Calls.{laidInit, typeInitialized}
 use encoding::Check;
 use encoding::Refusal;
 use encoding::Scan;
+use encoding::words::ARRAY;
+use encoding::words::DAFNY_RUNTIME;
+use encoding::words::GLOBAL;
+use encoding::words::MAX_DEPTH;
+use encoding::words::MAX_WORDS;
+use encoding::words::MAYBE_UNINIT;
+use encoding::words::MEM;
+use encoding::words::OBJECT;
+use encoding::words::PTR;
+use encoding::words::STD;
+use encoding::words::TYPE_APP;
+use encoding::words::TYPE_FROM_PATH;
 use known_paths::Class;
 use known_paths::Found;
 use rebuild_type::RebuildAnswer;
 
-// Fixed names, by their numbers.
-const OBJECT: u32 = 11;
-
-const PTR: u32 = 12;
-
-// The kinds of a type with arguments and of a path's type.
-const APPLY: u32 = 14;
-
-const PATH: u32 = 13;
-
 // The words of `::std::mem::MaybeUninit` of a type, before those of the type.
-const UNINIT: [u32; 8] = [14, 1, 13, 0, 3, 1, 8, 9];
+const UNINIT: [u32; 8] = [
+    TYPE_APP,
+    1,
+    TYPE_FROM_PATH,
+    GLOBAL,
+    3,
+    STD,
+    MEM,
+    MAYBE_UNINIT,
+];
 
 // ---- the pointer
 
@@ -47,23 +59,29 @@ fn is_of_runtime(words: &[u32], pairs: &[u32], text: &[u8], at: usize) -> bool
     requires { ⌜ Good (now pairs) (now text) × Readable (typeAt (now words) (now pairs) (now text) at) ⌝ }
     ensures { λ r. ⌜ OfRuntime (now (words .entry)) (now (pairs .entry)) (now (text .entry)) at r ⌝ }
 {
-    if words[at] != APPLY {
+    if words[at] != TYPE_APP {
         return false;
     }
     if words[at + 1] != 1 {
         return false;
     }
     let base = at + 2;
-    if words[base] != PATH {
+    if words[base] != TYPE_FROM_PATH {
         return false;
     }
-    if words[base + 1] != 0 {
+    if words[base + 1] != GLOBAL {
         return false;
     }
     if words[base + 2] != 2 {
         return false;
     }
-    encoding::is_name(pairs, text, words[base + 3], 10, b"dafny_runtime")
+    encoding::is_name(
+        pairs,
+        text,
+        words[base + 3],
+        DAFNY_RUNTIME,
+        b"dafny_runtime",
+    )
 }
 
 // The name of the new pointer and where the type under it stands, if there is one.
@@ -120,7 +138,7 @@ fn array_at(words: &[u32], pairs: &[u32], text: &[u8], at: usize) -> Initial
     requires { ⌜ Good (now pairs) (now text) × Readable (treeAt (now words) (now pairs) at) ⌝ }
     ensures { λ r. ⌜ Becomes (newUnderlying (nameBytes (now (pairs .entry)) (now (text .entry)))) 1 (now (words .entry)) (now (pairs .entry)) at r ⌝ }
 {
-    if words[at] == 22 {
+    if words[at] == ARRAY {
         if words[at + 1] == 0 {
             return Initial::OfArray {
                 start: at,
@@ -130,7 +148,7 @@ fn array_at(words: &[u32], pairs: &[u32], text: &[u8], at: usize) -> Initial
         return Initial::Unchanged;
     }
     let start = unwrap::expand(words, pairs, text, at);
-    if words[start] != APPLY {
+    if words[start] != TYPE_APP {
         return Initial::Unchanged;
     }
     let Found::At(element) = known_paths::first_argument(
@@ -152,7 +170,7 @@ fn write_array(words: &[u32], name: u32, start: usize, element: usize, end: usiz
     requires { ⌜ (start ≤ element) × (element ≤ end) × (end ≤ length (now words)) × (15 + (end - start) ≤ length (now out)) ⌝ }
     ensures { λ r. ⌜ now (out .exit) ≡ sets (now (out .entry)) 0 (initialWords (now (words .entry)) name start element end) ⌝ }
 {
-    let pointer = [14u32, 1, 13, 0, 2, 10, name];
+    let pointer = [TYPE_APP, 1, TYPE_FROM_PATH, GLOBAL, 2, DAFNY_RUNTIME, name];
     let uninit = UNINIT;
     let own = element - start;
     rebuild_type::copy_words(&pointer, 0, 7, out, 0);
@@ -160,6 +178,9 @@ fn write_array(words: &[u32], name: u32, start: usize, element: usize, end: usiz
     rebuild_type::copy_words(&uninit, 0, 8, out, 7 + own);
     rebuild_type::copy_words(words, element, end - element, out, 15 + own);
 }
+
+// How deep an element may be, three types around it.
+const DEEPEST_ELEMENT: usize = MAX_DEPTH - 3;
 
 // Whether an element is too deep inside `MaybeUninit`, an array and a pointer. Only in a type as deep as any may be it can be.
 fn is_too_deep(words: &[u32], pairs: &[u32], element: usize, deepest: bool) -> bool
@@ -169,7 +190,7 @@ fn is_too_deep(words: &[u32], pairs: &[u32], element: usize, deepest: bool) -> b
     if !deepest {
         return false;
     }
-    61 < rebuild_rules::depth_in(words, pairs, element, words.len() - element)
+    DEEPEST_ELEMENT < rebuild_rules::depth_in(words, pairs, element, words.len() - element)
 }
 
 // A type whose array changes: its words and its depth are known before anything is written. The element reaches to the end of the words.
@@ -183,13 +204,13 @@ fn change(
     deepest: bool,
     out: &mut [u32],
 ) -> RebuildAnswer
-    requires { ⌜ (length (now words) ≤ 8192) × Whole (now words) (now pairs) deepest × Named (nameBytes (now pairs) (now text)) (treeAt (now words) (now pairs) 0) name
+    requires { ⌜ (length (now words) ≤ maxWords) × Whole (now words) (now pairs) deepest × Named (nameBytes (now pairs) (now text)) (treeAt (now words) (now pairs) 0) name
         × Becomes (newArray (nameBytes (now pairs) (now text))) 2 (now words) (now pairs) 0 (OfArray start element) ⌝ }
     ensures { λ r. ⌜ Fills (mapReading (laidInit (nameBytes (now (pairs .entry)) (now (text .entry)))) (treeAt (now (words .entry)) (now (pairs .entry)) 0)) (now (out .entry)) (now (out .exit)) r ⌝ }
 {
     let end = words.len();
     let count = 15 + (end - start);
-    if rebuild_type::room_of(out.len(), 8192) < count {
+    if rebuild_type::room_of(out.len(), MAX_WORDS) < count {
         rebuild_type::clear(out);
         return RebuildAnswer::Refused(Refusal::BufferTooShort);
     }
@@ -213,7 +234,7 @@ fn initialize_under(
     deepest: bool,
     out: &mut [u32],
 ) -> RebuildAnswer
-    requires { ⌜ Good (now pairs) (now text) × (length (now words) ≤ 8192) × Whole (now words) (now pairs) deepest × Points (now words) (now pairs) (now text) (To name at) ⌝ }
+    requires { ⌜ Good (now pairs) (now text) × (length (now words) ≤ maxWords) × Whole (now words) (now pairs) deepest × Points (now words) (now pairs) (now text) (To name at) ⌝ }
     ensures { λ r. ⌜ Fills (mapReading (laidInit (nameBytes (now (pairs .entry)) (now (text .entry)))) (treeAt (now (words .entry)) (now (pairs .entry)) 0)) (now (out .entry)) (now (out .exit)) r ⌝ }
 {
     match array_at(words, pairs, text, at) {
@@ -232,7 +253,7 @@ fn initialize(
     deepest: bool,
     out: &mut [u32],
 ) -> RebuildAnswer
-    requires { ⌜ Good (now pairs) (now text) × (length (now words) ≤ 8192) × Whole (now words) (now pairs) deepest ⌝ }
+    requires { ⌜ Good (now pairs) (now text) × (length (now words) ≤ maxWords) × Whole (now words) (now pairs) deepest ⌝ }
     ensures { λ r. ⌜ Fills (mapReading (laidInit (nameBytes (now (pairs .entry)) (now (text .entry)))) (treeAt (now (words .entry)) (now (pairs .entry)) 0)) (now (out .entry)) (now (out .exit)) r ⌝ }
 {
     match find_pointer(words, pairs, text) {
@@ -243,8 +264,8 @@ fn initialize(
 
 // Whether a type fills the words that is less deep than it may be, by `inside` types.
 fn accept_within(words: &[u32], pairs: &[u32], text: &[u8], inside: usize) -> Check
-    requires { ⌜ Good (now pairs) (now text) × (length (now words) ≤ 8192) × (inside < 64) ⌝ }
-    ensures { λ r. ⌜ r ≡ acceptance (whole (length (now (words .entry))) (typeWithin (64 - inside) (now (words .entry)) (now (pairs .entry)) (now (text .entry)))) ⌝ }
+    requires { ⌜ Good (now pairs) (now text) × (length (now words) ≤ maxWords) × (inside < maxDepth) ⌝ }
+    ensures { λ r. ⌜ r ≡ acceptance (whole (length (now (words .entry))) (typeWithin (maxDepth - inside) (now (words .entry)) (now (pairs .entry)) (now (text .entry)))) ⌝ }
 {
     match accept_type::accept_type(words, pairs, text, 0, inside) {
         Scan::At(next) => {
@@ -259,7 +280,7 @@ fn accept_within(words: &[u32], pairs: &[u32], text: &[u8], inside: usize) -> Ch
 
 // The tables hold, and the type may be as deep as any, if there is one.
 fn initialize_deepest(words: &[u32], pairs: &[u32], text: &[u8], out: &mut [u32]) -> RebuildAnswer
-    requires { ⌜ Good (now pairs) (now text) × (length (now words) ≤ 8192) ⌝ }
+    requires { ⌜ Good (now pairs) (now text) × (length (now words) ≤ maxWords) ⌝ }
     ensures { λ r. ⌜ (r, now (out .exit)) ≡ laidDown (now (out .entry)) (wholeInitialized (now (words .entry)) (now (pairs .entry)) (now (text .entry))) ⌝ }
 {
     match accept_within(words, pairs, text, 0) {
@@ -275,7 +296,7 @@ fn accept_and_initialize(
     text: &[u8],
     out: &mut [u32],
 ) -> RebuildAnswer
-    requires { ⌜ Good (now pairs) (now text) × (length (now words) ≤ 8192) ⌝ }
+    requires { ⌜ Good (now pairs) (now text) × (length (now words) ≤ maxWords) ⌝ }
     ensures { λ r. ⌜ (r, now (out .exit)) ≡ laidDown (now (out .entry)) (wholeInitialized (now (words .entry)) (now (pairs .entry)) (now (text .entry))) ⌝ }
 {
     match accept_within(words, pairs, text, 1) {

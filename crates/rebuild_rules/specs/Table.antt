@@ -7,6 +7,7 @@ use mathlib.Core.List.{List, [], _∷_}
 use lib.Dec.{eqb, ltb}
 use lib.ListN.{length, getD, set, take, drop}
 use Rattle.rast.specs.Bytes.{Bytes, _or_}
+use Rattle.encoding.specs.Words.{maxRules}
 use Rattle.encoding.specs.Refusals.{pick}
 use Rattle.encoding.specs.Reading.{got}
 use Rattle.tree_words.specs.Numbered.{treeAt}
@@ -89,7 +90,7 @@ module _ (name : ℕ → Bytes) (rules table : List ℕ) where
 
 -- the entries of k rules lie within the rules' words
 pub record Fits (rules table : List ℕ) (k : ℕ) : Type 0 where
-  pub few : k ≤ 32
+  pub few : k ≤ maxRules
   pub size : length table ≡ 160
   pub from : (i : ℕ) → i < k → getD table (4 * i) 0 < getD table (4 * i + 1) 0
   pub to : (i : ℕ) → i < k → getD table (4 * i + 1) 0 ≤ getD table (4 * i + 2) 0
@@ -113,9 +114,9 @@ pub record Unlinked (table : List ℕ) : Type 0 where
 -- what the entries of a rule say of it is the same in two tables
 pub record Entries (table table′ : List ℕ) : Type 0 where
   pub size : length table′ ≡ length table
-  pub from : (i : ℕ) → i < 32 → getD table′ (4 * i) 0 ≡ getD table (4 * i) 0
-  pub to : (i : ℕ) → i < 32 → getD table′ (4 * i + 1) 0 ≡ getD table (4 * i + 1) 0
-  pub end : (i : ℕ) → i < 32 → getD table′ (4 * i + 2) 0 ≡ getD table (4 * i + 2) 0
+  pub from : (i : ℕ) → i < maxRules → getD table′ (4 * i) 0 ≡ getD table (4 * i) 0
+  pub to : (i : ℕ) → i < maxRules → getD table′ (4 * i + 1) 0 ≡ getD table (4 * i + 1) 0
+  pub end : (i : ℕ) → i < maxRules → getD table′ (4 * i + 2) 0 ≡ getD table (4 * i + 2) 0
 
 -- the entry of rule i is that of r
 pub record RuleAt (rules pairs table : List ℕ) (i : ℕ) (r : Rule) : Type 0 where

@@ -2,6 +2,7 @@
 ghost use mathlib.Core.Path.{_≡_};
 ghost use Prim.Native.Nat.{max, _+_, _-_, _*_, _≤_, _<_};
 ghost use lib.ListN.{length, getD, take, drop};
+ghost use Rattle.encoding.specs.Words.{maxWords, maxRules};
 ghost use Rattle.encoding.specs.Tables.{nameBytes};
 ghost use Rattle.encoding.specs.Tested.{Good};
 ghost use Rattle.encoding.specs.Types.{readTypes};
@@ -14,12 +15,14 @@ use encoding::Check;
 use encoding::Refusal;
 use encoding::Scan;
 use encoding::WordScan;
+use encoding::words::MAX_RULES;
+use encoding::words::MAX_WORDS;
 
 // The limits, those on the rules' words with those on the tree's; then the pairs.
 pub fn check_all(words: &[u32], rules: &[u32], pairs: &[u32], text: &[u8]) -> Check
     ensures { λ r. ⌜ r ≡ checkAll (now (words .entry)) (now (rules .entry)) (now (pairs .entry)) (now (text .entry)) ⌝ }
 {
-    if 8192 < rules.len() {
+    if MAX_WORDS < rules.len() {
         return Check::Failed(Refusal::Overlong);
     }
     encoding::check_tables(words, pairs, text)
@@ -88,7 +91,7 @@ enum RuleScan {
 }
 
 fn scan_rule(rules: &[u32], pairs: &[u32], text: &[u8], at: usize) -> RuleScan
-    requires { ⌜ Good (now pairs) (now text) × (length (now rules) ≤ 8192) ⌝ }
+    requires { ⌜ Good (now pairs) (now text) × (length (now rules) ≤ maxWords) ⌝ }
     ensures { λ r. ⌜ RuleRead (now (rules .entry)) (now (pairs .entry)) at r ⌝ }
 {
     match accept_type::scan_type(rules, pairs, text, at) {
@@ -102,7 +105,7 @@ fn scan_rule(rules: &[u32], pairs: &[u32], text: &[u8], at: usize) -> RuleScan
 
 // Rule `i` of the table: where its from begins, and where its to begins and ends.
 fn enter_rule(table: &mut [u16; 160], i: usize, from: usize, to: usize, end: usize)
-    requires { ⌜ (i < 32) × (from ≤ 8192) × (to ≤ 8192) × (end ≤ 8192) ⌝ }
+    requires { ⌜ (i < maxRules) × (from ≤ maxWords) × (to ≤ maxWords) × (end ≤ maxWords) ⌝ }
     ensures { λ r. ⌜ now (table .exit) ≡ entered (now (table .entry)) i from to end ⌝ }
 {
     table[4 * i] = from as u16;
@@ -119,7 +122,7 @@ fn scan_list(
     at: usize,
     table: &mut [u16; 160],
 ) -> Scan
-    requires { ⌜ Good (now pairs) (now text) × (length (now rules) ≤ 8192) × (n ≤ 32) × (at ≤ length (now rules)) × Unlinked (now table) ⌝ }
+    requires { ⌜ Good (now pairs) (now text) × (length (now rules) ≤ maxWords) × (n ≤ maxRules) × (at ≤ length (now rules)) × Unlinked (now table) ⌝ }
     ensures { λ r. ⌜ Listed (now (rules .entry)) (now (pairs .entry)) n at (now (table .exit)) r ⌝ }
 {
     let mut place = at;
@@ -151,7 +154,7 @@ fn slot_of(word: u32) -> usize
 
 // Rule `i` comes first among those of its slot, before the one that came first so far.
 fn link_rule(rules: &[u32], table: &mut [u16; 160], i: usize)
-    requires { ⌜ (i < 32) × (getD (now table) (4 * i) 0 < length (now rules)) ⌝ }
+    requires { ⌜ (i < maxRules) × (getD (now table) (4 * i) 0 < length (now rules)) ⌝ }
     ensures { λ r. ⌜ now (table .exit) ≡ linked (now (table .entry)) i (slotOf (now (rules .entry)) (now (table .entry)) i) ⌝ }
 {
     let from = table[4 * i] as usize;
@@ -190,7 +193,7 @@ fn wide(value: u16) -> usize
 
 // An entry of rule `i`.
 pub fn entry(table: &[u16; 160], i: usize, kind: usize) -> usize
-    requires { ⌜ (i < 32) × (kind < 4) ⌝ }
+    requires { ⌜ (i < maxRules) × (kind < 4) ⌝ }
     ensures { λ r. ⌜ r ≡ getD (now (table .entry)) (4 * i + kind) 0 ⌝ }
 {
     wide(table[4 * i + kind])
@@ -398,12 +401,15 @@ pub enum RulesAnswer {
     NoRules(Refusal),
 }
 
+// How many numbers of rules a list may have.
+const COUNTS: usize = MAX_RULES as usize + 1;
+
 // The rules of a list, entered in the table.
 pub fn read_rules(rules: &[u32], pairs: &[u32], text: &[u8], table: &mut [u16; 160]) -> RulesAnswer
-    requires { ⌜ Good (now pairs) (now text) × (length (now rules) ≤ 8192) × Unlinked (now table) ⌝ }
+    requires { ⌜ Good (now pairs) (now text) × (length (now rules) ≤ maxWords) × Unlinked (now table) ⌝ }
     ensures { λ r. ⌜ RulesRead (now (rules .entry)) (now (pairs .entry)) (now (text .entry)) (now (table .exit)) r ⌝ }
 {
-    match encoding::scan_below(rules, 33, 0) {
+    match encoding::scan_below(rules, COUNTS, 0) {
         WordScan::Word { value, next } => {
             let k = value as usize;
             match scan_list(rules, pairs, text, k, next, table) {

@@ -1,11 +1,12 @@
 -- Document 01's "rule sheet" is here a list of rules: k, then k times two types, from and to.
-use Prim.Native.Nat.{ℕ}
+use Prim.Native.Nat.{ℕ, _+_}
 use mathlib.Core.Bool.{Bool, false}
 use mathlib.Core.List.{List, [], _∷_}
 use lib.Dec.{ltb}
 use lib.ListN.{length}
 use Rattle.rast.specs.Bytes.{Bytes, _or_}
 use Rattle.rast.specs.Tree.{Ty}
+use Rattle.encoding.specs.Words.{maxWords, maxRules}
 use Rattle.encoding.specs.declared.Refusal.the-variants.{Overlong, BadPair, RepeatedRule}
 use Rattle.encoding.specs.declared.Check.{Check}
 use Rattle.encoding.specs.declared.Check.the-variants.{Passed, Failed}
@@ -24,9 +25,9 @@ Rule = Ty ℕ × Ty ℕ
 unfoldable pub readRule : (ℕ → Reading (Ty ℕ)) → ℕ → Reading Rule
 readRule type at = type at >>= λ from p. type p >>= λ to q. got (from, to) q
 
--- at most 32 rules
+-- at most `maxRules` rules
 unfoldable pub readRules : List ℕ → List ℕ → Reading (List Rule)
-readRules rules pairs = readBelow 33 rules 0 >>= λ k p. readList (readRule (treeAt rules pairs)) k p
+readRules rules pairs = readBelow (maxRules + 1) rules 0 >>= λ k p. readList (readRule (treeAt rules pairs)) k p
 
 -- some from equals t
 unfoldable pub among : (Ty ℕ → Ty ℕ → Bool) → Ty ℕ → List Rule → Bool
@@ -41,7 +42,7 @@ repeated eq (r ∷ rs) = among eq (r .0) rs or repeated eq rs
 -- the limits, those on the rules' words with those on the tree's; then the pairs
 unfoldable pub checkAll : List ℕ → List ℕ → List ℕ → Bytes → Check
 checkAll words rules pairs text =
-    pick (overlong words pairs text or ltb 8192 (length rules)) (Failed Overlong)
+    pick (overlong words pairs text or ltb maxWords (length rules)) (Failed Overlong)
     (pick (goodPairs pairs 0 (length text)) Passed (Failed BadPair))
 
 -- rules of which two have equal froms are refused

@@ -5,6 +5,7 @@ use lib.Dec.{ltb}
 use lib.ListN.{length, drop, replicate}
 use Rattle.rast.specs.Bytes.{Bytes}
 use Rattle.rast.specs.Tree.{Ty}
+use Rattle.encoding.specs.Words.{maxWords, maxDepth}
 use Rattle.encoding.specs.declared.Refusal.the-variants.{TooDeep, BufferTooShort}
 use Rattle.encoding.specs.Refusals.{pick, Answer, given, refused, unless}
 use Rattle.encoding.specs.Reading.{whole}
@@ -24,7 +25,7 @@ pub record Laid : Type 0 where
 
 -- as many words as may lie in a buffer
 abbrev pub roomOf : List ℕ → ℕ
-roomOf o = min (length o) 8192
+roomOf o = min (length o) maxWords
 
 abbrev pub zeros : List ℕ → List ℕ
 zeros o = replicate (length o) 0
@@ -34,7 +35,7 @@ zeros o = replicate (length o) 0
 unfoldable pub laidDown : List ℕ → Answer Laid → RebuildAnswer × List ℕ
 laidDown o (given b) =
     pick (ltb (roomOf o) (b .top)) (Refused BufferTooShort, zeros o)
-    (pick (ltb 64 (b .deep)) (Refused TooDeep, zeros o)
+    (pick (ltb maxDepth (b .deep)) (Refused TooDeep, zeros o)
     (Length (length (b .words)), b .words ++ drop (length (b .words)) o))
 laidDown o (refused r) = (Refused r, o)
 

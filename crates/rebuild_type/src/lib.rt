@@ -3,6 +3,7 @@ ghost use mathlib.Core.Path.{_≡_};
 ghost use Prim.Native.Nat.{min, _+_, _-_, _*_, _^_, _≤_, _<_};
 ghost use lib.ListN.{length, getD, take, drop};
 ghost use lib.Seq.{sets};
+ghost use Rattle.encoding.specs.Words.{maxWords};
 ghost use Rattle.encoding.specs.Reading.{got};
 ghost use Rattle.encoding.specs.Refusals.{given};
 ghost use Rattle.encoding.specs.Tables.{nameBytes};
@@ -16,6 +17,8 @@ ghost use Rattle.rebuild_type.specs.Laid.{Lays, GivesTo, Settles, Ruled,
 ghost use Rattle.rebuild_type.specs.Calls.{zeros, laidDown};
 ghost use Rattle.rebuild_type.specs.Attempts.{sameWords};
 use encoding::Refusal;
+use encoding::words::MAX_DEPTH;
+use encoding::words::PLAIN_KINDS;
 use rebuild_rules::Found;
 
 // ---- laying words down
@@ -248,7 +251,7 @@ fn rebuild_parts(
         (now (out .exit)) r ⌝ }
 {
     let word = words[at];
-    if word < 12 {
+    if word < PLAIN_KINDS {
         return lay_plain(word, at, out, pos, limit);
     }
     let behind = encoding::pass_head(words, at, 1);
@@ -386,10 +389,10 @@ pub enum Attempt {
 
 // What was rebuilt goes to the caller's buffer, unless it is too deep.
 pub fn finish(from: &[u32], count: usize, depth: usize, out: &mut [u32]) -> RebuildAnswer
-    requires { ⌜ (count ≤ length (now from)) × (count ≤ length (now out)) × (count ≤ 8192) ⌝ }
+    requires { ⌜ (count ≤ length (now from)) × (count ≤ length (now out)) × (count ≤ maxWords) ⌝ }
     ensures { λ r. ⌜ (r, now (out .exit)) ≡ laidDown (now (out .entry)) (given (record { words = take count (now (from .entry)); top = count; deep = depth })) ⌝ }
 {
-    if 64 < depth {
+    if MAX_DEPTH < depth {
         clear(out);
         return RebuildAnswer::Refused(Refusal::TooDeep);
     }
@@ -399,7 +402,7 @@ pub fn finish(from: &[u32], count: usize, depth: usize, out: &mut [u32]) -> Rebu
 
 // Where nothing gives way the words come back as they are. The tree was accepted, so it is not too deep.
 pub fn copy_unaltered(words: &[u32], out: &mut [u32]) -> RebuildAnswer
-    requires { ⌜ length (now words) ≤ 8192 ⌝ }
+    requires { ⌜ length (now words) ≤ maxWords ⌝ }
     ensures { λ r. ⌜ (r, now (out .exit)) ≡ laidDown (now (out .entry)) (given (sameWords (now (words .entry)) 0)) ⌝ }
 {
     if out.len() < words.len() {

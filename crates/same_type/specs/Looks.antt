@@ -4,13 +4,14 @@ use mathlib.Core.Bool.{Bool, true, false}
 use mathlib.Core.List.{List, [], _∷_}
 use lib.Dec.{eqb, ltb}
 use Rattle.rast.specs.Bytes.{Bytes, same}
+use Rattle.encoding.specs.Words.{arrayKind, firstPair}
 use Rattle.encoding.specs.Refusals.{pick}
 use Rattle.same_type.specs.declared.Look.{Look}
 use Rattle.same_type.specs.declared.Look.the-variants.{Same, Apart, Unclear}
 
 -- different words that never agree
 unfoldable pub apart : ℕ → ℕ → Bool
-apart x y = pick (eqb x y) false (pick (ltb x 16) (ltb y 16) false)
+apart x y = pick (eqb x y) false (pick (ltb x firstPair) (ltb y firstPair) false)
 
 unfoldable pub alike : Bool → ℕ → ℕ → Bool
 alike equal x y = pick (eqb x y) equal false
@@ -26,6 +27,6 @@ toldApart Same = false
 toldApart Apart = true
 toldApart Unclear = false
 
--- words that agree behind another where something is due: as they are or as names; behind 22, where sizes stand, any
+-- words that agree behind another where something is due: as they are or as names; behind the kind of an array, where sizes stand, any
 unfoldable pub mayAgree : (ℕ → Bytes) → ℕ → ℕ → ℕ → Bool
-mayAgree name before x y = pick (eqb before 22) true (same (name x) (name y))
+mayAgree name before x y = pick (eqb before arrayKind) true (same (name x) (name y))

@@ -5,6 +5,7 @@ use mathlib.Core.Bool.{Bool, true, false}
 use mathlib.Core.List.{List, [], _∷_}
 use lib.Dec.{eqb, ltb}
 use Rattle.rast.specs.Bytes.{Bytes, _and_, same}
+use Rattle.encoding.specs.Words.{identifierKind, fromPathKind, typeAppKind, tupleKind, fnKind, arrayKind, metaDataKind}
 use Rattle.encoding.specs.Refusals.{pick}
 use Rattle.same_type.specs.declared.Due.{Due}
 use Rattle.same_type.specs.declared.Due.the-variants.{Kind, Exact, Sized, Root, Count, Names}
@@ -12,8 +13,8 @@ use Rattle.same_type.specs.declared.Due.the-variants.{Kind, Exact, Sized
 -- what follows a kind
 unfoldable pub afterKind : ℕ → Due
 afterKind w =
-    pick (eqb w 12) (Names 1) (pick (eqb w 13) Root (pick (eqb w 14) Exact (pick (eqb w 19) Exact
-    (pick (eqb w 20) Exact (pick (eqb w 22) Sized (pick (eqb w 24) Exact Kind))))))
+    pick (eqb w identifierKind) (Names 1) (pick (eqb w fromPathKind) Root (pick (eqb w typeAppKind) Exact (pick (eqb w tupleKind) Exact
+    (pick (eqb w fnKind) Exact (pick (eqb w arrayKind) Sized (pick (eqb w metaDataKind) Exact Kind))))))
 
 -- what follows a word
 unfoldable pub after : Due → ℕ → Due

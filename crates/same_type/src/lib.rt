@@ -5,10 +5,19 @@ ghost use mathlib.Core.List.{[]};
 ghost use Prim.Native.Nat.{_+_, _≤_, _<_};
 ghost use lib.ListN.{length, take, drop};
 ghost use Rattle.rast.specs.Bytes.{same};
+ghost use Rattle.encoding.specs.Words.{firstPair};
 ghost use Rattle.encoding.specs.Tables.{nameBytes};
 ghost use Rattle.encoding.specs.Tested.{Good};
 ghost use Rattle.same_type.specs.Runs.{after, afterKind, agrees, sameRuns};
 ghost use Rattle.same_type.specs.Looks.{apart, alike, looks, toldApart, mayAgree};
+use encoding::words::ARRAY;
+use encoding::words::FIRST_PAIR;
+use encoding::words::FN_TYPE;
+use encoding::words::T_IDENTIFIER;
+use encoding::words::T_META_DATA;
+use encoding::words::TUPLE_TYPE;
+use encoding::words::TYPE_APP;
+use encoding::words::TYPE_FROM_PATH;
 
 // What the next word of a type is: a kind, a word compared as it is, an array's size, a path's root, its count, or the first of some names.
 pub enum Due {
@@ -24,13 +33,13 @@ fn after_kind(w: u32) -> Due
     ensures { λ r. ⌜ r ≡ afterKind w ⌝ }
 {
     match w {
-        12 => Due::Names(1),
-        13 => Due::Root,
-        14 => Due::Exact,
-        19 => Due::Exact,
-        20 => Due::Exact,
-        22 => Due::Sized,
-        24 => Due::Exact,
+        T_IDENTIFIER => Due::Names(1),
+        TYPE_FROM_PATH => Due::Root,
+        TYPE_APP => Due::Exact,
+        TUPLE_TYPE => Due::Exact,
+        FN_TYPE => Due::Exact,
+        ARRAY => Due::Sized,
+        T_META_DATA => Due::Exact,
         _ => Due::Kind,
     }
 }
@@ -61,7 +70,7 @@ fn due_after(due: Due, x: u32) -> Due
 
 // The bytes of a name that is not fixed; a number past the table stands for no bytes.
 fn other_bytes<'a>(pairs: &[u32], text: &'a [u8], name: u32) -> &'a [u8]
-    requires { ⌜ (16 ≤ name) × Good (now pairs) (now text) ⌝ }
+    requires { ⌜ (firstPair ≤ name) × Good (now pairs) (now text) ⌝ }
     ensures { λ r. ⌜ now r ≡ nameBytes (now (pairs .entry)) (now (text .entry)) name ⌝ }
 {
     if encoding::name_count(pairs) <= name as usize {
@@ -72,7 +81,7 @@ fn other_bytes<'a>(pairs: &[u32], text: &'a [u8], name: u32) -> &'a [u8]
 
 // Whether some bytes are those of the fixed name `k`. Lengths are compared first.
 fn are_fixed(pairs: &[u32], text: &[u8], k: u32, bytes: &[u8]) -> bool
-    requires { ⌜ (k < 16) × Good (now pairs) (now text) ⌝ }
+    requires { ⌜ (k < firstPair) × Good (now pairs) (now text) ⌝ }
     ensures { λ r. ⌜ r ≡ same (nameBytes (now (pairs .entry)) (now (text .entry)) k) (now (bytes .entry)) ⌝ }
 {
     if encoding::name_length(pairs, k) != bytes.len() {
@@ -91,14 +100,14 @@ fn same_name(pairs: &[u32], text: &[u8], x: u32, y: u32) -> bool
     if x == y {
         return true;
     }
-    if x < 16 {
-        if y < 16 {
+    if x < FIRST_PAIR {
+        if y < FIRST_PAIR {
             return false;
         }
         return are_fixed(pairs, text, x, other_bytes(pairs, text, y));
     }
     let bytes = other_bytes(pairs, text, x);
-    if y < 16 {
+    if y < FIRST_PAIR {
         return are_fixed(pairs, text, y, bytes);
     }
     encoding::same_bytes(bytes, other_bytes(pairs, text, y))
@@ -140,15 +149,15 @@ pub enum Look {
     Unclear,
 }
 
-// Whether two words never agree, whatever is due: below 16 there are fixed names, of which no two have the same bytes.
+// Whether two words never agree, whatever is due: below `FIRST_PAIR` there are fixed names, of which no two have the same bytes.
 fn never_agree(x: u32, y: u32) -> bool
     ensures { λ r. ⌜ r ≡ apart x y ⌝ }
 {
     if x == y {
         return false;
     }
-    if x < 16 {
-        return y < 16;
+    if x < FIRST_PAIR {
+        return y < FIRST_PAIR;
     }
     false
 }
@@ -234,13 +243,13 @@ fn name_size(pairs: &[u32], text: &[u8], name: u32) -> usize
     encoding::name_length(pairs, name)
 }
 
-// Whether two words behind the word `before` may agree: as they are or as names, whose lengths are compared first. A size stands behind 22 only, and what stands
+// Whether two words behind the word `before` may agree: as they are or as names, whose lengths are compared first. A size stands behind `ARRAY` only, and what stands
 // there is left open.
 fn may_agree(pairs: &[u32], text: &[u8], before: u32, x: u32, y: u32) -> bool
     requires { ⌜ Good (now pairs) (now text) ⌝ }
     ensures { λ r. ⌜ r ≡ mayAgree (nameBytes (now (pairs .entry)) (now (text .entry))) before x y ⌝ }
 {
-    if before == 22 {
+    if before == ARRAY {
         return true;
     }
     if name_size(pairs, text, x) != name_size(pairs, text, y) {

@@ -3,6 +3,7 @@ use Prim.Native.Nat.{ℕ}
 use mathlib.Core.Bool.{Bool}
 use lib.Dec.{eqb, ltb}
 use Rattle.rast.specs.Bytes.{_or_}
+use Rattle.encoding.specs.Words.{identifierKind, fromPathKind, borrowedKind, borrowedMutKind, implKind, dynKind, synonymKind, metaDataKind}
 use Rattle.encoding.specs.declared.Check.{Check}
 use Rattle.encoding.specs.declared.Check.the-variants.{Passed, Failed}
 use Rattle.encoding.specs.Refusals.{pick, Answer, given, refused}
@@ -10,11 +11,11 @@ use Rattle.encoding.specs.Refusals.{pick, Answer, given, refused}
 -- how many own words stand before the type that `EndsWithNameThatCanAcceptGenerics` goes on to, by a type's kind; an intersection aside
 unfoldable pub nameStep : ℕ → ℕ
 nameStep k =
-    pick (eqb k 15) 1 (pick (eqb k 16) 1 (pick (eqb k 17) 1 (pick (eqb k 18) 1 (pick (eqb k 23) 1 (pick (eqb k 24) 2 0)))))
+    pick (eqb k borrowedKind) 1 (pick (eqb k borrowedMutKind) 1 (pick (eqb k implKind) 1 (pick (eqb k dynKind) 1 (pick (eqb k synonymKind) 1 (pick (eqb k metaDataKind) 2 0)))))
 
 -- the kinds of which it is true outright: numbers of fixed size and names
 unfoldable pub nameKind : ℕ → Bool
-nameKind k = ltb k 10 or eqb k 12 or eqb k 13
+nameKind k = ltb k 10 or eqb k identifierKind or eqb k fromPathKind
 
 -- whether there is an answer
 abbrev pub acceptance : {A : Type 0} → Answer A → Check

@@ -3,6 +3,7 @@ ghost use mathlib.Core.Path.{_≡_};
 ghost use Prim.Native.Nat.{_≤_};
 ghost use lib.ListN.{length};
 ghost use Rattle.rast.specs.Bytes.{_or_};
+ghost use Rattle.encoding.specs.Words.{maxWords};
 ghost use Rattle.encoding.specs.Refusals.{given, mapAnswer};
 ghost use Rattle.encoding.specs.Reading.{whole};
 ghost use Rattle.encoding.specs.Tested.{Good};
@@ -18,6 +19,20 @@ ghost use Rattle.shapes.specs.Shapes.{EndsWithNameThatCanAcceptGenerics,
 use encoding::Check;
 use encoding::Refusal;
 use encoding::Scan;
+use encoding::words::ARRAY;
+use encoding::words::BOOL;
+use encoding::words::BORROWED;
+use encoding::words::BORROWED_MUT;
+use encoding::words::COPY_SEMANTICS;
+use encoding::words::DYN_TYPE;
+use encoding::words::IMPL_TYPE;
+use encoding::words::INTERSECTION_TYPE;
+use encoding::words::PLAIN_KINDS;
+use encoding::words::T_IDENTIFIER;
+use encoding::words::T_META_DATA;
+use encoding::words::T_SYNONYM;
+use encoding::words::TYPE_FROM_PATH;
+use encoding::words::USIZE;
 use known_paths::Class;
 use known_paths::Found;
 
@@ -38,9 +53,9 @@ pub fn remove_wrappers(words: &[u32], pairs: &[u32], text: &[u8], at: usize) -> 
     let mut place = at;
     loop {
         let w = words[place];
-        if w == 23 {
+        if w == T_SYNONYM {
             place += 1;
-        } else if w == 24 {
+        } else if w == T_META_DATA {
             place += 2;
         } else {
             return place;
@@ -54,10 +69,10 @@ pub fn owned(words: &[u32], pairs: &[u32], text: &[u8], at: usize) -> usize
     ensures { λ r. ⌜ Judges (λ t. ownedAt at t .at) (typeAt (now (words .entry)) (now (pairs .entry)) (now (text .entry)) at) r ⌝ }
 {
     let w = words[at];
-    if w == 15 {
+    if w == BORROWED {
         return at + 1;
     }
-    if w == 16 {
+    if w == BORROWED_MUT {
         return at + 1;
     }
     at
@@ -113,7 +128,7 @@ pub fn box_dyn_part(words: &[u32], pairs: &[u32], text: &[u8], at: usize) -> Fou
     let Found::At(place) = known_paths::first_argument(words, pairs, text, Class::Boxed, at) else {
         return Found::NoPart;
     };
-    if words[place] == 18 {
+    if words[place] == DYN_TYPE {
         return Found::At(place + 1);
     }
     Found::NoPart
@@ -124,7 +139,7 @@ fn uninit_part(words: &[u32], pairs: &[u32], text: &[u8], at: usize) -> Found
     requires { ⌜ Good (now pairs) (now text) × Readable (typeAt (now words) (now pairs) (now text) at) ⌝ }
     ensures { λ r. ⌜ Finds uninitElement (typeAt (now (words .entry)) (now (pairs .entry)) (now (text .entry))) at r ⌝ }
 {
-    if words[at] == 22 {
+    if words[at] == ARRAY {
         return known_paths::first_argument(words, pairs, text, Class::Uninit, at + 2);
     }
     let Found::At(place) = multi_array_part(words, pairs, text, at) else {
@@ -151,7 +166,7 @@ fn holds_uninit(words: &[u32], pairs: &[u32], text: &[u8], at: usize) -> bool
     requires { ⌜ Good (now pairs) (now text) × Readable (typeAt (now words) (now pairs) (now text) at) ⌝ }
     ensures { λ r. ⌜ Judges (λ s. uninitCases (unsized s) s) (typeAt (now (words .entry)) (now (pairs .entry)) (now (text .entry)) at) r ⌝ }
 {
-    if words[at] == 22 {
+    if words[at] == ARRAY {
         if words[at + 1] == 0 {
             return known_paths::is_of(words, pairs, text, Class::Uninit, at + 2);
         }
@@ -188,9 +203,9 @@ fn is_rc_or_borrowed_at(words: &[u32], pairs: &[u32], text: &[u8], at: usize) ->
     let mut place = at;
     loop {
         let w = words[place];
-        if w == 15 {
+        if w == BORROWED {
             place += 1;
-        } else if w == 23 {
+        } else if w == T_SYNONYM {
             place = accepted_types::skip_type(words, pairs, text, place + 1);
         } else {
             return known_paths::is_of(words, pairs, text, Class::Counted, place);
@@ -206,13 +221,13 @@ fn can_read_at(words: &[u32], pairs: &[u32], text: &[u8], at: usize) -> bool
     let mut place = at;
     loop {
         let w = words[place];
-        if w < 12 {
+        if w < PLAIN_KINDS {
             return true;
         }
-        if w == 23 {
+        if w == T_SYNONYM {
             place = accepted_types::skip_type(words, pairs, text, place + 1);
-        } else if w == 24 {
-            if words[place + 1] % 2 == 1 {
+        } else if w == T_META_DATA {
+            if words[place + 1] % 2 == COPY_SEMANTICS {
                 return true;
             }
             place += 2;
@@ -227,12 +242,12 @@ fn name_step(kind: u32) -> usize
     ensures { λ r. ⌜ r ≡ nameStep kind ⌝ }
 {
     match kind {
-        15 => 1,
-        16 => 1,
-        17 => 1,
-        18 => 1,
-        23 => 1,
-        24 => 2,
+        BORROWED => 1,
+        BORROWED_MUT => 1,
+        IMPL_TYPE => 1,
+        DYN_TYPE => 1,
+        T_SYNONYM => 1,
+        T_META_DATA => 2,
         _ => 0,
     }
 }
@@ -241,13 +256,13 @@ fn name_step(kind: u32) -> usize
 fn is_name_kind(kind: u32) -> bool
     ensures { λ r. ⌜ r ≡ nameKind kind ⌝ }
 {
-    if kind < 10 {
+    if kind < USIZE {
         return true;
     }
-    if kind == 12 {
+    if kind == T_IDENTIFIER {
         return true;
     }
-    kind == 13
+    kind == TYPE_FROM_PATH
 }
 
 // `EndsWithNameThatCanAcceptGenerics`
@@ -258,7 +273,7 @@ fn ends_with_name_at(words: &[u32], pairs: &[u32], text: &[u8], at: usize) -> bo
     let mut place = at;
     loop {
         let w = words[place];
-        if w == 21 {
+        if w == INTERSECTION_TYPE {
             place = accepted_types::skip_type(words, pairs, text, place + 1);
         } else {
             let own = name_step(w);
@@ -275,7 +290,7 @@ fn is_auto_size_at(words: &[u32], pairs: &[u32], text: &[u8], at: usize) -> bool
     requires { ⌜ Readable (typeAt (now words) (now pairs) (now text) at) ⌝ }
     ensures { λ r. ⌜ Judges IsAutoSize (typeAt (now (words .entry)) (now (pairs .entry)) (now (text .entry)) at) r ⌝ }
 {
-    words[unwrap::expand(words, pairs, text, at)] < 11
+    words[unwrap::expand(words, pairs, text, at)] < BOOL
 }
 
 fn is_box_or_rc(words: &[u32], pairs: &[u32], text: &[u8], at: usize) -> bool
@@ -293,7 +308,7 @@ fn needs_as_ref_at(words: &[u32], pairs: &[u32], text: &[u8], at: usize) -> bool
     requires { ⌜ Good (now pairs) (now text) × Readable (typeAt (now words) (now pairs) (now text) at) ⌝ }
     ensures { λ r. ⌜ Judges NeedsAsRefForBorrow (typeAt (now (words .entry)) (now (pairs .entry)) (now (text .entry)) at) r ⌝ }
 {
-    if words[at] == 15 {
+    if words[at] == BORROWED {
         return is_box_or_rc(words, pairs, text, at + 1);
     }
     is_box_or_rc(words, pairs, text, at)
@@ -344,7 +359,7 @@ fn is_box_dyn_at(words: &[u32], pairs: &[u32], text: &[u8], at: usize) -> bool
 
 // Whether a type fills the words.
 fn accept_words(words: &[u32], pairs: &[u32], text: &[u8]) -> Check
-    requires { ⌜ Good (now pairs) (now text) × (length (now words) ≤ 8192) ⌝ }
+    requires { ⌜ Good (now pairs) (now text) × (length (now words) ≤ maxWords) ⌝ }
     ensures { λ r. ⌜ r ≡ acceptance (whole (length (now (words .entry))) (typeAt (now (words .entry)) (now (pairs .entry)) (now (text .entry)) 0)) ⌝ }
 {
     match accept_type::accept_type(words, pairs, text, 0, 0) {

@@ -1,12 +1,41 @@
 // Prints some types, a line each: a first look at the library.
 //
 // An encoding holds a type as words, a table of pairs and a text. The words are the type's tree, each type before its parts: the number of its
-// kind, then what that kind asks for. A name is a number too: up to 15 they are fixed, as 1 `std`, 2 `rc` and 3 `Rc`, and 16 is the first pair's.
+// kind, then what that kind asks for. A name is a number too: some are fixed, as `std`, `rc` and `Rc`, and the others are the pairs'. `encoding::words` has names for
+// all these numbers.
+use encoding::words::ARRAY;
+use encoding::words::BOOL;
+use encoding::words::BORROWED;
+use encoding::words::FIRST_PAIR;
+use encoding::words::FN_TYPE;
+use encoding::words::GLOBAL;
+use encoding::words::I32;
+use encoding::words::RC;
+use encoding::words::RC_MODULE;
+use encoding::words::STD;
+use encoding::words::STRUCT;
+use encoding::words::T_IDENTIFIER;
+use encoding::words::T_SYNONYM;
+use encoding::words::TUPLE_TYPE;
+use encoding::words::TYPE_APP;
+use encoding::words::TYPE_FROM_PATH;
+use encoding::words::U8;
 use libc::STDOUT_FILENO;
 use text_calls::TextAnswer;
 
-// A pair is where a name starts in the text, and its length: names 16 to 18 are `Gauge`, `Meters` and `4`.
+// A pair is where a name starts in the text, and its length. These are `Gauge`, `Meters` and `4`.
 const PAIRS: [u32; 6] = [0, 5, 5, 6, 11, 1];
+
+const GAUGE: u32 = FIRST_PAIR;
+
+const METERS: u32 = FIRST_PAIR + 1;
+
+const FOUR: u32 = FIRST_PAIR + 2;
+
+// An array's size is written as a name's number plus 1, no size as 0.
+const NO_SIZE: u32 = 0;
+
+const SIZE_FOUR: u32 = FOUR + 1;
 
 fn print(bytes: &[u8]) {
     io::write_all(STDOUT_FILENO, bytes);
@@ -30,18 +59,39 @@ fn show(what: &[u8], words: &[u32]) {
 }
 
 fn main() {
-    // 14: applied, to 1 argument. 12: the name 16. 0: u8.
-    show(b"a type with an argument", &[14, 1, 12, 16, 0]);
-    // 15: borrowed. 22: an array, 0 for no size. 7: i32.
-    show(b"a borrowed slice", &[15, 22, 0, 7]);
-    // 13: a path, from the root (0), of 3 names.
-    show(b"a counted reference", &[14, 1, 13, 0, 3, 1, 2, 3, 12, 16]);
-    // 20: a function, of 2 arguments. Its return type comes last, 11: bool.
-    show(b"a function", &[20, 2, 0, 15, 12, 16, 11]);
-    // 19: a tuple, of 2 types. 23: a synonym, its name and then the i32 that it stands for.
-    show(b"a tuple with a synonym", &[19, 2, 23, 12, 17, 7, 11]);
-    // 22: an array, whose size is the name 18, written as 18 + 1.
-    show(b"an array with a size", &[22, 19, 0]);
-    // 25 is not the kind of a type.
-    show(b"an unknown word", &[15, 25]);
+    // A type that is applied, to 1 argument.
+    show(
+        b"a type with an argument",
+        &[TYPE_APP, 1, T_IDENTIFIER, GAUGE, U8],
+    );
+    show(b"a borrowed slice", &[BORROWED, ARRAY, NO_SIZE, I32]);
+    // A path has a root and, here, 3 names.
+    show(
+        b"a counted reference",
+        &[
+            TYPE_APP,
+            1,
+            TYPE_FROM_PATH,
+            GLOBAL,
+            3,
+            STD,
+            RC_MODULE,
+            RC,
+            T_IDENTIFIER,
+            GAUGE,
+        ],
+    );
+    // A function of 2 arguments. Its return type comes last.
+    show(
+        b"a function",
+        &[FN_TYPE, 2, U8, BORROWED, T_IDENTIFIER, GAUGE, BOOL],
+    );
+    // A tuple of 2 types. The first is a synonym: its name, and then the type that it stands for.
+    show(
+        b"a tuple with a synonym",
+        &[TUPLE_TYPE, 2, T_SYNONYM, T_IDENTIFIER, METERS, I32, BOOL],
+    );
+    show(b"an array with a size", &[ARRAY, SIZE_FOUR, U8]);
+    // A struct is no type.
+    show(b"an unknown word", &[BORROWED, STRUCT]);
 }

@@ -11,6 +11,8 @@ ghost use Rattle.encoding.specs.Tables.{nameBytes, nameCount};
 ghost use Rattle.encoding.specs.Tested.{Good};
 ghost use Rattle.encoding.specs.Types.{sizeOf};
 ghost use Rattle.sound_names.specs.Words.{letters, wordStarts, wordLengths, beginsExcluded, WordBytes};
+use encoding::words::EMPTY;
+use encoding::words::FIRST_PAIR;
 
 // A letter or an underscore.
 fn is_word_start(b: u8) -> bool
@@ -231,8 +233,8 @@ pub fn sound_name(pairs: &[u32], text: &[u8], name: u32) -> bool
     requires { ⌜ (name < nameCount (now pairs)) × Good (now pairs) (now text) ⌝ }
     ensures { λ r. ⌜ r ≡ soundName (nameBytes (now (pairs .entry)) (now (text .entry)) name) ⌝ }
 {
-    if name < 16 {
-        return name != 0;
+    if name < FIRST_PAIR {
+        return name != EMPTY;
     }
     let start = encoding::pair_word(pairs, name, 0);
     let end = start + encoding::pair_word(pairs, name, 1);
@@ -242,13 +244,18 @@ pub fn sound_name(pairs: &[u32], text: &[u8], name: u32) -> bool
     false
 }
 
+// The sizes that the empty name and the first pair stand for: a name's number plus 1.
+const EMPTY_SIZE: u32 = EMPTY + 1;
+
+const FIRST_PAIR_SIZE: u32 = FIRST_PAIR + 1;
+
 // An array's size: 0 for none, else a name's number plus 1.
 pub fn sound_size(pairs: &[u32], text: &[u8], size: u32) -> bool
     requires { ⌜ (size < nameCount (now pairs) + 1) × Good (now pairs) (now text) ⌝ }
     ensures { λ r. ⌜ r ≡ soundSize (sizeOf (nameBytes (now (pairs .entry)) (now (text .entry))) size) ⌝ }
 {
-    if size < 17 {
-        return size != 1;
+    if size < FIRST_PAIR_SIZE {
+        return size != EMPTY_SIZE;
     }
     let bytes = encoding::pair_bytes(pairs, text, size - 1);
     if bytes.len() == 0 {

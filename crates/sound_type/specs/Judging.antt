@@ -8,6 +8,7 @@ use lib.ListN.{length, getD, take, drop, set}
 use Rattle.rast.specs.Bytes.{Bytes, _and_}
 use Rattle.rast.specs.Tree.{Ty, Tys, nil, cons}
 use Rattle.rast.specs.Sound.{soundName, soundSize, soundPath, isNamed, isIntersection, sound}
+use Rattle.encoding.specs.Words.{maxPairs, maxDepth}
 use Rattle.encoding.specs.declared.Refusal.{Refusal}
 use Rattle.encoding.specs.declared.Head.{Head}
 use Rattle.encoding.specs.declared.Head.the-variants.{Plain, Name, FromPath, Apply, Ref, RefMut, Impl, Dyn, Tuple, Function, Both, ArrayOf, Synonym, Meta}
@@ -29,7 +30,7 @@ use Rattle.sound_type.specs.declared.Step.the-variants.{On, Ended, Unfit
 
 -- the tables keep their rule, and the number of a name fits 16 bits
 abbrev pub Ready : List ℕ → Bytes → Type 0
-Ready pairs text = Good pairs text × (length pairs / 2 ≤ 1024)
+Ready pairs text = Good pairs text × (length pairs / 2 ≤ maxPairs)
 
 -- ---- names
 
@@ -212,12 +213,12 @@ levelsOf levels p = p .rest ∷ stacked levels (p .depth)
 
 unfoldable pub restOf : List ℕ → List ℕ → Bytes → List ℕ → Pass → Reading Bool
 restOf ws pairs text levels p =
-    restAt (readType (nameCount pairs) ws (nameBytes pairs text)) (64 - p .depth) (p .ask) (levelsOf levels p) (p .place)
+    restAt (readType (nameCount pairs) ws (nameBytes pairs text)) (maxDepth - p .depth) (p .ask) (levelsOf levels p) (p .place)
 
 -- what is left behind a sound type that ends at n
 unfoldable pub behindOf : List ℕ → List ℕ → Bytes → List ℕ → Pass → ℕ → Reading Bool
 behindOf ws pairs text levels p n =
-    levelsAt (readType (nameCount pairs) ws (nameBytes pairs text)) (64 - p .depth) (levelsOf levels p) n true
+    levelsAt (readType (nameCount pairs) ws (nameBytes pairs text)) (maxDepth - p .depth) (levelsOf levels p) n true
 
 -- what the next type of a level is asked, if `rest` is the level behind it
 abbrev pub askNext : ℕ → ℕ
@@ -262,9 +263,9 @@ pub record Outward (levels : List ℕ) (p p′ : Pass) : Type 0 where
 
 -- what holds of a pass at each step
 pub record Kept (ws levels : List ℕ) (p : Pass) : Type 0 where
-  pub room : length levels ≡ 64
+  pub room : length levels ≡ maxDepth
   pub place : p .place ≤ length ws
-  pub depth : p .depth ≤ 64
+  pub depth : p .depth ≤ maxDepth
   pub rest : p .rest < 2 ^ 16
 
 -- the pass goes on, and the same is left to it with fewer words; or it has found all sound to the end; or something is not sound; or it is refused

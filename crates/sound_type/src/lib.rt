@@ -5,6 +5,7 @@ ghost use Prim.Native.Nat.{_+_, _-_, _%_, _^_, _≤_, _<_};
 ghost use lib.Dec.{eqb};
 ghost use lib.ListN.{length, getD};
 ghost use Rattle.rast.specs.Sound.{soundSize, sound};
+ghost use Rattle.encoding.specs.Words.{plainKinds, flagCount, maxWords, maxDepth};
 ghost use Rattle.encoding.specs.Refusals.{mapAnswer};
 ghost use Rattle.encoding.specs.Reading.{got, whole, readWord, readBelow};
 ghost use Rattle.encoding.specs.Tables.{nameBytes, nameCount};
@@ -19,6 +20,25 @@ use encoding::PathAt;
 use encoding::Refusal;
 use encoding::Scan;
 use encoding::WordScan;
+use encoding::words::ARRAY;
+use encoding::words::BORROWED;
+use encoding::words::BORROWED_MUT;
+use encoding::words::DYN_TYPE;
+use encoding::words::FIXED_NAMES;
+use encoding::words::FLAGS;
+use encoding::words::FN_TYPE;
+use encoding::words::GLOBAL;
+use encoding::words::IMPL_TYPE;
+use encoding::words::INTERSECTION_TYPE;
+use encoding::words::MAX_DEPTH;
+use encoding::words::PLAIN_KINDS;
+use encoding::words::ROOTS;
+use encoding::words::T_IDENTIFIER;
+use encoding::words::T_META_DATA;
+use encoding::words::T_SYNONYM;
+use encoding::words::TUPLE_TYPE;
+use encoding::words::TYPE_APP;
+use encoding::words::TYPE_FROM_PATH;
 
 // Document 01's "sound": yes, no, or the refusal.
 pub enum SoundAnswer {
@@ -170,7 +190,7 @@ fn new_names(
 ) -> OwnScan
     requires { ⌜ Ready (now pairs) (now text) × Known (now pairs) (now text) (now known)
         × Onward (nameCount (now pairs)) (now words) (nameBytes (now pairs) (now text)) ask (path .start) (path .start + path .count) start
-        × (0 < path .count) × (length (now words) ≤ 8192) × (0 < ask) ⌝ }
+        × (0 < path .count) × (length (now words) ≤ maxWords) × (0 < ask) ⌝ }
     ensures { λ r. ⌜ Scanned (now (words .entry)) (now (pairs .entry)) (now (text .entry)) ask
         (headOfPath (namesPath (nameCount (now (pairs .entry))) (now (words .entry)) path)) r
         × Known (now (pairs .entry)) (now (text .entry)) (now (known .exit)) ⌝ }
@@ -198,7 +218,7 @@ fn new_names(
 
 // A path's head, from its names, of which nothing is asked: they need only be names.
 fn unjudged_names(words: &[u32], pairs: &[u32], text: &[u8], path: PathAt) -> OwnScan
-    requires { ⌜ (path .start ≤ length (now words)) × (0 < path .count) × (length (now words) ≤ 8192) ⌝ }
+    requires { ⌜ (path .start ≤ length (now words)) × (0 < path .count) × (length (now words) ≤ maxWords) ⌝ }
     ensures { λ r. ⌜ Scanned (now (words .entry)) (now (pairs .entry)) (now (text .entry)) 0
         (headOfPath (namesPath (nameCount (now (pairs .entry))) (now (words .entry)) path)) r ⌝ }
 {
@@ -228,7 +248,7 @@ fn own_names(
     ask: u64,
 ) -> OwnScan
     requires { ⌜ Ready (now pairs) (now text) × Known (now pairs) (now text) (now known)
-        × (path .start ≤ length (now words)) × (0 < path .count) × (length (now words) ≤ 8192) ⌝ }
+        × (path .start ≤ length (now words)) × (0 < path .count) × (length (now words) ≤ maxWords) ⌝ }
     ensures { λ r. ⌜ Scanned (now (words .entry)) (now (pairs .entry)) (now (text .entry)) ask
         (headOfPath (namesPath (nameCount (now (pairs .entry))) (now (words .entry)) path)) r
         × Known (now (pairs .entry)) (now (text .entry)) (now (known .exit)) ⌝ }
@@ -249,7 +269,7 @@ fn own_names(
 fn own_root(path: PathAt, ask: u64) -> OwnScan
     ensures { λ r. ⌜ r ≡ rootScan (path .root) (path .start) ask ⌝ }
 {
-    if path.root != 0 {
+    if path.root != GLOBAL {
         return OwnScan::Leaf(path.start);
     }
     if ask == 0 {
@@ -267,12 +287,12 @@ fn own_path(
     at: usize,
     ask: u64,
 ) -> OwnScan
-    requires { ⌜ Ready (now pairs) (now text) × Known (now pairs) (now text) (now known) × (length (now words) ≤ 8192) ⌝ }
+    requires { ⌜ Ready (now pairs) (now text) × Known (now pairs) (now text) (now known) × (length (now words) ≤ maxWords) ⌝ }
     ensures { λ r. ⌜ Scanned (now (words .entry)) (now (pairs .entry)) (now (text .entry)) ask
         (pathHead (nameCount (now (pairs .entry))) (now (words .entry)) at) r
         × Known (now (pairs .entry)) (now (text .entry)) (now (known .exit)) ⌝ }
 {
-    match encoding::scan_below(words, 3, at) {
+    match encoding::scan_below(words, ROOTS, at) {
         WordScan::Word {
             value: root,
             next: p,
@@ -448,15 +468,15 @@ fn own_array(
 // The head of metadata, which hands on what it is asked.
 fn own_meta(words: &[u32], pairs: &[u32], text: &[u8], at: usize, ask: u64) -> OwnScan
     ensures { λ r. ⌜ Scanned (now (words .entry)) (now (pairs .entry)) (now (text .entry)) ask
-        (worded Meta (readBelow 4 (now (words .entry)) at)) r ⌝ }
+        (worded Meta (readBelow flagCount (now (words .entry)) at)) r ⌝ }
 {
-    match encoding::scan_below(words, 4, at) {
+    match encoding::scan_below(words, FLAGS, at) {
         WordScan::Word { value: _, next } => OwnScan::Node { next, ask, rest: 0 },
         WordScan::NoWord(r) => OwnScan::NoNode(r),
     }
 }
 
-// The head of kind `w`, 12 or above, whose further words begin at `at`.
+// The head of kind `w`, no plain type, whose further words begin at `at`.
 fn own_after(
     words: &[u32],
     pairs: &[u32],
@@ -467,30 +487,30 @@ fn own_after(
     at: usize,
     ask: u64,
 ) -> OwnScan
-    requires { ⌜ (12 ≤ w) × (bound ≡ nameCount (now pairs)) × (length (now words) ≤ 8192) × Ready (now pairs) (now text)
+    requires { ⌜ (plainKinds ≤ w) × (bound ≡ nameCount (now pairs)) × (length (now words) ≤ maxWords) × Ready (now pairs) (now text)
         × Known (now pairs) (now text) (now known) ⌝ }
     ensures { λ r. ⌜ Scanned (now (words .entry)) (now (pairs .entry)) (now (text .entry)) ask
         (headAfter bound (now (words .entry)) w at) r
         × Known (now (pairs .entry)) (now (text .entry)) (now (known .exit)) ⌝ }
 {
     match w {
-        12 => own_name(words, pairs, text, known, at, ask),
-        13 => own_path(words, pairs, text, known, at, ask),
-        14 => own_apply(words, pairs, text, at, ask),
-        15 => own_node(at, ask, 3, 0),
-        16 => own_node(at, ask, 3, 0),
-        17 => own_node(at, ask, 3, 0),
-        18 => own_node(at, ask, 3, 0),
-        19 => own_tuple(words, pairs, text, at, ask),
-        20 => own_function(words, pairs, text, at, ask),
-        21 => own_both(at, ask),
-        22 => own_array(words, pairs, text, known, bound, at, ask),
-        23 => OwnScan::Node {
+        T_IDENTIFIER => own_name(words, pairs, text, known, at, ask),
+        TYPE_FROM_PATH => own_path(words, pairs, text, known, at, ask),
+        TYPE_APP => own_apply(words, pairs, text, at, ask),
+        BORROWED => own_node(at, ask, 3, 0),
+        BORROWED_MUT => own_node(at, ask, 3, 0),
+        IMPL_TYPE => own_node(at, ask, 3, 0),
+        DYN_TYPE => own_node(at, ask, 3, 0),
+        TUPLE_TYPE => own_tuple(words, pairs, text, at, ask),
+        FN_TYPE => own_function(words, pairs, text, at, ask),
+        INTERSECTION_TYPE => own_both(at, ask),
+        ARRAY => own_array(words, pairs, text, known, bound, at, ask),
+        T_SYNONYM => OwnScan::Node {
             next: at,
             ask,
             rest: 4,
         },
-        24 => own_meta(words, pairs, text, at, ask),
+        T_META_DATA => own_meta(words, pairs, text, at, ask),
         _ => OwnScan::NoNode(Refusal::UnknownWord),
     }
 }
@@ -505,7 +525,7 @@ fn scan_own(
     at: usize,
     ask: u64,
 ) -> OwnScan
-    requires { ⌜ (bound ≡ nameCount (now pairs)) × (length (now words) ≤ 8192) × Ready (now pairs) (now text)
+    requires { ⌜ (bound ≡ nameCount (now pairs)) × (length (now words) ≤ maxWords) × Ready (now pairs) (now text)
         × Known (now pairs) (now text) (now known) ⌝ }
     ensures { λ r. ⌜ Scanned (now (words .entry)) (now (pairs .entry)) (now (text .entry)) ask
         (readHead bound (now (words .entry)) at) r
@@ -515,15 +535,15 @@ fn scan_own(
         return OwnScan::NoNode(Refusal::EndsEarly);
     }
     let w = words[at];
-    if w < 12 {
+    if w < PLAIN_KINDS {
         return own_leaf(at + 1, ask);
     }
     own_after(words, pairs, text, known, bound, w, at + 1, ask)
 }
 
 // The pass behind the innermost level: the one around it is taken up.
-fn leave(levels: &[u16; 64], pass: Pass) -> Pass
-    requires { ⌜ (0 < pass .depth) × (pass .depth ≤ 64) ⌝ }
+fn leave(levels: &[u16; MAX_DEPTH], pass: Pass) -> Pass
+    requires { ⌜ (0 < pass .depth) × (pass .depth ≤ maxDepth) ⌝ }
     ensures { λ r. ⌜ (r ≡ leaving (now (levels .entry)) pass) × (r .rest < 2 ^ 16) ⌝ }
 {
     let above = pass.depth - 1;
@@ -536,8 +556,8 @@ fn leave(levels: &[u16; 64], pass: Pass) -> Pass
 }
 
 // The pass behind all levels that have ended.
-fn settle(levels: &[u16; 64], pass: Pass) -> Pass
-    requires { ⌜ (pass .depth ≤ 64) × (pass .rest < 2 ^ 16) ⌝ }
+fn settle(levels: &[u16; MAX_DEPTH], pass: Pass) -> Pass
+    requires { ⌜ (pass .depth ≤ maxDepth) × (pass .rest < 2 ^ 16) ⌝ }
     ensures { λ r. ⌜ Outward (now (levels .entry)) pass r × (r .rest < 4 → r .depth ≡ 0) ⌝ }
 {
     let mut p = pass;
@@ -575,8 +595,8 @@ fn step_to(pass: Pass, next: usize) -> Pass
 }
 
 // The pass behind a head that ends at `next`, one level down.
-fn enter(levels: &mut [u16; 64], pass: Pass, next: usize, ask: u64, rest: u64) -> Pass
-    requires { ⌜ (pass .rest < 2 ^ 16) × (pass .depth < 64) ⌝ }
+fn enter(levels: &mut [u16; MAX_DEPTH], pass: Pass, next: usize, ask: u64, rest: u64) -> Pass
+    requires { ⌜ (pass .rest < 2 ^ 16) × (pass .depth < maxDepth) ⌝ }
     ensures { λ r. ⌜ (r ≡ under pass next ask rest) × (now (levels .exit) ≡ pushed (now (levels .entry)) pass) ⌝ }
 {
     let depth = pass.depth;
@@ -596,15 +616,15 @@ fn advance(
     text: &[u8],
     bound: usize,
     known: &mut [u16; 64],
-    levels: &mut [u16; 64],
+    levels: &mut [u16; MAX_DEPTH],
     pass: Pass,
 ) -> Step
-    requires { ⌜ (bound ≡ nameCount (now pairs)) × Ready (now pairs) (now text) × (length (now words) ≤ 8192)
+    requires { ⌜ (bound ≡ nameCount (now pairs)) × Ready (now pairs) (now text) × (length (now words) ≤ maxWords)
         × Known (now pairs) (now text) (now known) × Kept (now words) (now levels) pass ⌝ }
     ensures { λ r. ⌜ Stepped (now (words .entry)) (now (pairs .entry)) (now (text .entry)) (now (levels .entry)) pass (now (levels .exit)) r
         × Known (now (pairs .entry)) (now (text .entry)) (now (known .exit)) ⌝ }
 {
-    if pass.depth == 64 {
+    if pass.depth == MAX_DEPTH {
         return Step::Halt(Refusal::TooDeep);
     }
     match scan_own(words, pairs, text, known, bound, pass.place, pass.ask) {
@@ -623,7 +643,7 @@ fn advance(
 
 // A type that is not sound and fills the words, unless a refusal is still to come.
 fn accept_whole(words: &[u32], pairs: &[u32], text: &[u8]) -> SoundAnswer
-    requires { ⌜ Ready (now pairs) (now text) × (length (now words) ≤ 8192) ⌝ }
+    requires { ⌜ Ready (now pairs) (now text) × (length (now words) ≤ maxWords) ⌝ }
     ensures { λ r. ⌜ r ≡ soundAnswer (mapAnswer (λ t. false)
         (whole (length (now (words .entry))) (typeAt (now (words .entry)) (now (pairs .entry)) (now (text .entry)) 0))) ⌝ }
 {
@@ -654,7 +674,7 @@ fn keep_fixed(pairs: &[u32], text: &[u8], known: &mut [u16; 64])
     ensures { λ r. ⌜ Known (now (pairs .entry)) (now (text .entry)) (now (known .exit)) ⌝ }
 {
     let mut i = 1;
-    while i < 16 {
+    while i < FIXED_NAMES {
         known[i] = i as u16;
         i += 1;
     }
@@ -662,12 +682,12 @@ fn keep_fixed(pairs: &[u32], text: &[u8], known: &mut [u16; 64])
 
 // A type that fills the words.
 fn judge_whole(words: &[u32], pairs: &[u32], text: &[u8]) -> SoundAnswer
-    requires { ⌜ Ready (now pairs) (now text) × (length (now words) ≤ 8192) ⌝ }
+    requires { ⌜ Ready (now pairs) (now text) × (length (now words) ≤ maxWords) ⌝ }
     ensures { λ r. ⌜ r ≡ soundAnswer (mapAnswer sound
         (whole (length (now (words .entry))) (typeAt (now (words .entry)) (now (pairs .entry)) (now (text .entry)) 0))) ⌝ }
 {
     let bound = encoding::name_count(pairs);
-    let mut levels = [0u16; 64];
+    let mut levels = [0u16; MAX_DEPTH];
     let mut known = [0u16; 64];
     known[0] = 1;
     keep_fixed(pairs, text, &mut known);

@@ -2,6 +2,7 @@
 ghost use mathlib.Core.Path.{_≡_};
 ghost use Prim.Native.Nat.{_≤_};
 ghost use lib.ListN.{length};
+ghost use Rattle.encoding.specs.Words.{maxWords};
 ghost use Rattle.encoding.specs.Tested.{Good};
 ghost use Rattle.text_calls.specs.Calls.{filled, typeText, pathText};
 ghost use Rattle.text_calls.specs.Wholes.{wholeTypeText, wholePathText};
@@ -18,7 +19,7 @@ pub enum TextAnswer {
 
 // A type is accepted and measured before a byte is written, since a refusal leaves the buffer unchanged.
 fn fill_type(words: &[u32], pairs: &[u32], text: &[u8], out: &mut [u8]) -> TextAnswer
-    requires { ⌜ Good (now pairs) (now text) × (length (now words) ≤ 8192) ⌝ }
+    requires { ⌜ Good (now pairs) (now text) × (length (now words) ≤ maxWords) ⌝ }
     ensures { λ r. ⌜ (r, now (out .exit)) ≡ filled (now (out .entry)) (wholeTypeText (now (words .entry)) (now (pairs .entry)) (now (text .entry))) ⌝ }
 {
     match text_measure::measure_type(words, pairs, text, 0) {
@@ -37,7 +38,7 @@ fn fill_type(words: &[u32], pairs: &[u32], text: &[u8], out: &mut [u8]) -> TextA
 }
 
 fn fill_path(words: &[u32], pairs: &[u32], text: &[u8], out: &mut [u8]) -> TextAnswer
-    requires { ⌜ Good (now pairs) (now text) × (length (now words) ≤ 8192) ⌝ }
+    requires { ⌜ Good (now pairs) (now text) × (length (now words) ≤ maxWords) ⌝ }
     ensures { λ r. ⌜ (r, now (out .exit)) ≡ filled (now (out .entry)) (wholePathText (now (words .entry)) (now (pairs .entry)) (now (text .entry))) ⌝ }
 {
     match text_measure::measure_path(words, pairs, text, 0) {

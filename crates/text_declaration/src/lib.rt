@@ -10,23 +10,20 @@ ghost use Rattle.text_declaration.specs.Texts.{keywordText, entryOf, fie
 use accepted_types::Spot;
 use encoding::Refusal;
 use encoding::WordScan;
+use encoding::words::ENUM;
+use encoding::words::FIELD_KINDS;
+use encoding::words::NAMED;
+use encoding::words::STRUCT;
+use encoding::words::TYPE_SYNONYM;
+use encoding::words::USE;
 use text_fields::Entry;
 use text_pass::Place;
 
-// The heads of declarations.
-const STRUCT: u32 = 25;
-
-const ENUM: u32 = 26;
-
-const SYNONYM: u32 = 27;
-
-const USE: u32 = 28;
-
-// What a list of fields is of, by the word before it: 0 named, 1 nameless.
+// What a list of fields is of, by the word before it.
 fn fields_entry(in_case: bool, kind: u32) -> Entry
     ensures { λ r. ⌜ r ≡ entryOf in_case kind ⌝ }
 {
-    if kind == 0 {
+    if kind == NAMED {
         return Entry::Named;
     }
     if in_case {
@@ -111,7 +108,7 @@ fn lay_fields(
     requires { ⌜ Checked (now words) (now pairs) (now text) × (level < 2 ^ 31) × Ready write (now out) pos (fieldsAt (now words) (now pairs) (now text) false level at) ⌝ }
     ensures { λ r. ⌜ Went write (now (out .entry)) pos (fieldsAt (now (words .entry)) (now (pairs .entry)) (now (text .entry)) false level at) (now (out .exit)) r ⌝ }
 {
-    match encoding::scan_below(words, 2, at) {
+    match encoding::scan_below(words, FIELD_KINDS, at) {
         WordScan::Word { value, next } => {
             let entry = fields_entry(false, value);
             lay_listed(write, words, pairs, text, entry, level, next, out, pos)
@@ -216,7 +213,7 @@ fn count_case_fields(
     requires { ⌜ Checked (now words) (now pairs) (now text) × (level < 2 ^ 31) ⌝ }
     ensures { λ r. ⌜ Counts pos (fieldsAt (now (words .entry)) (now (pairs .entry)) (now (text .entry)) true level at) r ⌝ }
 {
-    match encoding::scan_below(words, 2, at) {
+    match encoding::scan_below(words, FIELD_KINDS, at) {
         WordScan::Word { value, next } => {
             let entry = fields_entry(true, value);
             text_fields::count_list(words, pairs, text, entry, level, next, pos)
@@ -555,7 +552,7 @@ fn lay_after(
     ensures { λ r. ⌜ Went write (now (out .entry)) pos (afterAt (now (words .entry)) (now (pairs .entry)) (now (text .entry)) head level at) (now (out .exit)) r ⌝ }
 {
     match head {
-        STRUCT..=SYNONYM => lay_fronted(write, words, pairs, text, head, level, at, out, pos),
+        STRUCT..=TYPE_SYNONYM => lay_fronted(write, words, pairs, text, head, level, at, out, pos),
         USE => lay_use(write, words, pairs, text, at, out, pos),
         _ => Place::Stopped(Refusal::UnknownWord),
     }

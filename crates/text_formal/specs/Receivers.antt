@@ -6,6 +6,7 @@ use lib.Dec.{eqb}
 use Rattle.rast.specs.Bytes.{Bytes, ascii, same, _and_, _or_}
 use Rattle.rast.specs.Tree.{Ty, TIdentifier}
 use Rattle.rast.specs.DeclarationToString.{Expand, isSelfOwned, isSelfBorrowed, isSelfBorrowedMut, isUnderscore}
+use Rattle.encoding.specs.Words.{borrowedKind, borrowedMutKind}
 use Rattle.encoding.specs.Refusals.{pick}
 use Rattle.encoding.specs.Reading.{Reading, got}
 use Rattle.text_formal.specs.declared.Receiver.{Receiver}
@@ -29,12 +30,12 @@ pub record NoReceiver (x : Bytes) (y : Reading (Ty Bytes)) : Type 0 where
 
 -- the kinds of a borrow, `&` and `&mut`
 pub data BorrowKind : ℕ → Type 0 where
-  shared : BorrowKind 15
-  mutable : BorrowKind 16
+  shared : BorrowKind borrowedKind
+  mutable : BorrowKind borrowedMutKind
 
 -- a borrow of that kind, of `Self`
 abbrev pub isSelfBorrowedAs : ℕ → Ty Bytes → Bool
-isSelfBorrowedAs kind t = pick (eqb kind 15) (isSelfBorrowed t) (isSelfBorrowedMut t)
+isSelfBorrowedAs kind t = pick (eqb kind borrowedKind) (isSelfBorrowed t) (isSelfBorrowedMut t)
 
 -- the answer says whether the type that stands at `at` is `_`; it is no where no type stands there
 pub record Tells (x : Reading (Ty Bytes)) (at : ℕ) (r : Bool) : Type 0 where

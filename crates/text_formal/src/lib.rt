@@ -20,6 +20,13 @@ ghost use Rattle.text_formal.specs.Receivers.{receiverOf, NoReceiver, Bo
 use accepted_types::Spot;
 use encoding::Refusal;
 use encoding::WordScan;
+use encoding::words::BORROWED;
+use encoding::words::BORROWED_MUT;
+use encoding::words::SELF_NAME;
+use encoding::words::SELF_ROOT;
+use encoding::words::T_IDENTIFIER;
+use encoding::words::TYPE_FROM_PATH;
+use encoding::words::UNDERSCORE;
 use text_measure::Measure;
 use text_type::Part;
 
@@ -43,16 +50,16 @@ fn is_self_type(words: &[u32], pairs: &[u32], text: &[u8], at: usize) -> bool
     requires { ⌜ Readable (typeAt (now words) (now pairs) (now text) at) ⌝ }
     ensures { λ r. ⌜ Judges isSelfOwned (typeAt (now (words .entry)) (now (pairs .entry)) (now (text .entry)) at) r ⌝ }
 {
-    if words[at] != 13 {
+    if words[at] != TYPE_FROM_PATH {
         return false;
     }
-    if words[at + 1] != 2 {
+    if words[at + 1] != SELF_ROOT {
         return false;
     }
     words[at + 2] == 0
 }
 
-// Whether an accepted type is a borrow of that kind, of `Self`: `&Self` by 15, `&mut Self` by 16.
+// Whether an accepted type is a borrow of that kind, of `Self`: `&Self` or `&mut Self`.
 fn is_self_borrowed(words: &[u32], pairs: &[u32], text: &[u8], kind: u32, at: usize) -> bool
     requires { ⌜ BorrowKind kind × Readable (typeAt (now words) (now pairs) (now text) at) ⌝ }
     ensures { λ r. ⌜ Judges (isSelfBorrowedAs kind) (typeAt (now (words .entry)) (now (pairs .entry)) (now (text .entry)) at) r ⌝ }
@@ -71,11 +78,17 @@ fn is_underscore(words: &[u32], pairs: &[u32], text: &[u8], at: usize) -> bool
     if words.len() <= at {
         return false;
     }
-    if words[at] != 12 {
+    if words[at] != T_IDENTIFIER {
         return false;
     }
     match encoding::scan_below(words, encoding::name_count(pairs), at + 1) {
-        WordScan::Word { value, next: _ } => encoding::is_name(pairs, text, value, 14, b"_"),
+        WordScan::Word { value, next: _ } => encoding::is_name(
+            pairs,
+            text,
+            value,
+            UNDERSCORE,
+            b"_",
+        ),
         WordScan::NoWord(_) => false,
     }
 }
@@ -88,10 +101,10 @@ fn self_form(words: &[u32], pairs: &[u32], text: &[u8], at: usize) -> Receiver
     if is_self_type(words, pairs, text, unwrap::expand(words, pairs, text, at)) {
         return Receiver::ByValue;
     }
-    if is_self_borrowed(words, pairs, text, 15, at) {
+    if is_self_borrowed(words, pairs, text, BORROWED, at) {
         return Receiver::ByRef;
     }
-    if is_self_borrowed(words, pairs, text, 16, at) {
+    if is_self_borrowed(words, pairs, text, BORROWED_MUT, at) {
         return Receiver::ByMut;
     }
     if is_underscore(words, pairs, text, at) {
@@ -105,10 +118,10 @@ fn is_accepted_underscore(words: &[u32], pairs: &[u32], text: &[u8], at: usize) 
     requires { ⌜ Good (now pairs) (now text) × Readable (typeAt (now words) (now pairs) (now text) at) ⌝ }
     ensures { λ r. ⌜ Tells (typeAt (now (words .entry)) (now (pairs .entry)) (now (text .entry)) at) at r ⌝ }
 {
-    if words[at] != 12 {
+    if words[at] != T_IDENTIFIER {
         return false;
     }
-    encoding::is_name(pairs, text, words[at + 1], 14, b"_")
+    encoding::is_name(pairs, text, words[at + 1], UNDERSCORE, b"_")
 }
 
 // ---- counting
@@ -130,9 +143,9 @@ fn may_receive(words: &[u32], pairs: &[u32], text: &[u8], name: u32, at: usize) 
     ensures { λ r. ⌜ (r ≡ true → same (nameBytes (now (pairs .entry)) (now (text .entry)) name) (ascii "self") ≡ true)
         × (r ≡ false → NoReceiver (nameBytes (now (pairs .entry)) (now (text .entry)) name) (typeAt (now (words .entry)) (now (pairs .entry)) (now (text .entry)) at)) ⌝ }
 {
-    if encoding::is_name(pairs, text, name, 15, b"self") {
+    if encoding::is_name(pairs, text, name, SELF_NAME, b"self") {
         if at < words.len() {
-            return 12 < words[at];
+            return T_IDENTIFIER < words[at];
         }
     }
     false
@@ -313,7 +326,7 @@ pub fn write_label(
 {
     let name = words[at];
     let next = at + 1;
-    if encoding::is_name(pairs, text, name, 15, b"self") {
+    if encoding::is_name(pairs, text, name, SELF_NAME, b"self") {
         return write_receiver(words, pairs, text, name, next, out, pos);
     }
     if is_accepted_underscore(words, pairs, text, next) {

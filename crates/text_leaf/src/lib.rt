@@ -6,6 +6,7 @@ ghost use lib.Seq.{sets};
 ghost use Rattle.rast.specs.Tree.{U8};
 ghost use Rattle.rast.specs.ToString.{Path·ToString, Primitive·ToString};
 ghost use Rattle.buffer.specs.Wrote.{Wrote};
+ghost use Rattle.encoding.specs.Words.{plainKinds};
 ghost use Rattle.encoding.specs.Tables.{nameBytes, nameCount};
 ghost use Rattle.encoding.specs.Tested.{Good, HoldsNames};
 ghost use Rattle.encoding.specs.HeadWords.{InsidePath};
@@ -13,6 +14,21 @@ ghost use Rattle.encoding.specs.Types.{primitives, rootOf, pathOf, sizeOf};
 ghost use Rattle.text_leaf.specs.Texts.{memberText, endText, twoBytes, HasEnds};
 use encoding::FixedNames;
 use encoding::PathAt;
+use encoding::words::CRATE;
+use encoding::words::FIRST_PAIR;
+use encoding::words::FIXED_NAMES;
+use encoding::words::GLOBAL;
+use encoding::words::I8;
+use encoding::words::I16;
+use encoding::words::I32;
+use encoding::words::I64;
+use encoding::words::I128;
+use encoding::words::U8;
+use encoding::words::U16;
+use encoding::words::U32;
+use encoding::words::U64;
+use encoding::words::U128;
+use encoding::words::USIZE;
 
 // Where the plain types' texts start in the byte string below, a hexadecimal digit for each kind from the right, in threes of bytes. The string is laid out in
 // pieces of 16 bytes, and each text lies in one of them, as with the fixed names (`encoding`).
@@ -20,7 +36,7 @@ const STARTS: u64 = 0xce8763b4210a;
 
 // No jump to one of twelve strings: which of them comes next is hard to foresee.
 pub fn put_primitive(kind: u32, out: &mut [u8], pos: usize) -> usize
-    requires { ⌜ (kind < 12) × (pos + length (Primitive·ToString (getD primitives kind U8)) ≤ length (now out)) ⌝ }
+    requires { ⌜ (kind < plainKinds) × (pos + length (Primitive·ToString (getD primitives kind U8)) ≤ length (now out)) ⌝ }
     ensures { λ r. ⌜ Wrote (now (out .entry)) pos (Primitive·ToString (getD primitives kind U8)) (now (out .exit)) r ⌝ }
 {
     let all = b"u16u32u64i16u128  i32i64i128  u8 i8 bool  usize ";
@@ -47,20 +63,20 @@ fn with_ends(count: usize, first: u8, second: u8, third: u8, fourth: u8) -> Ends
 
 // Those of the plain types other than `usize`. The match compiles to tables that need not be laid out.
 fn plain_ends(kind: u32) -> Ends
-    requires { ⌜ (kind < 12) × (kind ≡ 10 → ⊥) ⌝ }
+    requires { ⌜ (kind < plainKinds) × (kind ≡ 10 → ⊥) ⌝ }
     ensures { λ r. ⌜ HasEnds (Primitive·ToString (getD primitives kind U8)) (r .count) (r .front) (r .back) ⌝ }
 {
     match kind {
-        0 => with_ends(2, b'u', b'8', b'u', b'8'),
-        1 => with_ends(3, b'u', b'1', b'1', b'6'),
-        2 => with_ends(3, b'u', b'3', b'3', b'2'),
-        3 => with_ends(3, b'u', b'6', b'6', b'4'),
-        4 => with_ends(4, b'u', b'1', b'2', b'8'),
-        5 => with_ends(2, b'i', b'8', b'i', b'8'),
-        6 => with_ends(3, b'i', b'1', b'1', b'6'),
-        7 => with_ends(3, b'i', b'3', b'3', b'2'),
-        8 => with_ends(3, b'i', b'6', b'6', b'4'),
-        9 => with_ends(4, b'i', b'1', b'2', b'8'),
+        U8 => with_ends(2, b'u', b'8', b'u', b'8'),
+        U16 => with_ends(3, b'u', b'1', b'1', b'6'),
+        U32 => with_ends(3, b'u', b'3', b'3', b'2'),
+        U64 => with_ends(3, b'u', b'6', b'6', b'4'),
+        U128 => with_ends(4, b'u', b'1', b'2', b'8'),
+        I8 => with_ends(2, b'i', b'8', b'i', b'8'),
+        I16 => with_ends(3, b'i', b'1', b'1', b'6'),
+        I32 => with_ends(3, b'i', b'3', b'3', b'2'),
+        I64 => with_ends(3, b'i', b'6', b'6', b'4'),
+        I128 => with_ends(4, b'i', b'1', b'2', b'8'),
         _ => with_ends(4, b'b', b'o', b'o', b'l'),
     }
 }
@@ -75,10 +91,10 @@ fn put_two(two: u16, out: &mut [u8], pos: usize)
 
 // A plain type of a field. `put_primitive` lays its letters out at each call; in `writing` this one would make the functions around it too large to be inlined.
 pub fn put_plain(kind: u32, out: &mut [u8], pos: usize) -> usize
-    requires { ⌜ (kind < 12) × (pos + length (Primitive·ToString (getD primitives kind U8)) ≤ length (now out)) ⌝ }
+    requires { ⌜ (kind < plainKinds) × (pos + length (Primitive·ToString (getD primitives kind U8)) ≤ length (now out)) ⌝ }
     ensures { λ r. ⌜ Wrote (now (out .entry)) pos (Primitive·ToString (getD primitives kind U8)) (now (out .exit)) r ⌝ }
 {
-    if kind == 10 {
+    if kind == USIZE {
         return buffer::put(b"usize", out, pos);
     }
     let Ends { count, front, back } = plain_ends(kind);
@@ -92,8 +108,8 @@ fn put_root(root: u32, out: &mut [u8], pos: usize) -> usize
     ensures { λ r. ⌜ Wrote (now (out .entry)) pos (Path·ToString (rootOf root)) (now (out .exit)) r ⌝ }
 {
     match root {
-        0 => pos,
-        1 => buffer::put(b"crate", out, pos),
+        GLOBAL => pos,
+        CRATE => buffer::put(b"crate", out, pos),
         _ => buffer::put(b"Self", out, pos),
     }
 }
@@ -101,7 +117,7 @@ fn put_root(root: u32, out: &mut [u8], pos: usize) -> usize
 // One more name of a path, by the tables of the fixed names.
 fn put_member(
     letters: &[u8; 75],
-    starts: &[u8; 16],
+    starts: &[u8; FIXED_NAMES],
     pairs: &[u32],
     text: &[u8],
     name: u32,
@@ -113,7 +129,7 @@ fn put_member(
     ensures { λ r. ⌜ Wrote (now (out .entry)) pos (memberText (nameBytes (now (pairs .entry)) (now (text .entry)) name)) (now (out .exit)) r ⌝ }
 {
     let p = buffer::put(b"::", out, pos);
-    if name < 16 {
+    if name < FIRST_PAIR {
         return encoding::put_fixed(letters, starts, name, out, p);
     }
     encoding::put_pair(pairs, text, name, out, p)

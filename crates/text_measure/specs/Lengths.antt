@@ -7,6 +7,7 @@ use lib.ListN.{length, getD, take, drop}
 use Rattle.rast.specs.Bytes.{Bytes}
 use Rattle.rast.specs.Tree.{Ty, U8}
 use Rattle.rast.specs.ToString.{Path·ToString, Primitive·ToString, Type·ToString}
+use Rattle.encoding.specs.Words.{maxWords}
 use Rattle.encoding.specs.declared.PathAt.{PathAt}
 use Rattle.encoding.specs.declared.Refusal.{Refusal}
 use Rattle.encoding.specs.declared.Head.{Head}
@@ -91,10 +92,10 @@ modeOf (ArrayOf s) = 1
 modeOf Synonym = 2
 modeOf (Meta x) = 1
 
--- a count of types as it is read, or cut down: more than 8,192 of them find no words either way
+-- a count of types as it is read, or cut down: more than `maxWords` of them find no words either way
 pub data Counted (k n : ℕ) : Type 0 where
   exact : k ≡ n → Counted k n
-  many : 8192 ≤ k → 8192 ≤ n → Counted k n
+  many : maxWords ≤ k → maxWords ≤ n → Counted k n
 
 -- the answer says what the reading of a path says, and its bytes are few enough that no sum over the words overflows
 pub data PathScanned (ws pairs : List ℕ) (x : Reading PathAt) : PathMeasure → Type 0 where

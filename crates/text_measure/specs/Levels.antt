@@ -7,6 +7,7 @@ use lib.ListN.{length, getD, set}
 use Rattle.rast.specs.Bytes.{Bytes}
 use Rattle.rast.specs.Tree.{Ty, Tys, nil, cons}
 use Rattle.rast.specs.ToString.{Type·ToString}
+use Rattle.encoding.specs.Words.{maxDepth}
 use Rattle.encoding.specs.declared.Refusal.{Refusal}
 use Rattle.encoding.specs.Refusals.{pick}
 use Rattle.encoding.specs.Reading.{Reading, got, stop, _>>=_}
@@ -41,7 +42,7 @@ stacked levels (suc d) = getD levels d 0 ∷ stacked levels d
 -- what is left to a pass
 unfoldable pub restOf : List ℕ → List ℕ → Bytes → List ℕ → Pass → Reading ℕ
 restOf ws pairs text levels p =
-    restAt (readType (nameCount pairs) ws (nameBytes pairs text)) (64 - p .depth) (p .mode) (p .due) (stacked levels (p .depth)) (p .place) (p .bytes)
+    restAt (readType (nameCount pairs) ws (nameBytes pairs text)) (maxDepth - p .depth) (p .mode) (p .due) (stacked levels (p .depth)) (p .place) (p .bytes)
 
 -- the pass behind the innermost level: the one around it is taken up
 abbrev pub leaving : List ℕ → Pass → Pass
@@ -91,10 +92,10 @@ pub record Outward (levels : List ℕ) (p p′ : Pass) : Type 0 where
 
 -- what holds of a pass at each step
 pub record Kept (ws levels : List ℕ) (p : Pass) : Type 0 where
-  pub room : length levels ≡ 64
+  pub room : length levels ≡ maxDepth
   pub place : p .place ≤ length ws
   pub bytes : p .bytes ≤ p .place * 2 ^ 46
-  pub depth : p .depth < 64
+  pub depth : p .depth < maxDepth
   pub some : 0 < p .due
   pub due : p .due ≤ 2 ^ 15
 

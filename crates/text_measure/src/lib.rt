@@ -4,6 +4,7 @@ ghost use Prim.Native.Nat.{_+_, _*_, _-_, _^_, _/_, _≤_, _<_};
 ghost use lib.Dec.{eqb};
 ghost use lib.ListN.{length};
 ghost use Rattle.rast.specs.ToString.{Path·ToString};
+ghost use Rattle.encoding.specs.Words.{fromPathKind, flagCount, maxWords, maxDepth};
 ghost use Rattle.encoding.specs.Refusals.{pick};
 ghost use Rattle.encoding.specs.Reading.{readWord, readBelow};
 ghost use Rattle.encoding.specs.Tables.{nameBytes, nameCount};
@@ -16,6 +17,25 @@ ghost use Rattle.text_measure.specs.Levels.{leaving, beside, under, push
 use encoding::PathAt;
 use encoding::Refusal;
 use encoding::WordScan;
+use encoding::words::ARRAY;
+use encoding::words::BORROWED;
+use encoding::words::BORROWED_MUT;
+use encoding::words::CRATE;
+use encoding::words::DYN_TYPE;
+use encoding::words::FLAGS;
+use encoding::words::FN_TYPE;
+use encoding::words::GLOBAL;
+use encoding::words::IMPL_TYPE;
+use encoding::words::INTERSECTION_TYPE;
+use encoding::words::MAX_DEPTH;
+use encoding::words::MAX_WORDS;
+use encoding::words::PLAIN_KINDS;
+use encoding::words::ROOTS;
+use encoding::words::T_META_DATA;
+use encoding::words::T_SYNONYM;
+use encoding::words::TUPLE_TYPE;
+use encoding::words::TYPE_APP;
+use encoding::words::TYPE_FROM_PATH;
 
 // Where a type ends and how long its text is, or the refusal that is met first.
 pub enum Measure {
@@ -71,8 +91,8 @@ fn root_length(root: u32) -> usize
     ensures { λ r. ⌜ (r ≡ length (Path·ToString (rootOf root))) × (r ≤ 5) ⌝ }
 {
     match root {
-        0 => 0,
-        1 => 5,
+        GLOBAL => 0,
+        CRATE => 5,
         _ => 4,
     }
 }
@@ -100,7 +120,7 @@ fn array_length(pairs: &[u32], size: u32) -> usize
 
 // A path whose root and count were read, from its names: they are read and measured in one loop.
 fn measure_names(words: &[u32], pairs: &[u32], bound: usize, path: PathAt) -> PathMeasure
-    requires { ⌜ (bound ≡ nameCount (now pairs)) × (length (now words) ≤ 8192) × (path .start ≤ length (now words)) ⌝ }
+    requires { ⌜ (bound ≡ nameCount (now pairs)) × (length (now words) ≤ maxWords) × (path .start ≤ length (now words)) ⌝ }
     ensures { λ r. ⌜ PathScanned (now (words .entry)) (now (pairs .entry)) (namesPath bound (now (words .entry)) path) r ⌝ }
 {
     let mut i = path.start;
@@ -126,10 +146,10 @@ fn measure_names(words: &[u32], pairs: &[u32], bound: usize, path: PathAt) -> Pa
 
 // The path at `at`.
 fn path_at(words: &[u32], pairs: &[u32], bound: usize, at: usize) -> PathMeasure
-    requires { ⌜ (bound ≡ nameCount (now pairs)) × (length (now words) ≤ 8192) ⌝ }
+    requires { ⌜ (bound ≡ nameCount (now pairs)) × (length (now words) ≤ maxWords) ⌝ }
     ensures { λ r. ⌜ PathScanned (now (words .entry)) (now (pairs .entry)) (readPath bound (now (words .entry)) at) r ⌝ }
 {
-    match encoding::scan_below(words, 3, at) {
+    match encoding::scan_below(words, ROOTS, at) {
         WordScan::Word {
             value: root,
             next: p,
@@ -149,7 +169,7 @@ fn path_at(words: &[u32], pairs: &[u32], bound: usize, at: usize) -> PathMeasure
 
 // Where the path at `at` ends and how long its text is, or the refusal that is met first.
 pub fn measure_path(words: &[u32], pairs: &[u32], text: &[u8], at: usize) -> PathMeasure
-    requires { ⌜ Good (now pairs) (now text) × (length (now words) ≤ 8192) ⌝ }
+    requires { ⌜ Good (now pairs) (now text) × (length (now words) ≤ maxWords) ⌝ }
     ensures { λ r. ⌜ r ≡ pathMeasureOf (now (words .entry)) (nameBytes (now (pairs .entry)) (now (text .entry))) (readPath (nameCount (now (pairs .entry))) (now (words .entry)) at) ⌝ }
 {
     path_at(words, pairs, encoding::name_count(pairs), at)
@@ -190,7 +210,7 @@ fn own_name(words: &[u32], pairs: &[u32], bound: usize, at: usize) -> OwnScan
 
 // A path's head.
 fn own_path(words: &[u32], pairs: &[u32], bound: usize, at: usize) -> OwnScan
-    requires { ⌜ (bound ≡ nameCount (now pairs)) × (length (now words) ≤ 8192) ⌝ }
+    requires { ⌜ (bound ≡ nameCount (now pairs)) × (length (now words) ≤ maxWords) ⌝ }
     ensures { λ r. ⌜ Scanned (now (words .entry)) (now (pairs .entry)) (pathHead bound (now (words .entry)) at) r ⌝ }
 {
     match path_at(words, pairs, bound, at) {
@@ -203,12 +223,15 @@ fn own_path(words: &[u32], pairs: &[u32], bound: usize, at: usize) -> OwnScan
     }
 }
 
-// A count of types, cut down: more than 8,192 of them find no words, so which number it is makes no difference, and a level fits 16 bits.
+// The most types that find words.
+const MOST_TYPES: u32 = MAX_WORDS as u32;
+
+// A count of types, cut down: more than these find no words, so which number it is makes no difference, and a level fits 16 bits.
 pub fn cut(count: u32) -> u64
-    ensures { λ r. ⌜ Counted r count × (r ≤ 8192) ⌝ }
+    ensures { λ r. ⌜ Counted r count × (r ≤ maxWords) ⌝ }
 {
-    if 8192 < count {
-        return 8192;
+    if MOST_TYPES < count {
+        return MAX_WORDS as u64;
     }
     count as u64
 }
@@ -269,32 +292,32 @@ fn own_array(words: &[u32], pairs: &[u32], bound: usize, at: usize) -> OwnScan
 
 // The head of metadata, which adds nothing.
 fn own_meta(words: &[u32], pairs: &[u32], at: usize) -> OwnScan
-    ensures { λ r. ⌜ Scanned (now (words .entry)) (now (pairs .entry)) (worded Meta (readBelow 4 (now (words .entry)) at)) r ⌝ }
+    ensures { λ r. ⌜ Scanned (now (words .entry)) (now (pairs .entry)) (worded Meta (readBelow flagCount (now (words .entry)) at)) r ⌝ }
 {
-    match encoding::scan_below(words, 4, at) {
+    match encoding::scan_below(words, FLAGS, at) {
         WordScan::Word { value: _, next } => own_node(next, 1, 0, 1),
         WordScan::NoWord(r) => OwnScan::NoNode(r),
     }
 }
 
-// The head of kind `w`, 13 or above, whose further words begin at `at`.
+// The head of kind `w`, neither a plain type nor a name, whose further words begin at `at`.
 fn own_after(words: &[u32], pairs: &[u32], bound: usize, w: u32, at: usize) -> OwnScan
-    requires { ⌜ (13 ≤ w) × (bound ≡ nameCount (now pairs)) × (length (now words) ≤ 8192) ⌝ }
+    requires { ⌜ (fromPathKind ≤ w) × (bound ≡ nameCount (now pairs)) × (length (now words) ≤ maxWords) ⌝ }
     ensures { λ r. ⌜ Scanned (now (words .entry)) (now (pairs .entry)) (headAfter bound (now (words .entry)) w at) r ⌝ }
 {
     match w {
-        13 => own_path(words, pairs, bound, at),
-        14 => own_apply(words, pairs, at),
-        15 => own_node(at, 1, 1, 1),
-        16 => own_node(at, 1, 5, 1),
-        17 => own_node(at, 1, 5, 1),
-        18 => own_node(at, 1, 4, 1),
-        19 => own_tuple(words, pairs, at),
-        20 => own_function(words, pairs, at),
-        21 => own_node(at, 2, 3, 1),
-        22 => own_array(words, pairs, bound, at),
-        23 => own_node(at, 2, 0, 2),
-        24 => own_meta(words, pairs, at),
+        TYPE_FROM_PATH => own_path(words, pairs, bound, at),
+        TYPE_APP => own_apply(words, pairs, at),
+        BORROWED => own_node(at, 1, 1, 1),
+        BORROWED_MUT => own_node(at, 1, 5, 1),
+        IMPL_TYPE => own_node(at, 1, 5, 1),
+        DYN_TYPE => own_node(at, 1, 4, 1),
+        TUPLE_TYPE => own_tuple(words, pairs, at),
+        FN_TYPE => own_function(words, pairs, at),
+        INTERSECTION_TYPE => own_node(at, 2, 3, 1),
+        ARRAY => own_array(words, pairs, bound, at),
+        T_SYNONYM => own_node(at, 2, 0, 2),
+        T_META_DATA => own_meta(words, pairs, at),
         _ => OwnScan::NoNode(Refusal::UnknownWord),
     }
 }
@@ -302,15 +325,15 @@ fn own_after(words: &[u32], pairs: &[u32], bound: usize, w: u32, at: usize) -> O
 // The head at `at`. Plain types and names, the most frequent heads, need no jump by a table. They are told from the others by an order: a test for equality would
 // become one more entry of the table.
 fn scan_own(words: &[u32], pairs: &[u32], bound: usize, at: usize) -> OwnScan
-    requires { ⌜ (bound ≡ nameCount (now pairs)) × (length (now words) ≤ 8192) ⌝ }
+    requires { ⌜ (bound ≡ nameCount (now pairs)) × (length (now words) ≤ maxWords) ⌝ }
     ensures { λ r. ⌜ Scanned (now (words .entry)) (now (pairs .entry)) (readHead bound (now (words .entry)) at) r ⌝ }
 {
     if words.len() <= at {
         return OwnScan::NoNode(Refusal::EndsEarly);
     }
     let w = words[at];
-    if w < 13 {
-        if w < 12 {
+    if w < TYPE_FROM_PATH {
+        if w < PLAIN_KINDS {
             return own_leaf(at + 1, encoding::primitive_length(w));
         }
         return own_name(words, pairs, bound, at + 1);
@@ -340,8 +363,8 @@ pub fn level_due(level: u16) -> u64
 }
 
 // The pass behind the innermost level: the one around it is taken up.
-fn leave(levels: &[u16; 64], pass: Pass) -> Pass
-    requires { ⌜ (0 < pass .depth) × (pass .depth ≤ 64) ⌝ }
+fn leave(levels: &[u16; MAX_DEPTH], pass: Pass) -> Pass
+    requires { ⌜ (0 < pass .depth) × (pass .depth ≤ maxDepth) ⌝ }
     ensures { λ r. ⌜ (r ≡ leaving (now (levels .entry)) pass) × (r .due < 2 ^ 15) ⌝ }
 {
     let above = pass.depth - 1;
@@ -356,8 +379,8 @@ fn leave(levels: &[u16; 64], pass: Pass) -> Pass
 }
 
 // The pass behind all levels that have ended.
-fn settle(levels: &[u16; 64], pass: Pass) -> Pass
-    requires { ⌜ (pass .depth ≤ 64) × (pass .due ≤ 2 ^ 15) ⌝ }
+fn settle(levels: &[u16; MAX_DEPTH], pass: Pass) -> Pass
+    requires { ⌜ (pass .depth ≤ maxDepth) × (pass .due ≤ 2 ^ 15) ⌝ }
     ensures { λ r. ⌜ Outward (now (levels .entry)) pass r × (r .due ≡ 0 → r .depth ≡ 0) ⌝ }
 {
     let mut p = pass;
@@ -387,14 +410,14 @@ fn past_leaf(pass: Pass, next: usize, bytes: usize) -> Pass
 
 // The pass behind a head that ends at `next`, one level down.
 fn enter(
-    levels: &mut [u16; 64],
+    levels: &mut [u16; MAX_DEPTH],
     pass: Pass,
     next: usize,
     kids: u64,
     bytes: usize,
     below: u64,
 ) -> Pass
-    requires { ⌜ (0 < pass .due) × (pass .due ≤ 2 ^ 15) × (pass .depth < 64) × (pass .bytes + pick (eqb (pass .mode) 0) 0 bytes < 2 ^ 64) ⌝ }
+    requires { ⌜ (0 < pass .due) × (pass .due ≤ 2 ^ 15) × (pass .depth < maxDepth) × (pass .bytes + pick (eqb (pass .mode) 0) 0 bytes < 2 ^ 64) ⌝ }
     ensures { λ r. ⌜ (r ≡ under pass next kids bytes below) × (now (levels .exit) ≡ pushed (now (levels .entry)) pass) ⌝ }
 {
     let depth = pass.depth;
@@ -410,16 +433,19 @@ fn enter(
     }
 }
 
+// How many levels are open where the deepest types stand.
+const DEEPEST: usize = MAX_DEPTH - 1;
+
 // One step of the pass: a head, and the levels that end with it. The types behind a head may be too deep: this is tested where a level opens, and so not at each head.
 fn advance(
     words: &[u32],
     pairs: &[u32],
     text: &[u8],
     bound: usize,
-    levels: &mut [u16; 64],
+    levels: &mut [u16; MAX_DEPTH],
     pass: Pass,
 ) -> Step
-    requires { ⌜ (bound ≡ nameCount (now pairs)) × Good (now pairs) (now text) × (length (now words) ≤ 8192)
+    requires { ⌜ (bound ≡ nameCount (now pairs)) × Good (now pairs) (now text) × (length (now words) ≤ maxWords)
         × Kept (now words) (now levels) pass ⌝ }
     ensures { λ r. ⌜ Stepped (now (words .entry)) (now (pairs .entry)) (now (text .entry)) (now (levels .entry)) pass (now (levels .exit)) r ⌝ }
 {
@@ -437,7 +463,7 @@ fn advance(
             bytes,
             below,
         } => {
-            if pass.depth == 63 {
+            if pass.depth == DEEPEST {
                 return Step::Halt(Refusal::TooDeep);
             }
             Step::On(enter(levels, pass, next, kids, bytes, below))
@@ -448,14 +474,14 @@ fn advance(
 
 // Where the type at `at` ends and how long its text is, or the refusal that is met first.
 pub fn measure_type(words: &[u32], pairs: &[u32], text: &[u8], at: usize) -> Measure
-    requires { ⌜ Good (now pairs) (now text) × (length (now words) ≤ 8192) ⌝ }
+    requires { ⌜ Good (now pairs) (now text) × (length (now words) ≤ maxWords) ⌝ }
     ensures { λ r. ⌜ r ≡ measureOf (typeAt (now (words .entry)) (now (pairs .entry)) (now (text .entry)) at) ⌝ }
 {
     if words.len() < at {
         return Measure::Stopped(Refusal::EndsEarly);
     }
     let bound = encoding::name_count(pairs);
-    let mut levels = [0u16; 64];
+    let mut levels = [0u16; MAX_DEPTH];
     let mut pass = Pass {
         place: at,
         bytes: 0,

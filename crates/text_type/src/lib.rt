@@ -3,6 +3,7 @@ ghost use mathlib.Core.Path.{_≡_};
 ghost use Prim.Native.Nat.{_+_, _<_};
 ghost use lib.ListN.{getD};
 ghost use Rattle.rast.specs.ToString.{Type·ToString, commaText};
+ghost use Rattle.encoding.specs.Words.{fromPathKind, leafKinds};
 ghost use Rattle.encoding.specs.Tables.{nameCount};
 ghost use Rattle.encoding.specs.Tested.{Good};
 ghost use Rattle.encoding.specs.Types.{readTypes, typeAt};
@@ -11,6 +12,20 @@ ghost use Rattle.accepted_types.specs.Accepted.{nodeAt};
 ghost use Rattle.text_type.specs.Written.{Room, Written, Front, PartWritten};
 use accepted_types::Spot;
 use encoding::PathAt;
+use encoding::words::ARRAY;
+use encoding::words::BORROWED;
+use encoding::words::BORROWED_MUT;
+use encoding::words::DYN_TYPE;
+use encoding::words::FN_TYPE;
+use encoding::words::IMPL_TYPE;
+use encoding::words::INTERSECTION_TYPE;
+use encoding::words::LEAF_KINDS;
+use encoding::words::PLAIN_KINDS;
+use encoding::words::T_IDENTIFIER;
+use encoding::words::T_SYNONYM;
+use encoding::words::TUPLE_TYPE;
+use encoding::words::TYPE_APP;
+use encoding::words::TYPE_FROM_PATH;
 
 // A type of which all is written, or all but the type at `next` that ends it.
 pub enum Part {
@@ -18,7 +33,7 @@ pub enum Part {
     Done(Spot),
 }
 
-// A type of kind 13, a path.
+// A path's type.
 fn write_path(
     words: &[u32],
     pairs: &[u32],
@@ -27,7 +42,7 @@ fn write_path(
     out: &mut [u8],
     pos: usize,
 ) -> Spot
-    requires { ⌜ (getD (now words) at 0 ≡ 13) × Good (now pairs) (now text) × Room (now out) pos Type·ToString (typeAt (now words) (now pairs) (now text) at) ⌝ }
+    requires { ⌜ (getD (now words) at 0 ≡ fromPathKind) × Good (now pairs) (now text) × Room (now out) pos Type·ToString (typeAt (now words) (now pairs) (now text) at) ⌝ }
     ensures { λ r. ⌜ Written (now (out .entry)) pos Type·ToString (typeAt (now (words .entry)) (now (pairs .entry)) (now (text .entry)) at) (now (out .exit)) r ⌝ }
 {
     let start = at + 3;
@@ -43,7 +58,7 @@ fn write_path(
     }
 }
 
-// A type of kind 0 to 13: no other type stands in it.
+// A plain type, a name or a path: no other type stands in it.
 fn write_leaf(
     words: &[u32],
     pairs: &[u32],
@@ -52,17 +67,17 @@ fn write_leaf(
     out: &mut [u8],
     pos: usize,
 ) -> Spot
-    requires { ⌜ (getD (now words) at 0 < 14) × Good (now pairs) (now text) × Room (now out) pos Type·ToString (typeAt (now words) (now pairs) (now text) at) ⌝ }
+    requires { ⌜ (getD (now words) at 0 < leafKinds) × Good (now pairs) (now text) × Room (now out) pos Type·ToString (typeAt (now words) (now pairs) (now text) at) ⌝ }
     ensures { λ r. ⌜ Written (now (out .entry)) pos Type·ToString (typeAt (now (words .entry)) (now (pairs .entry)) (now (text .entry)) at) (now (out .exit)) r ⌝ }
 {
     let w = words[at];
-    if w < 12 {
+    if w < PLAIN_KINDS {
         return Spot {
             next: at + 1,
             pos: text_leaf::put_primitive(w, out, pos),
         };
     }
-    if w == 12 {
+    if w == T_IDENTIFIER {
         return Spot {
             next: at + 2,
             pos: encoding::put_name(pairs, text, words[at + 1], out, pos),
@@ -113,32 +128,32 @@ fn write_head(
     ensures { λ r. ⌜ PartWritten (typeAt (now (words .entry)) (now (pairs .entry)) (now (text .entry))) (at + 1) (now (out .entry)) pos (typeAt (now (words .entry)) (now (pairs .entry)) (now (text .entry)) at) (now (out .exit)) r ⌝ }
 {
     let w = words[at];
-    if w < 14 {
+    if w < LEAF_KINDS {
         return Part::Done(write_leaf(words, pairs, text, at, out, pos));
     }
     match w {
-        14 => Part::Done(write_apply(words, pairs, text, at + 2, words[at + 1], out, pos)),
-        15 => Part::Rest(Spot {
+        TYPE_APP => Part::Done(write_apply(words, pairs, text, at + 2, words[at + 1], out, pos)),
+        BORROWED => Part::Rest(Spot {
             next: at + 1,
             pos: buffer::put(b"&", out, pos),
         }),
-        16 => Part::Rest(Spot {
+        BORROWED_MUT => Part::Rest(Spot {
             next: at + 1,
             pos: buffer::put(b"&mut ", out, pos),
         }),
-        17 => Part::Rest(Spot {
+        IMPL_TYPE => Part::Rest(Spot {
             next: at + 1,
             pos: buffer::put(b"impl ", out, pos),
         }),
-        18 => Part::Rest(Spot {
+        DYN_TYPE => Part::Rest(Spot {
             next: at + 1,
             pos: buffer::put(b"dyn ", out, pos),
         }),
-        19 => Part::Done(write_tuple(words, pairs, text, at + 2, words[at + 1], out, pos)),
-        20 => Part::Rest(write_inputs(words, pairs, text, at + 2, words[at + 1], out, pos)),
-        21 => Part::Rest(write_left(words, pairs, text, at + 1, out, pos)),
-        22 => Part::Done(write_array(words, pairs, text, at + 2, words[at + 1], out, pos)),
-        23 => Part::Done(write_synonym(words, pairs, text, at + 1, out, pos)),
+        TUPLE_TYPE => Part::Done(write_tuple(words, pairs, text, at + 2, words[at + 1], out, pos)),
+        FN_TYPE => Part::Rest(write_inputs(words, pairs, text, at + 2, words[at + 1], out, pos)),
+        INTERSECTION_TYPE => Part::Rest(write_left(words, pairs, text, at + 1, out, pos)),
+        ARRAY => Part::Done(write_array(words, pairs, text, at + 2, words[at + 1], out, pos)),
+        T_SYNONYM => Part::Done(write_synonym(words, pairs, text, at + 1, out, pos)),
         _ => Part::Rest(Spot { next: at + 2, pos }),
     }
 }
@@ -157,13 +172,13 @@ fn write_part(
     ensures { λ r. ⌜ Written (now (out .entry)) pos Type·ToString (typeAt (now (words .entry)) (now (pairs .entry)) (now (text .entry)) at) (now (out .exit)) r ⌝ }
 {
     let w = words[at];
-    if w == 12 {
+    if w == T_IDENTIFIER {
         return Spot {
             next: at + 2,
             pos: encoding::put_name(pairs, text, words[at + 1], out, pos),
         };
     }
-    if w < 12 {
+    if w < PLAIN_KINDS {
         return Spot {
             next: at + 1,
             pos: text_leaf::put_primitive(w, out, pos),
@@ -215,7 +230,7 @@ fn write_base(
     requires { ⌜ Good (now pairs) (now text) × Room (now out) pos Type·ToString (typeAt (now words) (now pairs) (now text) at) ⌝ }
     ensures { λ r. ⌜ Written (now (out .entry)) pos Type·ToString (typeAt (now (words .entry)) (now (pairs .entry)) (now (text .entry)) at) (now (out .exit)) r ⌝ }
 {
-    if words[at] == 13 {
+    if words[at] == TYPE_FROM_PATH {
         return write_path(words, pairs, text, at, out, pos);
     }
     write_part(words, pairs, text, at, out, pos)

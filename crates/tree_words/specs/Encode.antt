@@ -5,6 +5,7 @@ use mathlib.Core.List.{List, [], _∷_, _++_, map}
 use mathlib.Core.Option.{Option, some, none}
 use lib.ListN.{length}
 use Rattle.rast.specs.Tree.{Path, Global, Crate, Self, PMemberSelect, PrimitiveTy, U8, U16, U32, U64, U128, I8, I16, I32, I64, I128, USIZE, Bool·, Ty, Tys, Primitive, TIdentifier, TypeFromPath, TypeApp, Borrowed, BorrowedMut, ImplType, DynType, TupleType, FnType, IntersectionType, Array, TSynonym, TMetaData, nil, cons, count}
+use Rattle.encoding.specs.Words.{identifierKind, fromPathKind, typeAppKind, borrowedKind, borrowedMutKind, implKind, dynKind, tupleKind, fnKind, intersectionKind, arrayKind, synonymKind, metaDataKind}
 
 -- one word: a number, a name, or an array's size
 pub data Token (N : Type 0) : Type 0 where
@@ -64,19 +65,19 @@ module _ {N : Type 0} where
   unfoldable mutual
     pub tokens : Ty N → List (Token N)
     tokens (Primitive p) = word (primitiveWord p) ∷ []
-    tokens (TIdentifier x) = word 12 ∷ name x ∷ []
-    tokens (TypeFromPath p) = word 13 ∷ pathTokens p
-    tokens (TypeApp b ts) = word 14 ∷ word (count ts) ∷ (tokens b ++ tokensAll ts)
-    tokens (Borrowed t) = word 15 ∷ tokens t
-    tokens (BorrowedMut t) = word 16 ∷ tokens t
-    tokens (ImplType t) = word 17 ∷ tokens t
-    tokens (DynType t) = word 18 ∷ tokens t
-    tokens (TupleType ts) = word 19 ∷ word (count ts) ∷ tokensAll ts
-    tokens (FnType ts t) = word 20 ∷ word (count ts) ∷ (tokensAll ts ++ tokens t)
-    tokens (IntersectionType l r) = word 21 ∷ (tokens l ++ tokens r)
-    tokens (Array t s) = word 22 ∷ size s ∷ tokens t
-    tokens (TSynonym d b) = word 23 ∷ (tokens d ++ tokens b)
-    tokens (TMetaData d c o) = word 24 ∷ word (flagsWord c o) ∷ tokens d
+    tokens (TIdentifier x) = word identifierKind ∷ name x ∷ []
+    tokens (TypeFromPath p) = word fromPathKind ∷ pathTokens p
+    tokens (TypeApp b ts) = word typeAppKind ∷ word (count ts) ∷ (tokens b ++ tokensAll ts)
+    tokens (Borrowed t) = word borrowedKind ∷ tokens t
+    tokens (BorrowedMut t) = word borrowedMutKind ∷ tokens t
+    tokens (ImplType t) = word implKind ∷ tokens t
+    tokens (DynType t) = word dynKind ∷ tokens t
+    tokens (TupleType ts) = word tupleKind ∷ word (count ts) ∷ tokensAll ts
+    tokens (FnType ts t) = word fnKind ∷ word (count ts) ∷ (tokensAll ts ++ tokens t)
+    tokens (IntersectionType l r) = word intersectionKind ∷ (tokens l ++ tokens r)
+    tokens (Array t s) = word arrayKind ∷ size s ∷ tokens t
+    tokens (TSynonym d b) = word synonymKind ∷ (tokens d ++ tokens b)
+    tokens (TMetaData d c o) = word metaDataKind ∷ word (flagsWord c o) ∷ tokens d
 
     pub tokensAll : Tys N → List (Token N)
     tokensAll nil = []
