@@ -29,7 +29,8 @@ use Rattle.text_pass.specs.Texts.{nameAt, typeTextAt, pathTextAt, visibilityAt,
 use Rattle.text_pass.proofs.Passes.{Runs}
 use Rattle.text_pass.proofs.Leaves.{BelowThere, below-of, CountFirst, counted-first}
 use Rattle.text_pass.proofs.Splits.{map-made, nothing-behind, runs-as, split₃, split-front, text-before, text-behind, listed-read}
-use Rattle.text_lists.specs.Texts.{attributesAt, parametersAt}
+use Rattle.text_attributes.specs.Texts.{attributesAt}
+use Rattle.text_parameters.specs.Texts.{parametersAt}
 use Rattle.text_fields.specs.declared.Entry.{Entry}
 use Rattle.text_fields.specs.declared.Entry.the-variants.{Named}
 use Rattle.text_fields.specs.Texts.{lineText, namelessEntry, namedAt, namelessFieldsAt, listAt}

@@ -17,7 +17,8 @@ use Rattle.encoding.specs.Forms.{present}
 use Rattle.encoding.specs.Declarations.{readCounted, readFields, readCase, readUse, declarationAfter, declarationAt}
 use Rattle.text_pass.specs.Passes.{last, _then_, run, listed}
 use Rattle.text_pass.specs.Texts.{nameAt, typeTextAt, docAt}
-use Rattle.text_lists.specs.Texts.{attributesAt, parametersAt}
+use Rattle.text_attributes.specs.Texts.{attributesAt}
+use Rattle.text_parameters.specs.Texts.{parametersAt}
 use Rattle.text_fields.specs.declared.Entry.{Entry}
 use Rattle.text_fields.specs.declared.Entry.the-variants.{Named, Inline, Lined}
 use Rattle.text_fields.specs.Texts.{lineText, namelessEntry, listAt}

@@ -4,7 +4,7 @@ ghost use mathlib.Core.Bool.{true, false};
 ghost use Prim.Native.Nat.{_^_, _<_};
 ghost use Rattle.buffer.specs.Laid.{Laid, Fits};
 ghost use Rattle.text_pass.specs.Passes.{Checked, Ready, Came, Went, Counts};
-ghost use Rattle.text_lists.specs.Texts.{attributesAt};
+ghost use Rattle.text_attributes.specs.Texts.{attributesAt};
 ghost use Rattle.text_fields.specs.Texts.{listAt};
 ghost use Rattle.text_declaration.specs.Texts.{keywordText, entryOf, fieldsEnd, listedAt, fieldsAt, titleAt, frontAt, caseAt, caseLineAt, casesAt, variantsAt, enumBody, synonymBody, bodyAt, frontedAt, useAt, afterAt, declarationTextAt};
 use accepted_types::Spot;
@@ -148,7 +148,7 @@ fn lay_title(
     let Place::At { next, pos: p } = name else {
         return name;
     };
-    text_lists::lay_parameter_list(write, words, pairs, text, next, out, p)
+    text_parameters::lay_parameter_list(write, words, pairs, text, next, out, p)
 }
 
 // The attributes.
@@ -166,13 +166,13 @@ fn lay_attributes(
     ensures { λ r. ⌜ Went write (now (out .entry)) pos (attributesAt (now (words .entry)) (now (pairs .entry)) (now (text .entry)) level at) (now (out .exit)) r ⌝ }
 {
     if write {
-        let spot = text_lists::write_attribute_list(words, pairs, text, level, at, out, pos);
+        let spot = text_attributes::write_attribute_list(words, pairs, text, level, at, out, pos);
         return Place::At {
             next: spot.next,
             pos: spot.pos,
         };
     }
-    text_lists::count_attribute_list(words, pairs, text, level, at, pos)
+    text_attributes::count_attribute_list(words, pairs, text, level, at, pos)
 }
 
 // What a struct, an enum and a type synonym begin with: doc, attributes, keyword, name, parameters.

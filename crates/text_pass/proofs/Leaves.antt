@@ -1,5 +1,5 @@
 -- Laws of names, docs, types and paths: from what the code's scans say to the texts.
-use Prim.Native.Nat.{ℕ, suc, _+_, _≤_, _<_}
+use Prim.Native.Nat.{ℕ, suc, _+_, _-_, _≤_, _<_}
 use mathlib.Core.Path.{_≡_, refl, ap, sym, _∙_, subst}
 use mathlib.Core.Bool.{Bool, true, false}
 use mathlib.Core.List.{List, []}
@@ -15,6 +15,7 @@ use Rattle.rast.specs.DeclarationToString.{Visibility·ToString}
 use Rattle.buffer.specs.Wrote.{Wrote}
 use Rattle.buffer.specs.Laid.{clamp, Laid, Fits}
 use Rattle.buffer.proofs.Passes.{clamp-of, laid-size, laid-wrote}
+use Rattle.encoding.specs.Words.{plainKinds, identifierKind, borrowedKind, maxWords, maxDepth}
 use Rattle.encoding.specs.declared.Refusal.{Refusal}
 use Rattle.encoding.specs.declared.Refusal.the-variants.{EndsEarly}
 use Rattle.encoding.specs.declared.Head.the-variants.{Name, Ref}
@@ -163,7 +164,7 @@ unfolding mapReading readNode Type·ToString
 name-map ws name again (got v q) = refl
 name-map ws name again (stop k) = refl
 
--- the text of a type that is at most so many types deep: 64, or 63 behind a borrow
+-- the text of a type that is at most so many types deep: `maxDepth`, or one less behind a borrow
 abbrev pub textWithin : ℕ → List ℕ → List ℕ → Bytes → ℕ → Reading Bytes
 textWithin deep ws pairs text at = mapReading Type·ToString (readType (nameCount pairs) ws (nameBytes pairs text) deep at)
 
@@ -172,20 +173,20 @@ module _ (deep : ℕ) (ws pairs : List ℕ) (text : Bytes) (at : ℕ) where
   unfolding readType mapReading
   ended-text h = rw (head-end (nameCount pairs) ws at h)
 
-  pub plain-text : at < length ws → getD ws at 0 < 12 → textWithin (suc deep) ws pairs text at ≡ got (Primitive·ToString (getD primitives (getD ws at 0) U8)) (at + 1)
+  pub plain-text : at < length ws → getD ws at 0 < plainKinds → textWithin (suc deep) ws pairs text at ≡ got (Primitive·ToString (getD primitives (getD ws at 0) U8)) (at + 1)
   unfolding readType readNode mapReading Type·ToString
   plain-text h k = rw (plain-head (nameCount pairs) ws at h k)
 
-  pub named-text : at < length ws → getD ws at 0 ≡ 12 → textWithin (suc deep) ws pairs text at ≡ nameAt ws pairs text (at + 1)
+  pub named-text : at < length ws → getD ws at 0 ≡ identifierKind → textWithin (suc deep) ws pairs text at ≡ nameAt ws pairs text (at + 1)
   unfolding readType readName headAfter
   named-text h k = rw (head-at (nameCount pairs) ws at h, k) (name-map ws (nameBytes pairs text) (readType (nameCount pairs) ws (nameBytes pairs text) deep) (readBelow (nameCount pairs) ws (at + 1)))
 
   -- counted by the length of a plain type, or as a name
-  pub plain-counts : {p l q : ℕ} → at < length ws → getD ws at 0 < 12 → l ≡ length (Primitive·ToString (getD primitives (getD ws at 0) U8)) → clamp q ≡ clamp (p + l)
+  pub plain-counts : {p l q : ℕ} → at < length ws → getD ws at 0 < plainKinds → l ≡ length (Primitive·ToString (getD primitives (getD ws at 0) U8)) → clamp q ≡ clamp (p + l)
       → Came false [] p (textWithin (suc deep) ws pairs text at) [] (at + 1) q
   plain-counts h k e c = came-as (sym (plain-text h k)) (came-bytes (at + 1) (laid-size refl c e))
 
-  pub named-counts : {p : ℕ} {r : Place} → at < length ws → getD ws at 0 ≡ 12 → Counts p (nameAt ws pairs text (at + 1)) r → Counts p (textWithin (suc deep) ws pairs text at) r
+  pub named-counts : {p : ℕ} {r : Place} → at < length ws → getD ws at 0 ≡ identifierKind → Counts p (nameAt ws pairs text (at + 1)) r → Counts p (textWithin (suc deep) ws pairs text at) r
   named-counts h k w = went-as (sym (named-text h k)) w
 
 -- ---- borrows
@@ -196,17 +197,17 @@ borrow-runs : (ws : List ℕ) (name : ℕ → Bytes) (again : ℕ → Reading (T
 unfolding readNode Type·ToString
 borrow-runs ws name again at = record { same = map-made Type·ToString Borrowed (again at) ∙ text-before (ascii "&") Type·ToString at (again at) .same }
 
-module _ (ws pairs : List ℕ) (text : Bytes) (at : ℕ) (h : at < length ws) (k : getD ws at 0 ≡ 15) where
+module _ (ws pairs : List ℕ) (text : Bytes) (at : ℕ) (h : at < length ws) (k : getD ws at 0 ≡ borrowedKind) where
   borrow-head : readHead (nameCount pairs) ws at ≡ got Ref (at + 1)
   unfolding headAfter
   borrow-head = rw (head-at (nameCount pairs) ws at h, k)
 
   -- what is borrowed is one level less deep
-  borrow-within : Runs (typeTextAt ws pairs text at) (got (ascii "&") (at + 1) then λ q. last (textWithin 63 ws pairs text (at + 1)))
+  borrow-within : Runs (typeTextAt ws pairs text at) (got (ascii "&") (at + 1) then λ q. last (textWithin (maxDepth - 1) ws pairs text (at + 1)))
   unfolding readType
-  borrow-within = rw borrow-head (borrow-runs ws (nameBytes pairs text) (readType (nameCount pairs) ws (nameBytes pairs text) 63) (at + 1))
+  borrow-within = rw borrow-head (borrow-runs ws (nameBytes pairs text) (readType (nameCount pairs) ws (nameBytes pairs text) (maxDepth - 1)) (at + 1))
 
-  pub borrow-counts : {p : ℕ} {r : Place} → Counts (p + 1) (textWithin 63 ws pairs text (at + 1)) r → Counts p (typeTextAt ws pairs text at) r
+  pub borrow-counts : {p : ℕ} {r : Place} → Counts (p + 1) (textWithin (maxDepth - 1) ws pairs text (at + 1)) r → Counts p (typeTextAt ws pairs text at) r
   unfolding ascii
   borrow-counts w = went-runs borrow-within (went-then (counts-bytes refl) (went-last w))
 
@@ -236,24 +237,24 @@ module _ {ws pairs : List ℕ} {text : Bytes} {at : ℕ} {o : List ℕ} {p : ℕ
   pub type-there : at < length ws
   type-there = type-here ws pairs text at (type-asked .1 .reads)
 
-  pub type-early : at < 8192
+  pub type-early : at < maxWords
   type-early = omega (arith, type-there, a .checked .few)
 
-  module _ (k : getD ws at 0 < 12) where
-    pub plain-asked : (getD ws at 0 < 12) × (p + length (Primitive·ToString (getD primitives (getD ws at 0) U8)) ≤ length o)
-    plain-asked = (k, ready-bytes (ready-as (plain-text 63 ws pairs text at type-there k) (a .ready)) .room refl)
+  module _ (k : getD ws at 0 < plainKinds) where
+    pub plain-asked : (getD ws at 0 < plainKinds) × (p + length (Primitive·ToString (getD primitives (getD ws at 0) U8)) ≤ length o)
+    plain-asked = (k, ready-bytes (ready-as (plain-text (maxDepth - 1) ws pairs text at type-there k) (a .ready)) .room refl)
 
     pub plain-came : {o′ : List ℕ} {p′ : ℕ} → Wrote o p (Primitive·ToString (getD primitives (getD ws at 0) U8)) o′ p′ → Came true o p (typeTextAt ws pairs text at) o′ (at + 1) p′
-    plain-came w = came-as (sym (plain-text 63 ws pairs text at type-there k)) (came-bytes (at + 1) (laid-wrote refl w))
+    plain-came w = came-as (sym (plain-text (maxDepth - 1) ws pairs text at type-there k)) (came-bytes (at + 1) (laid-wrote refl w))
 
-  module _ (k : getD ws at 0 ≡ 12) where
+  module _ (k : getD ws at 0 ≡ identifierKind) where
     pub named-asked : Checked ws pairs text × Ready true o p (nameAt ws pairs text (at + 1))
-    named-asked = (a .checked, ready-as (named-text 63 ws pairs text at type-there k) (a .ready))
+    named-asked = (a .checked, ready-as (named-text (maxDepth - 1) ws pairs text at type-there k) (a .ready))
 
     pub named-came : {o′ : List ℕ} {p′ : ℕ} → Came true o p (nameAt ws pairs text (at + 1)) o′ (at + 1 + 1) p′ → Came true o p (typeTextAt ws pairs text at) o′ (at + 2) p′
-    named-came c = came-at (let e : at + 1 + 1 ≡ at + 2 = omega arith in e) (came-as (sym (named-text 63 ws pairs text at type-there k)) c)
+    named-came c = came-at (let e : at + 1 + 1 ≡ at + 2 = omega arith in e) (came-as (sym (named-text (maxDepth - 1) ws pairs text at type-there k)) c)
 
-  module _ (k : getD ws at 0 ≡ 15) where
+  module _ (k : getD ws at 0 ≡ borrowedKind) where
     borrow-chain : AlongChain true o p (typeTextAt ws pairs text at) o p (got (ascii "&") (at + 1) then λ q. last (typeTextAt ws pairs text (at + 1)))
     borrow-chain = chain-start (borrow-accepted ws pairs text at type-there k (a .ready)) (a .ready)
 

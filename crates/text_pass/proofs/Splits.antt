@@ -1,7 +1,7 @@
 -- The text of a thing is the texts of its parts, one behind the other: laws over any readings.
 use Prim.Native.Nat.{ℕ, zero, suc, _<_}
-use mathlib.Core.Path.{_≡_, refl, ap, _∙_}
-use mathlib.Core.List.{List, [], _∷_, _++_, append-nil}
+use mathlib.Core.Path.{_≡_, refl, ap, sym, _∙_, subst}
+use mathlib.Core.List.{List, [], _∷_, _++_, append-assoc, append-nil}
 use native.Mathlib.Omega.{arith}
 use Rattle.rast.specs.Bytes.{Bytes, ascii}
 use Rattle.rast.specs.Indent.{SeqToString}
@@ -9,7 +9,8 @@ use Rattle.encoding.specs.declared.Refusal.{Refusal}
 use Rattle.encoding.specs.Reading.{Reading, got, stop, _>>=_, readWord}
 use Rattle.encoding.specs.Scans.{mapReading}
 use Rattle.encoding.specs.Declarations.{readList, readCounted}
-use Rattle.text_pass.specs.Passes.{Chain, last, _then_, run, listed}
+use Rattle.encoding.proofs.Reading.{map-same}
+use Rattle.text_pass.specs.Passes.{Chain, last, _then_, _later_, run, listed}
 use Rattle.text_pass.proofs.Passes.{Runs}
 
 -- ---- a reading, mapped
@@ -20,6 +21,12 @@ unfolding mapReading
 map-made f make (got a n) = refl
 map-made f make (stop k) = refl
 
+-- the same made of it
+pub map-alike : {A B : Type 0} {f g : A → B} → ((a : A) → f a ≡ g a) → (x : Reading A) → mapReading f x ≡ mapReading g x
+unfolding mapReading
+map-alike {B = B} e (got a n) = ap (λ (b : B). got b n) (e a)
+map-alike e (stop k) = refl
+
 -- ---- parts
 
 -- nothing stands behind a text
@@ -28,15 +35,97 @@ unfolding run
 nothing-behind (got b n) = ap (λ (t : Bytes). got t n) (append-nil b)
 nothing-behind (stop k) = refl
 
+-- ---- a thing that is read part by part
+
+-- the text of what is read is that of a chain, behind bytes that are shown already. The laws go through the parts of a thing in the order of its words
+pub record ShownAs {A : Type 0} (text : A → Bytes) (before : Bytes) (x : Reading A) (c : Chain) : Type 0 where
+  pub same : mapReading text x ≡ (run c >>= λ b n. got (before ++ b) n)
+
+pub shown-runs : {A : Type 0} {text : A → Bytes} {x : Reading A} {c : Chain} → ShownAs text [] x c → Runs (mapReading text x) c
+shown-runs {c = c} s = record { same = s .same ∙ go (run c) }
+  where
+    go : (w : Reading Bytes) → (w >>= λ b n. got ([] ++ b) n) ≡ w
+    go (got b n) = refl
+    go (stop k) = refl
+
+-- bytes that are shown already, and more of them
+more-before : (a b : Bytes) (w : Reading Bytes) → (w >>= λ c n. got (a ++ b ++ c) n) ≡ ((w >>= λ c n. got (b ++ c) n) >>= λ c n. got (a ++ c) n)
+more-before a b (got c n) = ap (λ (t : Bytes). got t n) (append-assoc a b c)
+more-before a b (stop k) = refl
+
+module _ {A B : Type 0} {text : B → Bytes} {before : Bytes} (f : A → Bytes) (x : Reading A) {k : A → ℕ → Reading B} where
+  -- a part that is shown where it is read
+  pub shown-then : {c : ℕ → Chain} → ((a : A) (p : ℕ) → ShownAs text (before ++ f a) (k a p) (c p)) → ShownAs text before (x >>= k) (mapReading f x then c)
+  unfolding mapReading run
+  shown-then {c} s = record { same = go x }
+    where
+      go : (y : Reading A) → mapReading text (y >>= k) ≡ (run (mapReading f y then c) >>= λ b n. got (before ++ b) n)
+      go (got a p) = s a p .same ∙ more-before before (f a) (run (c p))
+      go (stop r) = refl
+
+  -- a part that is shown later: what follows shows its bytes
+  pub shown-later : {c : Bytes → ℕ → Chain} → ((a : A) (p : ℕ) → ShownAs text before (k a p) (c (f a) p)) → ShownAs text before (x >>= k) (mapReading f x later c)
+  unfolding mapReading run
+  shown-later {c} s = record { same = go x }
+    where
+      go : (y : Reading A) → mapReading text (y >>= k) ≡ (run (mapReading f y later c) >>= λ b n. got (before ++ b) n)
+      go (got a p) = s a p .same
+      go (stop r) = refl
+
+module _ {A : Type 0} {text : A → Bytes} {before : Bytes} where
+  -- fixed bytes, or those of a part that was read before
+  pub shown-bytes : {x : Reading A} (b : Bytes) (at : ℕ) {c : ℕ → Chain} → ShownAs text (before ++ b) x (c at) → ShownAs text before x (got b at then c)
+  unfolding run
+  shown-bytes b at {c} s = record { same = s .same ∙ more-before before b (run (c at)) }
+
+  -- the last bytes, when all is read
+  pub shown-end : (a : A) (b : Bytes) (n : ℕ) → text a ≡ before ++ b → ShownAs text before (got a n) (last (got b n))
+  unfolding mapReading run
+  shown-end a b n e = record { same = ap (λ (t : Bytes). got t n) e }
+
+-- a part that is a text already
+pub shown-text : {B : Type 0} {text : B → Bytes} {before : Bytes} (x : Reading Bytes) {k : Bytes → ℕ → Reading B} {c : ℕ → Chain}
+    → ((b : Bytes) (p : ℕ) → ShownAs text (before ++ b) (k b p) (c p)) → ShownAs text before (x >>= k) (x then c)
+shown-text {text = text} {before} x {k} {c} s = subst (λ (y : Reading Bytes). ShownAs text before (x >>= k) (y then c)) (map-same x) (shown-then (λ b. b) x s)
+
+-- a chain, and another behind it
+abbrev pub followed : Chain → (ℕ → Chain) → Chain
+followed (last x) k = x then k
+followed (x then c) k = x then λ p. followed (c p) k
+followed (x later c) k = x later λ b p. followed (c b p) k
+
+pub run-followed : (c : Chain) (k : ℕ → Chain) → run (followed c k) ≡ run (run c then k)
+unfolding run
+run-followed (last x) k = refl
+run-followed (got b p then c) k = ap (λ (w : Reading Bytes). w >>= λ d n. got (b ++ d) n) (run-followed (c p) k) ∙ go (run (c p))
+  where
+    go : (w : Reading Bytes) → (run (w then k) >>= λ d n. got (b ++ d) n) ≡ run ((w >>= λ d n. got (b ++ d) n) then k)
+    go (got d n) = sym (more-before b d (run (k n)))
+    go (stop r) = refl
+run-followed (stop r then c) k = refl
+run-followed (got b p later c) k = run-followed (c b p) k
+run-followed (stop r later c) k = refl
+
+-- parts that are laid by a function of their own, as one text
+pub shown-group : {A : Type 0} {text : A → Bytes} {before : Bytes} {x : Reading A} (c : Chain) {k : ℕ → Chain} → ShownAs text before x (followed c k) → ShownAs text before x (run c then k)
+shown-group {before = before} c {k} s = record { same = s .same ∙ ap (λ (w : Reading Bytes). w >>= λ b n. got (before ++ b) n) (run-followed c k) }
+
+-- the last part
+pub shown-last : {A B : Type 0} {text : B → Bytes} {before : Bytes} (f : A → Bytes) (make : A → B) (x : Reading A) → ((a : A) → text (make a) ≡ before ++ f a)
+    → ShownAs text before (x >>= λ a n. got (make a) n) (last (mapReading f x))
+unfolding mapReading run
+shown-last f make (got a n) e = record { same = ap (λ (t : Bytes). got t n) (e a) }
+shown-last f make (stop k) e = record { same = refl }
+
 module _ {A B C : Type 0} (make : A → B → C) (f : C → Bytes) (g : A → Bytes) (h : B → Bytes) (e : (a : A) (b : B) → f (make a b) ≡ g a ++ h b) where
   pub split₂ : (x : Reading A) (y : ℕ → Reading B) → Runs (mapReading f (x >>= λ a p. y p >>= λ b q. got (make a b) q)) (mapReading g x then λ p. last (mapReading h (y p)))
-  unfolding mapReading run
-  split₂ (got a p) y = record { same = go (y p) }
-    where
-      go : (z : Reading B) → mapReading f (z >>= λ b q. got (make a b) q) ≡ run (got (g a) p then λ q. last (mapReading h z))
-      go (got b q) = ap (λ (t : Bytes). got t q) (e a b)
-      go (stop k) = refl
-  split₂ (stop k) y = record { same = refl }
+  split₂ x y = shown-runs (shown-then g x (λ a p. shown-last h (make a) (y p) (e a)))
+
+-- the first part is shown behind the second, and a fixed text behind both
+module _ {A B C : Type 0} (make : A → B → C) (f : C → Bytes) (g : A → Bytes) (h : B → Bytes) (end : Bytes) (e : (a : A) (b : B) → f (make a b) ≡ h b ++ g a ++ end) where
+  pub split-later : (x : Reading A) (y : ℕ → Reading B)
+      → Runs (mapReading f (x >>= λ a p. y p >>= λ b q. got (make a b) q)) (mapReading g x later λ t p. mapReading h (y p) then λ q. got t q then λ r. last (got end r))
+  split-later x y = shown-runs (shown-later g x (λ a p. shown-then h (y p) (λ b q. shown-bytes (g a) q (shown-end (make a b) end q (e a b)))))
 
 -- the same where the first part is a text already
 pub runs-as : {t x y : Reading Bytes} {k : ℕ → Chain} → x ≡ y → Runs t (x then k) → Runs t (y then k)
@@ -46,17 +135,7 @@ module _ {A B C D : Type 0} (make : A → B → C → D) (f : D → Bytes) (g : 
     (e : (a : A) (b : B) (c : C) → f (make a b c) ≡ g a ++ (h b ++ i c)) where
   pub split₃ : (x : Reading A) (y : ℕ → Reading B) (z : ℕ → Reading C)
       → Runs (mapReading f (x >>= λ a p. y p >>= λ b q. z q >>= λ c r. got (make a b c) r)) (mapReading g x then λ p. mapReading h (y p) then λ q. last (mapReading i (z q)))
-  unfolding mapReading run
-  split₃ (got a p) y z = record { same = go (y p) }
-    where
-      third : (b : B) (q : ℕ) (w : Reading C) → mapReading f (w >>= λ c r. got (make a b c) r) ≡ run (got (g a) p then λ s. got (h b) q then λ t. last (mapReading i w))
-      third b q (got c r) = ap (λ (t : Bytes). got t r) (e a b c)
-      third b q (stop k) = refl
-
-      go : (w : Reading B) → mapReading f (w >>= λ b q. z q >>= λ c r. got (make a b c) r) ≡ run (got (g a) p then λ s. mapReading h w then λ q. last (mapReading i (z q)))
-      go (got b q) = third b q (z q)
-      go (stop k) = refl
-  split₃ (stop k) y z = record { same = refl }
+  split₃ x y z = shown-runs (shown-then g x (λ a p. shown-then h (y p) (λ b q. shown-last i (make a b) (z q) (λ c. e a b c ∙ sym (append-assoc (g a) (h b) (i c))))))
 
 -- a doc, attributes, a name, parameters, and the rest; a fixed text stands before the name
 module _ {A B C D E F : Type 0} (make : A → B → C → D → E → F) (f : F → Bytes) (g : A → Bytes) (h : B → Bytes) (word : Bytes) (i : C → Bytes) (j : D → Bytes) (l : E → Bytes)
@@ -72,35 +151,16 @@ module _ {A B C D E F : Type 0} (make : A → B → C → D → E → F) (f : F 
   abbrev front : Reading A → Reading Bytes
   front x = run (mapReading g x then λ p. mapReading h (y p) then λ q. last (title q))
 
-  fourth : (a : A) (b : B) (c : C) (o p q r : ℕ) (x : Reading D)
-      → mapReading f (x >>= λ d s. w s >>= λ m t. got (make a b c d m) t)
-      ≡ run (run (got (g a) o then λ p. got (h b) q then λ q. last (run (got word q then λ r. got (i c) r then λ s. last (mapReading j x)))) then λ s. last (mapReading l (w s)))
-  unfolding mapReading run
-  fourth a b c o p q r (got d s) = fifth (w s)
-    where
-      fifth : (u : Reading E) → mapReading f (u >>= λ m t. got (make a b c d m) t) ≡ run (got (g a ++ (h b ++ (word ++ (i c ++ j d)))) s then λ s. last (mapReading l u))
-      fifth (got m t) = ap (λ (b : Bytes). got b t) (e a b c d m)
-      fifth (stop k) = refl
-  fourth a b c o p q r (stop k) = refl
-
-  third : (a : A) (b : B) (o q : ℕ) (x : Reading C)
-      → mapReading f (x >>= λ c r. v r >>= λ d s. w s >>= λ m t. got (make a b c d m) t)
-      ≡ run (run (got (g a) o then λ p. got (h b) q then λ q. last (run (got word q then λ r. mapReading i x then λ s. last (mapReading j (v s))))) then λ s. last (mapReading l (w s)))
-  unfolding mapReading run
-  third a b o q (got c r) = fourth a b c o o q r (v r)
-  third a b o q (stop k) = refl
-
-  second : (a : A) (o : ℕ) (x : Reading B)
-      → mapReading f (x >>= λ b q. z q >>= λ c r. v r >>= λ d s. w s >>= λ m t. got (make a b c d m) t)
-      ≡ run (run (got (g a) o then λ p. mapReading h x then λ q. last (title q)) then λ s. last (mapReading l (w s)))
-  unfolding mapReading run
-  second a o (got b q) = third a b o q (z q)
-  second a o (stop k) = refl
+  text : (a : A) (b : B) (c : C) (d : D) (m : E) → f (make a b c d m) ≡ g a ++ h b ++ word ++ i c ++ j d ++ l m
+  text a b c d m = e a b c d m ∙ (simp append-assoc)
 
   pub split-front : (x : Reading A) → Runs (whole x) (front x then λ s. last (mapReading l (w s)))
-  unfolding mapReading run
-  split-front (got a p) = record { same = second a p (y p) }
-  split-front (stop k) = record { same = refl }
+  split-front x =
+      shown-runs
+      (shown-group (mapReading g x then λ p. mapReading h (y p) then λ q. last (title q))
+      (shown-then g x (λ a p. shown-then h (y p) (λ b q.
+      shown-group (got word q then λ r. mapReading i (z r) then λ s. last (mapReading j (v s)))
+      (shown-bytes word q (shown-then i (z q) (λ c r. shown-then j (v r) (λ d s. shown-last l (make a b c d) (w s) (text a b c d)))))))))
 
 -- a fixed text before, or behind
 pub text-before : {A : Type 0} (b : Bytes) (f : A → Bytes) (at : ℕ) (x : Reading A) → Runs (mapReading (λ a. b ++ f a) x) (got b at then λ p. last (mapReading f x))

@@ -8,6 +8,7 @@ ghost use Rattle.rast.specs.ToString.{Path·ToString};
 ghost use Rattle.rast.specs.Indent.{indent};
 ghost use Rattle.rast.specs.Doc.{ToDocstringPrefix};
 ghost use Rattle.buffer.specs.Laid.{Laid, Fits};
+ghost use Rattle.encoding.specs.Words.{borrowedKind, firstPair};
 ghost use Rattle.encoding.specs.Tables.{nameBytes, nameCount};
 ghost use Rattle.encoding.specs.Tested.{Good};
 ghost use Rattle.encoding.specs.HeadWords.{InsidePath};
@@ -18,6 +19,13 @@ use accepted_types::Spot;
 use encoding::PathAt;
 use encoding::Refusal;
 use encoding::WordScan;
+use encoding::words::BORROWED;
+use encoding::words::EMPTY;
+use encoding::words::FIRST_PAIR;
+use encoding::words::PLAIN_KINDS;
+use encoding::words::PUB;
+use encoding::words::T_IDENTIFIER;
+use encoding::words::VISIBILITIES;
 use text_measure::Measure;
 use text_measure::PathMeasure;
 
@@ -59,7 +67,7 @@ fn lay_fixed_doc(
     out: &mut [u8],
     pos: usize,
 ) -> usize
-    requires { ⌜ (name < 16) × (name < nameCount (now pairs)) × Good (now pairs) (now text)
+    requires { ⌜ (name < firstPair) × (name < nameCount (now pairs)) × Good (now pairs) (now text)
         × Fits write (now out) pos (ToDocstringPrefix (nameBytes (now pairs) (now text) name) (indent level)) ⌝ }
     ensures { λ r. ⌜ Laid write (now (out .entry)) pos (ToDocstringPrefix (nameBytes (now (pairs .entry)) (now (text .entry)) name) (indent level)) (now (out .exit)) r ⌝ }
 {
@@ -82,10 +90,10 @@ fn lay_known_doc(
         × Fits write (now out) pos (ToDocstringPrefix (nameBytes (now pairs) (now text) name) (indent level)) ⌝ }
     ensures { λ r. ⌜ Laid write (now (out .entry)) pos (ToDocstringPrefix (nameBytes (now (pairs .entry)) (now (text .entry)) name) (indent level)) (now (out .exit)) r ⌝ }
 {
-    if name == 0 {
+    if name == EMPTY {
         return pos;
     }
-    if name < 16 {
+    if name < FIRST_PAIR {
         return lay_fixed_doc(write, pairs, text, name, level, out, pos);
     }
     text_doc::lay_doc(
@@ -195,20 +203,20 @@ pub fn lay_type(
 
 // The borrow at `at`, counted. The measuring pass is given the whole of it, since the borrow is one of the 64 levels.
 fn count_borrow(words: &[u32], pairs: &[u32], text: &[u8], at: usize, pos: usize) -> Place
-    requires { ⌜ Checked (now words) (now pairs) (now text) × (at < length (now words)) × (getD (now words) at 0 ≡ 15) ⌝ }
+    requires { ⌜ Checked (now words) (now pairs) (now text) × (at < length (now words)) × (getD (now words) at 0 ≡ borrowedKind) ⌝ }
     ensures { λ r. ⌜ Counts pos (typeTextAt (now (words .entry)) (now (pairs .entry)) (now (text .entry)) at) r ⌝ }
 {
     if words.len() <= at + 1 {
         return Place::Stopped(Refusal::EndsEarly);
     }
     let w = words[at + 1];
-    if w < 12 {
+    if w < PLAIN_KINDS {
         return Place::At {
             next: at + 2,
             pos: buffer::count_few(pos, 1 + encoding::primitive_length(w)),
         };
     }
-    if w == 12 {
+    if w == T_IDENTIFIER {
         return count_name(words, pairs, text, 1, at + 2, pos);
     }
     count_type(words, pairs, text, at, pos)
@@ -223,16 +231,16 @@ pub fn count_field_type(words: &[u32], pairs: &[u32], text: &[u8], at: usize, po
         return Place::Stopped(Refusal::EndsEarly);
     }
     let w = words[at];
-    if w < 12 {
+    if w < PLAIN_KINDS {
         return Place::At {
             next: at + 1,
             pos: buffer::count_few(pos, encoding::primitive_length(w)),
         };
     }
-    if w == 12 {
+    if w == T_IDENTIFIER {
         return count_name(words, pairs, text, 0, at + 1, pos);
     }
-    if w == 15 {
+    if w == BORROWED {
         return count_borrow(words, pairs, text, at, pos);
     }
     count_type(words, pairs, text, at, pos)
@@ -251,13 +259,13 @@ fn write_borrow(
     ensures { λ r. ⌜ Came true (now (out .entry)) pos (typeTextAt (now (words .entry)) (now (pairs .entry)) (now (text .entry)) at) (now (out .exit)) (r .next) (r .pos) ⌝ }
 {
     let w = words[at];
-    if w < 12 {
+    if w < PLAIN_KINDS {
         return Spot {
             next: at + 1,
             pos: text_leaf::put_plain(w, out, pos),
         };
     }
-    if w == 12 {
+    if w == T_IDENTIFIER {
         return Spot {
             next: at + 2,
             pos: write_name(words, pairs, text, at + 1, out, pos),
@@ -284,19 +292,19 @@ pub fn write_field_type(
     ensures { λ r. ⌜ Came true (now (out .entry)) pos (typeTextAt (now (words .entry)) (now (pairs .entry)) (now (text .entry)) at) (now (out .exit)) (r .next) (r .pos) ⌝ }
 {
     let w = words[at];
-    if w < 12 {
+    if w < PLAIN_KINDS {
         return Spot {
             next: at + 1,
             pos: text_leaf::put_plain(w, out, pos),
         };
     }
-    if w == 12 {
+    if w == T_IDENTIFIER {
         return Spot {
             next: at + 2,
             pos: write_name(words, pairs, text, at + 1, out, pos),
         };
     }
-    if w == 15 {
+    if w == BORROWED {
         let p = buffer::put(b"&", out, pos);
         return write_borrow(words, pairs, text, at + 1, out, p);
     }
@@ -329,13 +337,13 @@ pub fn lay_path(
     }
 }
 
-// A visibility, counted: 0 is PUB, 1 is PRIV.
+// A visibility, counted.
 pub fn count_visibility(words: &[u32], at: usize, pos: usize) -> Place
     ensures { λ r. ⌜ Counts pos (visibilityAt (now (words .entry)) at) r ⌝ }
 {
-    match encoding::scan_below(words, 2, at) {
+    match encoding::scan_below(words, VISIBILITIES, at) {
         WordScan::Word { value, next } => {
-            if value != 0 {
+            if value != PUB {
                 return Place::At { next, pos };
             }
             Place::At {
@@ -352,7 +360,7 @@ pub fn write_visibility(words: &[u32], at: usize, out: &mut [u8], pos: usize) ->
     requires { ⌜ Ready true (now out) pos (visibilityAt (now words) at) ⌝ }
     ensures { λ r. ⌜ Came true (now (out .entry)) pos (visibilityAt (now (words .entry)) at) (now (out .exit)) (at + 1) r ⌝ }
 {
-    if words[at] != 0 {
+    if words[at] != PUB {
         return pos;
     }
     buffer::put(b"pub ", out, pos)

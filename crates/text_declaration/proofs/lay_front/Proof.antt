@@ -3,7 +3,7 @@ use Rattle.text_declaration.specs.Texts.{frontAt, titleAt}
 use Rattle.text_pass.proofs.Passes.{AlongChain, came-to, chain-next, chain-ready, chain-start, chain-stop, last-ready, last-went}
 use Rattle.text_pass.specs.Passes.{_then_, last}
 use Rattle.text_pass.specs.Texts.{docAt}
-use Rattle.text_lists.specs.Texts.{attributesAt}
+use Rattle.text_attributes.specs.Texts.{attributesAt}
 use borrow.Author.Needs.{needs}
 use Rattle.text_declaration.proofs.lay_front.Statement.{statement}
 use Rattle.text_declaration.proofs.lay_front.Tie as tie

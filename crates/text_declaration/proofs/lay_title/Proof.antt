@@ -4,7 +4,7 @@ use Rattle.encoding.specs.Reading.{got}
 use Rattle.text_pass.proofs.Passes.{AlongChain, came-to, chain-fits, chain-laid, chain-next, chain-ready, chain-start, chain-stop, last-ready, last-went}
 use Rattle.text_pass.specs.Passes.{_then_, last}
 use Rattle.text_pass.specs.Texts.{nameAt}
-use Rattle.text_lists.specs.Texts.{parametersAt}
+use Rattle.text_parameters.specs.Texts.{parametersAt}
 use borrow.Author.Needs.{needs}
 use Rattle.text_declaration.proofs.lay_title.Statement.{statement}
 use Rattle.text_declaration.proofs.lay_title.Tie as tie

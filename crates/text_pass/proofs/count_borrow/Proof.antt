@@ -1,7 +1,8 @@
-use Prim.Native.Nat.{_+_}
+use Prim.Native.Nat.{_+_, _-_}
 use mathlib.Core.Path.{_≡_, _∙_, ap}
 use native.Mathlib.Omega.{arith}
 use Rattle.buffer.specs.Laid.{clamp}
+use Rattle.encoding.specs.Words.{maxDepth}
 use Rattle.text_pass.specs.declared.Place.{Place}
 use Rattle.text_pass.specs.Passes.{Counts, came}
 use Rattle.text_pass.specs.Texts.{nameAt, typeTextAt}
@@ -14,7 +15,7 @@ use Rattle.text_pass.proofs.count_borrow.Tie as tie
 -- what is borrowed, counted behind the "&"
 behind : (c : tie.Start) {r : Place} →
     let a = c .args in
-    Counts (a .pos + 1) (textWithin 63 (a .words .now) (a .pairs .now) (a .text .now) (a .at + 1)) r → Counts (a .pos) (typeTextAt (a .words .now) (a .pairs .now) (a .text .now) (a .at)) r
+    Counts (a .pos + 1) (textWithin (maxDepth - 1) (a .words .now) (a .pairs .now) (a .text .now) (a .at + 1)) r → Counts (a .pos) (typeTextAt (a .words .now) (a .pairs .now) (a .text .now) (a .at)) r
 behind c w = borrow-counts (c .args .words .now) (c .args .pairs .now) (c .args .text .now) (c .args .at) (c .pre .1) (c .pre .2) w
 
 add-if1 : tie.Need-add-if1

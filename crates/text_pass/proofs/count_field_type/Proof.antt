@@ -1,4 +1,6 @@
+use Prim.Native.Nat.{_-_}
 use native.Mathlib.Omega.{arith}
+use Rattle.encoding.specs.Words.{maxDepth}
 use Rattle.text_pass.specs.Passes.{came}
 use Rattle.text_pass.proofs.Leaves.{ended-text, named-counts, plain-counts}
 use Rattle.text_pass.proofs.Passes.{counts-here, stops-here}
@@ -9,7 +11,7 @@ use Rattle.text_pass.proofs.count_field_type.Tie as tie
 returns : tie.Need-returns
 returns c =
     let a = c .before .before .before .before .args in
-    stops-here (ended-text 63 (a .words .now) (a .pairs .now) (a .text .now) (a .at) (c .if1 .taken))
+    stops-here (ended-text (maxDepth - 1) (a .words .now) (a .pairs .now) (a .text .now) (a .at) (c .if1 .taken))
 
 mul-w : tie.Need-mul-w
 mul-w c = search needs
@@ -29,7 +31,7 @@ count-few-requires c κs = search needs
 returns-2 : tie.Need-returns-2
 returns-2 c =
     let a = c .before .before .before .before .before .before .before .before .args in
-    came (plain-counts 63 (a .words .now) (a .pairs .now) (a .text .now) (a .at) (omega (arith, c .before .before .before .before .if1 .left)) (c .before .before .if2 .taken) (c .before .primitive-length .ensures .0) (c .count-few .ensures))
+    came (plain-counts (maxDepth - 1) (a .words .now) (a .pairs .now) (a .text .now) (a .at) (omega (arith, c .before .before .before .before .if1 .left)) (c .before .before .if2 .taken) (c .before .primitive-length .ensures .0) (c .count-few .ensures))
 
 add-count-name : tie.Need-add-count-name
 add-count-name c = search needs
@@ -40,7 +42,7 @@ count-name-requires c κs = search needs
 returns-3 : tie.Need-returns-3
 returns-3 c =
     let a = c .before .before .before .before .before .before .before .before .args in
-    named-counts 63 (a .words .now) (a .pairs .now) (a .text .now) (a .at) (omega (arith, c .before .before .before .before .if1 .left)) (c .before .if3 .taken) (counts-here (c .count-name .ensures))
+    named-counts (maxDepth - 1) (a .words .now) (a .pairs .now) (a .text .now) (a .at) (omega (arith, c .before .before .before .before .if1 .left)) (c .before .if3 .taken) (counts-here (c .count-name .ensures))
 
 count-borrow-requires : tie.Need-count-borrow-requires
 count-borrow-requires c κs = (c .before .before .before .before .before .before .before .before .pre, omega (arith, c .before .before .before .before .if1 .left), c .if4 .taken)
