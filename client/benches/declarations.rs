@@ -11,7 +11,10 @@ use std::path::{Path, PathBuf};
 use std::process::{Command, Stdio};
 use std::time::Instant;
 
+use tillercoral::cases::{GAUGE_NAME, ID, MM, OFFSET};
 use tillercoral::generate::{random_declaration, Names, Random, Shape};
+use tillercoral::limits::{LEVEL_LIMIT, PAIR_LIMIT, WORD_LIMIT};
+use tillercoral::words::{fields::*, head::*, kind::*, name::*, pair, root::*, visibility::*};
 use tillercoral::{declaration_text, reference, source, tuned, EncodingBuf};
 use timing::{print_growth, print_times, timed, Case, Kind, Maker};
 
@@ -61,11 +64,15 @@ fn cases() -> Vec<Case<'static>> {
         case("doc of one line", 0, vec![with_doc(&[b'd'; 16_000])]),
         case("doc of prose", 0, vec![with_doc(&prose())]),
         case("doc of code", 1, vec![with_doc(&code())]),
-        case("doc of newlines", 16, vec![with_doc(&[b'\n'; 16_000])]),
+        case(
+            "doc of newlines",
+            LEVEL_LIMIT,
+            vec![with_doc(&[b'\n'; 16_000])],
+        ),
         case("random mix", 2, random_mix(8, 4, 5)),
         case("another mix", 1, random_mix(108, 6, 3)),
         case("third mix", 3, random_mix(208, 5, 4)),
-        case("most words", 0, vec![many_fields(8_192)]),
+        case("most words", 0, vec![many_fields(WORD_LIMIT)]),
         case("most of all", 0, vec![most_of_all()]),
     ]
 }
@@ -176,12 +183,15 @@ fn listed(names: &[&[u8]], front: &[u32], items: &[&[u32]], words: usize) -> Enc
 fn many_fields(words: usize) -> EncodingBuf {
     listed(
         &[b"Gauge", b"offset", b"mm", b"identifier"],
-        &[25, 0, 0, 16, 0, 0, 0],
+        &[STRUCT, EMPTY, 0, GAUGE_NAME, 0, NAMED, 0],
         &[
-            &[0, 18, 7],
-            &[1, 19, 15, 0],
-            &[0, 17, 14, 1, 13, 0, 3, 1, 2, 3, 12, 16],
-            &[1, 18, 22, 19, 2],
+            &[PUB, MM, I32],
+            &[PRIV, ID, BORROWED, U8],
+            &[
+                PUB, OFFSET, APP, 1, FROM_PATH, GLOBAL, 3, STD, RC_MODULE, RC, IDENTIFIER,
+                GAUGE_NAME,
+            ],
+            &[PRIV, MM, ARRAY, MM + 1, U32],
         ],
         words,
     )
@@ -190,13 +200,18 @@ fn many_fields(words: usize) -> EncodingBuf {
 fn nameless_fields(words: usize) -> EncodingBuf {
     listed(
         &[b"Gauge", b"Offset"],
-        &[25, 0, 0, 16, 0, 1, 0],
-        &[&[0, 7], &[1, 12, 17], &[1, 15, 0]],
+        &[STRUCT, EMPTY, 0, pair(0), 0, NAMELESS, 0],
+        &[
+            &[PUB, I32],
+            &[PRIV, IDENTIFIER, pair(1)],
+            &[PRIV, BORROWED, U8],
+        ],
         words,
     )
 }
 
 fn many_cases(words: usize) -> EncodingBuf {
+    let [high, low, level, doc] = [1, 2, 3, 4].map(pair);
     listed(
         &[
             b"Event",
@@ -205,11 +220,11 @@ fn many_cases(words: usize) -> EncodingBuf {
             b"level",
             b"High water at the gauge.",
         ],
-        &[26, 0, 0, 16, 0, 0],
+        &[ENUM, EMPTY, 0, pair(0), 0, 0],
         &[
-            &[20, 17, 0, 2, 1, 19, 7, 1, 18, 3],
-            &[0, 18, 1, 2, 1, 7, 1, 3],
-            &[0, 17, 0, 0],
+            &[doc, high, NAMED, 2, PRIV, level, I32, PRIV, low, U64],
+            &[EMPTY, low, NAMELESS, 2, PRIV, I32, PRIV, U64],
+            &[EMPTY, high, NAMED, 0],
         ],
         words,
     )
@@ -218,12 +233,14 @@ fn many_cases(words: usize) -> EncodingBuf {
 fn self_fields(words: usize) -> EncodingBuf {
     listed(
         &[b"Gauge", b"self"],
-        &[25, 0, 0, 16, 0, 0, 0],
+        &[STRUCT, EMPTY, 0, pair(0), 0, NAMED, 0],
         &[
-            &[1, 15, 13, 2, 0],
-            &[1, 17, 15, 13, 2, 0],
-            &[1, 15, 23, 19, 2, 0, 1, 24, 0, 13, 2, 0],
-            &[1, 17, 7],
+            &[PRIV, SELF, FROM_PATH, SELF_TYPE, 0],
+            &[PRIV, pair(1), BORROWED, FROM_PATH, SELF_TYPE, 0],
+            &[
+                PRIV, SELF, SYNONYM, TUPLE, 2, U8, U16, META_DATA, 0, FROM_PATH, SELF_TYPE, 0,
+            ],
+            &[PRIV, pair(1), I32],
         ],
         words,
     )
@@ -239,18 +256,22 @@ fn many_attributes(words: usize) -> EncodingBuf {
             b"allow",
             b"dead_code",
         ],
-        &[25, 0, 0],
-        &[&[17, 2, 18, 19], &[20, 1, 21], &[17, 0]],
+        &[STRUCT, EMPTY, 0],
+        &[
+            &[pair(1), 2, pair(2), pair(3)],
+            &[pair(4), 1, pair(5)],
+            &[pair(1), 0],
+        ],
         words - 4,
     );
     EncodingBuf {
-        words: [&made.words[..], &[16, 0, 0, 0]].concat(),
+        words: [&made.words[..], &[pair(0), 0, NAMED, 0]].concat(),
         ..made
     }
 }
 
 fn with_doc(doc: &[u8]) -> EncodingBuf {
-    Names::of(&[b"Gauge", doc]).with_words(&[25, 17, 0, 16, 0, 1, 0])
+    Names::of(&[b"Gauge", doc]).with_words(&[STRUCT, pair(1), 0, pair(0), 0, NAMELESS, 0])
 }
 
 fn prose() -> Vec<u8> {
@@ -284,16 +305,16 @@ fn random_mix(seed: u64, depth: usize, children: usize) -> Vec<EncodingBuf> {
 
 /// As many words, pairs and bytes as there may be, all of them used.
 fn most_of_all() -> EncodingBuf {
-    let stock: Vec<Vec<u8>> = (0..1_024)
+    let stock: Vec<Vec<u8>> = (0..PAIR_LIMIT)
         .map(|i| format!("channel_{i:08}").into_bytes())
         .collect();
     let names = Names::of(&stock.iter().map(Vec::as_slice).collect::<Vec<_>>());
-    let mut words = vec![25, 0, 0, 16, 0, 0, 2_046];
-    for i in 0..2_046 {
-        words.extend([0, 16 + i * 389 % 1_024, 12, 16 + i * 7 % 1_024]);
+    let (pairs, fields) = (PAIR_LIMIT as u32, (WORD_LIMIT as u32 - 7) / 4);
+    let mut words = vec![STRUCT, EMPTY, 0, pair(0), 0, NAMED, fields];
+    for i in 0..fields {
+        words.extend([PUB, pair(i * 389 % pairs)]);
+        words.extend([IDENTIFIER, pair(i * 7 % pairs)]);
     }
-    words.push(0);
-    words.truncate(8_191);
     names.with_words(&words)
 }
 
@@ -382,7 +403,7 @@ fn run(program: &Path, path: &Path, output: Stdio) -> (Vec<u8>, f64) {
 /// A file at the limit of pairs whose text still fits the program's buffer.
 fn most_pairs() -> EncodingBuf {
     let all = most_of_all();
-    let fields = 1_024;
+    let fields = PAIR_LIMIT;
     let mut words = all.words[..7 + 4 * fields].to_vec();
     words[6] = fields as u32;
     EncodingBuf { words, ..all }

@@ -8,7 +8,12 @@ use std::hint::black_box;
 use std::time::Instant;
 
 use samples::gauge_types;
+use tillercoral::cases::{GAUGE, OBJECT_OF};
 use tillercoral::generate::{random_rules, random_shaped_type, Names, Random};
+use tillercoral::limits::{DEPTH_LIMIT, RULE_LIMIT, WORD_LIMIT};
+use tillercoral::words::{
+    fields::NAMED, head::STRUCT, kind::*, name::*, pair, root::GLOBAL, visibility::PUB, NO_SIZE,
+};
 use tillercoral::{reference, tuned, type_rebuild, Encoding, EncodingBuf, Refusal};
 use timing::{best_times, counting, is_asked_for, timed, ROUNDS};
 
@@ -36,7 +41,7 @@ struct Case {
     samples: Vec<(EncodingBuf, Vec<u32>)>,
 }
 
-const BUFFER: usize = 8_192;
+const BUFFER: usize = WORD_LIMIT;
 
 impl Case {
     fn new(name: &str, calls: [WordCall; 3], samples: Vec<(EncodingBuf, Vec<u32>)>) -> Case {
@@ -143,7 +148,7 @@ fn print_growth_with_words() {
         for (version, which) in [("ours", 0), ("tuned", 1)] {
             print!("{:<24}", format!("{name}, {version}"));
             for part in [8, 4, 2, 1] {
-                let case = Case::one(name, list_of_types(8_192 / part), rules.clone());
+                let case = Case::one(name, list_of_types(WORD_LIMIT / part), rules.clone());
                 case.check();
                 print!(" {:>9.2} ns", case.time()[which] / case.words() as f64);
             }
@@ -163,7 +168,8 @@ fn cases() -> Vec<Case> {
         Case::new("fifth mix", TYPES, random_mix(409, 9)),
     ];
     cases.extend(growing_with_rules());
-    cases.push(Case::one("nested, all match", nested(), vec![1, 15, 0, 0]));
+    let rules = vec![1, BORROWED, U8, U8];
+    cases.push(Case::one("nested, all match", nested(), rules));
     cases.extend(declarations());
     cases.extend(initializations());
     cases
@@ -183,28 +189,25 @@ fn initializations() -> Vec<Case> {
         let tree = item_names().with_words(words);
         Case::new(name, INITIALIZATIONS, vec![(tree, vec![0])])
     };
-    let object_of = [14, 1, 13, 0, 2, 10, 11];
-    let array_of = [22, 0];
+    let array_of = [ARRAY, NO_SIZE];
+    let named = [IDENTIFIER, pair(0)];
     let large = list_of_types(8_000).words;
     vec![
-        case(
-            "initialized, the same",
-            &[&object_of[..], &[12, 16]].concat(),
-        ),
+        case("initialized, the same", &[&OBJECT_OF[..], &named].concat()),
         case(
             "initialized, an array",
-            &[&object_of[..], &array_of, &[12, 16]].concat(),
+            &[&OBJECT_OF[..], &array_of, &named].concat(),
         ),
         case(
             "initialized, large",
-            &[&object_of[..], &array_of, &large].concat(),
+            &[&OBJECT_OF[..], &array_of, &large].concat(),
         ),
     ]
 }
 
 /// How the time grows with the rules, in a tree of 8,192 words.
 fn growing_with_rules() -> Vec<Case> {
-    let case = |name: String, rules| Case::one(&name, list_of_types(8_192), rules);
+    let case = |name: String, rules| Case::one(&name, list_of_types(WORD_LIMIT), rules);
     let misses = [0, 1, 8, 32].map(|count| {
         let name = format!("{count} rules, none matches");
         case(name, rules_that_miss(count))
@@ -228,7 +231,7 @@ fn small() -> Vec<(EncodingBuf, Vec<u32>)> {
         &[19, 2, 0, 11],
     ]
     .iter()
-    .map(|words| (gauge.with_words(words), vec![1, 0, 15, 1]))
+    .map(|words| (gauge.with_words(words), vec![1, U8, BORROWED, U16]))
     .collect()
 }
 
@@ -281,7 +284,7 @@ fn item_names() -> Names {
 }
 
 fn list_of_types(words: usize) -> EncodingBuf {
-    let mut all = vec![19, 0];
+    let mut all = vec![TUPLE, 0];
     for item in ITEMS.iter().cycle() {
         if all.len() + item.len() > words {
             break;
@@ -296,11 +299,15 @@ fn list_of_types(words: usize) -> EncodingBuf {
 fn rules_that_miss(count: usize) -> Vec<u32> {
     let mut rules = vec![count as u32];
     for number in 0..count as u32 {
+        let (quarter, plain) = (number / 4, number % 12);
         match number % 4 {
-            0 => rules.extend([14, 1, 12, 19, 12, number / 4, number % 12]),
-            1 => rules.extend([22, 1 + number / 4, 9, number % 12]),
-            2 => rules.extend([14, 1, 13, 0, 3, 1, 2, 5, 12, number / 4, 1]),
-            _ => rules.extend([24, 3, number / 4, 1]),
+            0 => rules.extend([APP, 1, IDENTIFIER, pair(3), IDENTIFIER, quarter, plain]),
+            1 => rules.extend([ARRAY, 1 + quarter, I128, plain]),
+            2 => {
+                rules.extend([APP, 1, FROM_PATH, GLOBAL, 3, STD, RC_MODULE, ARC]);
+                rules.extend([IDENTIFIER, quarter, U16]);
+            }
+            _ => rules.extend([META_DATA, 3, quarter, U16]),
         }
     }
     rules
@@ -321,8 +328,11 @@ fn rules_that_hit(count: usize) -> Vec<u32> {
     let mut rules = vec![count as u32];
     for number in 0..count as u32 {
         match froms.get(number as usize) {
-            Some(from) => rules.extend([from, &[11][..]].concat()),
-            None => rules.extend([24, 1, 15, 15, 13, number % 3, 1, number / 3, 0]),
+            Some(from) => rules.extend([from, &[BOOL][..]].concat()),
+            None => {
+                rules.extend([META_DATA, 1, BORROWED, BORROWED]);
+                rules.extend([FROM_PATH, number % 3, 1, number / 3, U8]);
+            }
         }
     }
     rules
@@ -330,33 +340,33 @@ fn rules_that_hit(count: usize) -> Vec<u32> {
 
 /// Rules that differ from types of the list in their last words only.
 fn rules_that_almost_hit() -> Vec<u32> {
-    let mut rules = vec![32];
-    for number in 0..16 {
-        rules.extend([14, 1, 13, 0, 3, 1, 2, 3, 12, number, 0]);
-        rules.extend([14, 1, 12, 20, 12, number, 0]);
+    let mut rules = vec![RULE_LIMIT as u32];
+    for number in 0..RULE_LIMIT as u32 / 2 {
+        rules.extend([APP, 1, FROM_PATH, GLOBAL, 3, STD, RC_MODULE, RC]);
+        rules.extend([IDENTIFIER, number, U8]);
+        rules.extend([APP, 1, IDENTIFIER, pair(4), IDENTIFIER, number, U8]);
     }
     rules
 }
 
 fn nested() -> EncodingBuf {
-    let mut words = vec![15; 63];
-    words.push(0);
+    let mut words = vec![BORROWED; DEPTH_LIMIT - 1];
+    words.push(U8);
     Names::of(&[]).with_words(&words)
 }
 
 fn a_struct() -> (EncodingBuf, Vec<u32>) {
     let names = Names::of(&[b"Gauge", b"Offset in mm.", b"mm", b"id"]);
-    let words = [25, 17, 0, 16, 0, 0, 2, 0, 18, 7, 1, 19, 15, 0];
-    (names.with_words(&words), vec![1, 7, 8])
+    (names.with_words(&GAUGE), vec![1, I32, I64])
 }
 
 fn many_fields() -> EncodingBuf {
-    let mut all = vec![25, 0, 0, 16, 0, 0, 0];
+    let mut all = vec![STRUCT, EMPTY, 0, pair(0), 0, NAMED, 0];
     for item in ITEMS.iter().cycle() {
-        if all.len() + 2 + item.len() > 8_192 {
+        if all.len() + 2 + item.len() > WORD_LIMIT {
             break;
         }
-        all.extend([0, 18]);
+        all.extend([PUB, pair(2)]);
         all.extend(*item);
         all[6] += 1;
     }

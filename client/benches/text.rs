@@ -8,6 +8,8 @@ mod timing;
 
 use samples::{gauge_types, nested_paths};
 use tillercoral::generate::{random_type, Names, Random, Shape};
+use tillercoral::limits::{DEPTH_LIMIT, PAIR_LIMIT, TEXT_LIMIT, WORD_LIMIT};
+use tillercoral::words::{kind::*, name::*, pair, root::*};
 use tillercoral::{path_text, reference, tuned, type_text, EncodingBuf};
 use timing::{print_growth, print_times, timed, Case, Kind, Maker};
 
@@ -74,7 +76,7 @@ fn cases() -> Vec<Case<'static>> {
         case("random mix", random_mix(7, 8, 4)),
         case("another mix", random_mix(107, 5, 7)),
         case("third mix", random_mix(207, 7, 5)),
-        case("most words", vec![many_children(8_192)]),
+        case("most words", vec![many_children(WORD_LIMIT)]),
         case("most pairs", vec![most_pairs()]),
         case("most text", vec![most_text()]),
     ]
@@ -83,7 +85,10 @@ fn cases() -> Vec<Case<'static>> {
 fn paths() -> Vec<Case<'static>> {
     let case = |name, sample| Case::new(&PATHS, name, 0, vec![sample]);
     vec![
-        case("::std::rc::Rc", Names::of(&[]).with_words(&[0, 3, 1, 2, 3])),
+        case(
+            "::std::rc::Rc",
+            Names::of(&[]).with_words(&[GLOBAL, 3, STD, RC_MODULE, RC]),
+        ),
         case("crate, five names", five_names()),
         case("1,000 names", thousand_names()),
     ]
@@ -102,41 +107,41 @@ fn many_children(words: usize) -> EncodingBuf {
     let mut count = 0;
     while children.len() + 7 <= words {
         match count % 3 {
-            0 => children.extend([15, 7]),
-            1 => children.extend([14, 1, 12, 16, 2]),
-            _ => children.extend([22, 19, 0]),
+            0 => children.extend([BORROWED, I32]),
+            1 => children.extend([APP, 1, IDENTIFIER, pair(0), U32]),
+            _ => children.extend([ARRAY, pair(2) + 1, U8]),
         }
         count += 1;
     }
     while children.len() + 2 < words {
-        children.push(10);
+        children.push(USIZE);
         count += 1;
     }
-    names.with_words(&[&[19, count], &children[..]].concat())
+    names.with_words(&[&[TUPLE, count], &children[..]].concat())
 }
 
 /// As deep as it goes, with something on every step.
 fn nested() -> EncodingBuf {
     let names = Names::of(&[b"Gauge", b"Offset", b"mm", b"id"]);
     let mut words = Vec::new();
-    for depth in 0..63 {
+    for depth in 0..DEPTH_LIMIT - 1 {
         match depth % 4 {
-            0 => words.extend([14, 1, 12, 16]),
-            1 => words.extend([15]),
-            2 => words.extend([22, 19]),
-            _ => words.extend([20, 0]),
+            0 => words.extend([APP, 1, IDENTIFIER, pair(0)]),
+            1 => words.extend([BORROWED]),
+            2 => words.extend([ARRAY, pair(2) + 1]),
+            _ => words.extend([FN, 0]),
         }
     }
-    words.push(0);
+    words.push(U8);
     names.with_words(&words)
 }
 
 fn long_names() -> EncodingBuf {
     let name = [b'a'; 1_000];
     let names = Names::of(&[&name, &name[..900]]);
-    let mut words = vec![19, 200];
+    let mut words = vec![TUPLE, 200];
     for _ in 0..100 {
-        words.extend([12, 16, 12, 17]);
+        words.extend([IDENTIFIER, pair(0), IDENTIFIER, pair(1)]);
     }
     names.with_words(&words)
 }
@@ -144,9 +149,10 @@ fn long_names() -> EncodingBuf {
 fn names_only(words: usize) -> EncodingBuf {
     let names = Names::of(&[b"Gauge", b"Depth", b"mm", b"identifier"]);
     let count = (words - 2) / 2;
-    let mut all = vec![19, count as u32];
+    let mut all = vec![TUPLE, count as u32];
+    let numbers = [pair(0), pair(1), pair(2), pair(3), RC, OBJECT];
     for i in 0..count {
-        all.extend([12, [16, 17, 18, 19, 3, 11][i % 6]]);
+        all.extend([IDENTIFIER, numbers[i % 6]]);
     }
     names.with_words(&all)
 }
@@ -155,9 +161,10 @@ fn names_only(words: usize) -> EncodingBuf {
 fn hidden_bases(words: usize) -> EncodingBuf {
     let names = Names::of(&[b"Gauge"]);
     let count = (words - 2) / 10;
-    let mut all = vec![19, count as u32];
+    let mut all = vec![TUPLE, count as u32];
     for _ in 0..count {
-        all.extend([23, 14, 1, 12, 16, 24, 2, 7, 15, 10]);
+        all.extend([SYNONYM, APP, 1, IDENTIFIER, pair(0), META_DATA, 2, I32]);
+        all.extend([BORROWED, USIZE]);
     }
     names.with_words(&all)
 }
@@ -180,30 +187,31 @@ fn random_mix(seed: u64, depth: usize, children: usize) -> Vec<EncodingBuf> {
 }
 
 fn most_pairs() -> EncodingBuf {
-    let stock: Vec<Vec<u8>> = (0..1_024)
+    let stock: Vec<Vec<u8>> = (0..PAIR_LIMIT)
         .map(|i| format!("Channel{i}").into_bytes())
         .collect();
     let names = Names::of(&stock.iter().map(Vec::as_slice).collect::<Vec<_>>());
-    let mut words = vec![19, 1_024];
-    for i in 0..1_024 {
-        words.extend([12, 16 + i * 389 % 1_024]);
+    let count = PAIR_LIMIT as u32;
+    let mut words = vec![TUPLE, count];
+    for i in 0..count {
+        words.extend([IDENTIFIER, pair(i * 389 % count)]);
     }
     names.with_words(&words)
 }
 
 fn most_text() -> EncodingBuf {
-    let name = [b'n'; 16_384];
+    let name = [b'n'; TEXT_LIMIT];
     let names = Names::of(&[&name]);
-    let mut words = vec![19, 64];
+    let mut words = vec![TUPLE, 64];
     for _ in 0..64 {
-        words.extend([12, 16]);
+        words.extend([IDENTIFIER, pair(0)]);
     }
     names.with_words(&words)
 }
 
 fn five_names() -> EncodingBuf {
     let names = Names::of(&[b"instruments", b"sounder", b"channel", b"nmea", b"Reading"]);
-    names.with_words(&[1, 5, 16, 17, 18, 19, 20])
+    names.with_words(&[CRATE, 5, pair(0), pair(1), pair(2), pair(3), pair(4)])
 }
 
 /// Names of a table and fixed ones, of different lengths.
@@ -214,7 +222,8 @@ fn thousand_names() -> EncodingBuf {
         b"mm",
         b"a_longer_name_of_a_module",
     ]);
-    let mut words = vec![0, 1_000];
-    words.extend((0..1_000).map(|i| [16, 17, 18, 1, 19, 10][i % 6]));
+    let mut words = vec![GLOBAL, 1_000];
+    let numbers = [pair(0), pair(1), pair(2), STD, pair(3), DAFNY_RUNTIME];
+    words.extend((0..1_000).map(|i| numbers[i % 6]));
     names.with_words(&words)
 }

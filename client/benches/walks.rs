@@ -8,8 +8,11 @@ use std::hint::black_box;
 use std::time::Instant;
 
 use samples::{gauge_types, nested_paths};
+use tillercoral::cases::{GAUGE, PTR_OF};
 use tillercoral::generate::{random_shaped_type, random_type, Names, Random, Shape};
+use tillercoral::limits::WORD_LIMIT;
 use tillercoral::reference::{self, PARTS, SHAPES};
+use tillercoral::words::{fields::*, head::*, kind::*, name::*, pair, visibility::*};
 use tillercoral::{tuned, Encoding, EncodingBuf, Refusal};
 use timing::{best_times, is_asked_for, timed, ROUNDS};
 
@@ -22,7 +25,7 @@ struct Kind {
     calls: [Call; 3],
 }
 
-const BUFFER: usize = 8_192;
+const BUFFER: usize = WORD_LIMIT;
 
 static VISITS: [Kind; 2] = [
     Kind {
@@ -178,7 +181,7 @@ fn cases() -> Vec<Case> {
         cases.push(Case::new(kind, "shaped types", shaped_types(10, 6)));
         cases.push(Case::new(kind, "other shapes", shaped_types(110, 9)));
         cases.push(Case::new(kind, "third shapes", shaped_types(210, 7)));
-        cases.push(Case::new(kind, "8,192 words", vec![wrapped(8_192)]));
+        cases.push(Case::new(kind, "8,192 words", vec![wrapped(WORD_LIMIT)]));
     }
     cases
 }
@@ -192,10 +195,10 @@ fn visits() -> Vec<Case> {
         Case::new(types, "third shapes", shaped_types(210, 7)),
         Case::new(types, "fourth shapes", shaped_types(310, 8)),
         Case::new(types, "1,024 words", vec![list_of_synonyms(1_024)]),
-        Case::new(types, "8,192 words", vec![list_of_synonyms(8_192)]),
+        Case::new(types, "8,192 words", vec![list_of_synonyms(WORD_LIMIT)]),
         Case::new(declarations, "a struct", vec![a_struct()]),
-        Case::new(declarations, "struct fields", vec![many_fields(25)]),
-        Case::new(declarations, "enum fields", vec![many_fields(26)]),
+        Case::new(declarations, "struct fields", vec![many_fields(STRUCT)]),
+        Case::new(declarations, "enum fields", vec![many_fields(ENUM)]),
     ]
 }
 
@@ -210,8 +213,8 @@ fn soundness() -> Vec<Case> {
         case("nested mix", sound(nested_mix(11, 10, 4))),
         case("another mix", sound(nested_mix(111, 6, 6))),
         case("third mix", sound(nested_mix(211, 8, 5))),
-        case("8,192 words", sound(vec![list_of_synonyms(8_192)])),
-        case("nested paths", sound(vec![nested_paths(8_192)])),
+        case("8,192 words", sound(vec![list_of_synonyms(WORD_LIMIT)])),
+        case("nested paths", sound(vec![nested_paths(WORD_LIMIT)])),
     ]
 }
 
@@ -258,9 +261,10 @@ fn shaped_types(seed: u64, depth: usize) -> Vec<EncodingBuf> {
 fn list_of_synonyms(words: usize) -> EncodingBuf {
     let names = Names::of(&[b"Gauge"]);
     let count = (words - 2) / 10;
-    let mut all = vec![19, count as u32];
+    let mut all = vec![TUPLE, count as u32];
     for _ in 0..count {
-        all.extend([23, 14, 1, 12, 16, 24, 2, 7, 15, 10]);
+        all.extend([SYNONYM, APP, 1, IDENTIFIER, pair(0), META_DATA, 2, I32]);
+        all.extend([BORROWED, USIZE]);
     }
     names.with_words(&all)
 }
@@ -268,7 +272,7 @@ fn list_of_synonyms(words: usize) -> EncodingBuf {
 /// A synonym with a long display, of a Ptr.
 fn wrapped(words: usize) -> EncodingBuf {
     let display = list_of_synonyms(words - 9);
-    let all = [&[23], &display.words[..], &[14, 1, 13, 0, 2, 10, 12, 0]].concat();
+    let all = [&[SYNONYM], &display.words[..], &PTR_OF, &[U8]].concat();
     EncodingBuf {
         words: all,
         ..display
@@ -277,20 +281,20 @@ fn wrapped(words: usize) -> EncodingBuf {
 
 fn a_struct() -> EncodingBuf {
     let names = Names::of(&[b"Gauge", b"Offset in mm.", b"mm", b"id"]);
-    names.with_words(&[25, 17, 0, 16, 0, 0, 2, 0, 18, 7, 1, 19, 15, 0])
+    names.with_words(&GAUGE)
 }
 
 /// A struct, or an enum with one case, with as many fields as there may be.
 fn many_fields(head: u32) -> EncodingBuf {
     let names = Names::of(&[b"Gauge", b"Offset", b"mm", b"id"]);
-    let mut all = vec![head, 0, 0, 16, 0];
-    if head == 26 {
-        all.extend([1, 0, 17]);
+    let mut all = vec![head, EMPTY, 0, pair(0), 0];
+    if head == ENUM {
+        all.extend([1, EMPTY, pair(1)]);
     }
-    all.extend([0, 0]);
+    all.extend([NAMED, 0]);
     let count = all.len() - 1;
-    while all.len() + 8 <= 8_192 {
-        all.extend([0, 18, 14, 1, 12, 16, 15, 7]);
+    while all.len() + 8 <= WORD_LIMIT {
+        all.extend([PUB, pair(2), APP, 1, IDENTIFIER, pair(0), BORROWED, I32]);
         all[count] += 1;
     }
     names.with_words(&all)

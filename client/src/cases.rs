@@ -2,6 +2,7 @@
 //! easily got wrong. The reference and the library are held to the same ones.
 
 use crate::generate::Names;
+use crate::words::{fields::*, head::*, kind::*, name::*, pair, root::*, visibility::*};
 use crate::EncodingBuf;
 
 pub use rebuild::{declaration_rebuilds, initializations, type_rebuilds};
@@ -44,13 +45,21 @@ pub fn encoded(words: &[u32]) -> EncodingBuf {
 
 /// `count` times `&`, then these words.
 pub fn borrows_then(count: usize, rest: &[u32]) -> Vec<u32> {
-    let mut words = vec![15; count];
+    let mut words = vec![BORROWED; count];
     words.extend(rest);
     words
 }
 
+/// The papers' own names: `Gauge`, `Offset in mm.`, `mm` and `id`.
+pub const GAUGE_NAME: u32 = pair(0);
+pub const OFFSET: u32 = pair(1);
+pub const MM: u32 = pair(2);
+pub const ID: u32 = pair(3);
+
 /// The struct of the papers' example.
-pub const GAUGE: [u32; 14] = [25, 17, 0, 16, 0, 0, 2, 0, 18, 7, 1, 19, 15, 0];
+pub const GAUGE: [u32; 14] = [
+    STRUCT, OFFSET, 0, GAUGE_NAME, 0, NAMED, 2, PUB, MM, I32, PRIV, ID, BORROWED, U8,
+];
 
 /// A call that writes words.
 #[derive(Clone, Debug)]
@@ -77,11 +86,11 @@ impl WordCase {
 }
 
 /// An Object, a Ptr and a MaybeUninit, each without its argument.
-pub const OBJECT_OF: [u32; 7] = [14, 1, 13, 0, 2, 10, 11];
-pub const PTR_OF: [u32; 7] = [14, 1, 13, 0, 2, 10, 12];
-pub const MAYBE_UNINIT_OF: [u32; 8] = [14, 1, 13, 0, 3, 1, 8, 9];
+pub const OBJECT_OF: [u32; 7] = [APP, 1, FROM_PATH, GLOBAL, 2, DAFNY_RUNTIME, OBJECT];
+pub const PTR_OF: [u32; 7] = [APP, 1, FROM_PATH, GLOBAL, 2, DAFNY_RUNTIME, PTR];
+pub const MAYBE_UNINIT_OF: [u32; 8] = [APP, 1, FROM_PATH, GLOBAL, 3, STD, MEM, MAYBE_UNINIT];
 /// `Array2`, without its argument.
-pub const ARRAY2_OF: [u32; 7] = [14, 1, 13, 0, 2, 10, 21];
+pub const ARRAY2_OF: [u32; 7] = [APP, 1, FROM_PATH, GLOBAL, 2, DAFNY_RUNTIME, pair(5)];
 
 /// Words one after the other.
 pub fn joined(parts: &[&[u32]]) -> Vec<u32> {

@@ -11,6 +11,7 @@ use crate::tree::{
     Attribute, Declaration, Enum, EnumCase, Field, Fields, Name, NamelessField, Path, Root, Struct,
     Type, TypeParameter, TypeSynonym, Use, Visibility,
 };
+use crate::words::{fields, flag, head, kind, root, visibility};
 use crate::{Encoding, EncodingBuf, Refusal};
 
 /// Why an encoding holds no tree, and where it was noticed.
@@ -113,10 +114,13 @@ impl Declaration {
     ///
     /// ```
     /// use tillercoral::tree::{Declaration, Field, Struct, Type};
+    /// use tillercoral::words::{fields, head, kind, name, pair, visibility};
     /// use tillercoral::Encoding;
     ///
+    /// let front = [head::STRUCT, name::EMPTY, 0, pair(0), 0, fields::NAMED, 1];
+    /// let field = [visibility::PUB, pair(1), kind::I32];
     /// let encoding = Encoding {
-    ///     words: &[25, 0, 0, 16, 0, 0, 1, 0, 17, 7],
+    ///     words: &[&front[..], &field].concat(),
     ///     pairs: &[0, 5, 5, 2],
     ///     text: b"Gaugemm",
     /// };
@@ -137,10 +141,11 @@ impl EncodingBuf {
     /// the calls test them.
     ///
     /// ```
+    /// use tillercoral::words::{head::USE, pair, root::GLOBAL, visibility::PRIV};
     /// use tillercoral::{EncodingBuf, Refusal};
     ///
     /// let encoding = EncodingBuf {
-    ///     words: vec![28, 1, 0, 1, 16],
+    ///     words: vec![USE, PRIV, GLOBAL, 1, pair(0)],
     ///     pairs: vec![0, 2],
     ///     text: b"mm".to_vec(),
     /// };
@@ -344,9 +349,9 @@ impl<'a> Decoder<'a> {
     }
 
     fn path(&mut self) -> Result<Path, DecodeError> {
-        let root = match self.below(3)? {
-            0 => Root::Global,
-            1 => Root::Crate,
+        let root = match self.below(root::END)? {
+            root::GLOBAL => Root::Global,
+            root::CRATE => Root::Crate,
             _ => Root::SelfType,
         };
         let names = self.counted(Self::name)?;
@@ -370,34 +375,38 @@ impl Decoder<'_> {
             return Err(self.refused(Refusal::TooDeep));
         }
         let below = depth + 1;
-        let kind = self.below(25)?;
+        let kind = self.below(kind::END)?;
         Ok(match kind {
-            12 => Type::Identifier(self.name()?),
-            13 => Type::FromPath(self.path()?),
-            14 => {
+            kind::IDENTIFIER => Type::Identifier(self.name()?),
+            kind::FROM_PATH => Type::FromPath(self.path()?),
+            kind::APP => {
                 let count = self.count()?;
                 let base = self.boxed_type(below)?;
                 let arguments = self.items(count, |decoder| decoder.type_at_depth(below))?;
                 Type::App { base, arguments }
             }
-            15 => Type::Borrowed(self.boxed_type(below)?),
-            16 => Type::BorrowedMut(self.boxed_type(below)?),
-            17 => Type::Impl(self.boxed_type(below)?),
-            18 => Type::Dyn(self.boxed_type(below)?),
-            19 => Type::Tuple(self.counted(|decoder| decoder.type_at_depth(below))?),
-            20 => {
+            kind::BORROWED => Type::Borrowed(self.boxed_type(below)?),
+            kind::BORROWED_MUT => Type::BorrowedMut(self.boxed_type(below)?),
+            kind::IMPL => Type::Impl(self.boxed_type(below)?),
+            kind::DYN => Type::Dyn(self.boxed_type(below)?),
+            kind::TUPLE => Type::Tuple(self.counted(|decoder| decoder.type_at_depth(below))?),
+            kind::FN => {
                 let arguments = self.counted(|decoder| decoder.type_at_depth(below))?;
                 let result = self.boxed_type(below)?;
                 Type::Fn { arguments, result }
             }
-            21 => self.two_types(below, |left, right| Type::Intersection { left, right })?,
-            22 => {
+            kind::INTERSECTION => {
+                self.two_types(below, |left, right| Type::Intersection { left, right })?
+            }
+            kind::ARRAY => {
                 let size = self.size()?;
                 let element = self.boxed_type(below)?;
                 Type::Array { element, size }
             }
-            23 => self.two_types(below, |display, base| Type::Synonym { display, base })?,
-            24 => self.meta_data(below)?,
+            kind::SYNONYM => {
+                self.two_types(below, |display, base| Type::Synonym { display, base })?
+            }
+            kind::META_DATA => self.meta_data(below)?,
             plain => PLAIN[plain as usize].clone(),
         })
     }
@@ -417,11 +426,11 @@ impl Decoder<'_> {
     }
 
     fn meta_data(&mut self, depth: usize) -> Result<Type, DecodeError> {
-        let flags = self.below(4)?;
+        let flags = self.below(flag::END)?;
         Ok(Type::MetaData {
             display: self.boxed_type(depth)?,
-            copy_semantics: flags & 1 != 0,
-            overflow: flags & 2 != 0,
+            copy_semantics: flags & flag::COPY_SEMANTICS != 0,
+            overflow: flags & flag::OVERFLOW != 0,
         })
     }
 }
@@ -430,10 +439,11 @@ impl Decoder<'_> {
 // stand below in the order of their words, which is the order in which Rust reads them.
 impl Decoder<'_> {
     fn declaration(&mut self) -> Result<Declaration, DecodeError> {
-        match self.take(|_, word| (25..=28).contains(&word).then_some(word))? {
-            25 => self.a_struct().map(Declaration::Struct),
-            26 => self.an_enum().map(Declaration::Enum),
-            27 => self.type_synonym().map(Declaration::TypeSynonym),
+        let is_head = |word| matches!(word, head::STRUCT | head::ENUM | head::TYPE | head::USE);
+        match self.take(|_, word| is_head(word).then_some(word))? {
+            head::STRUCT => self.a_struct().map(Declaration::Struct),
+            head::ENUM => self.an_enum().map(Declaration::Enum),
+            head::TYPE => self.type_synonym().map(Declaration::TypeSynonym),
             _ => self.a_use().map(Declaration::Use),
         }
     }
@@ -498,8 +508,8 @@ impl Decoder<'_> {
     }
 
     fn fields(&mut self) -> Result<Fields, DecodeError> {
-        match self.below(2)? {
-            0 => self.counted(Self::field).map(Fields::Named),
+        match self.below(fields::END)? {
+            fields::NAMED => self.counted(Self::field).map(Fields::Named),
             _ => self.counted(Self::nameless_field).map(Fields::Nameless),
         }
     }
@@ -520,8 +530,8 @@ impl Decoder<'_> {
     }
 
     fn visibility(&mut self) -> Result<Visibility, DecodeError> {
-        Ok(match self.below(2)? {
-            0 => Visibility::Pub,
+        Ok(match self.below(visibility::END)? {
+            visibility::PUB => Visibility::Pub,
             _ => Visibility::Priv,
         })
     }

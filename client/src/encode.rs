@@ -7,6 +7,8 @@ use crate::limits::{DEPTH_LIMIT, FIXED_NAMES, PAIR_LIMIT, RULE_LIMIT, TEXT_LIMIT
 use crate::tree::{
     Attribute, Declaration, EnumCase, Fields, Path, Root, Type, TypeParameter, Visibility,
 };
+use crate::words::head::{ENUM, STRUCT, TYPE, USE};
+use crate::words::{fields, flag, kind, root, visibility, FIRST_PAIR, NO_SIZE};
 use crate::{Encoding, Refusal};
 
 impl Encoding<'_> {
@@ -16,10 +18,12 @@ impl Encoding<'_> {
     /// Half a pair at the end of the table, which no file can hold, is left out.
     ///
     /// ```
+    /// use tillercoral::words::{head::USE, pair, root::GLOBAL, visibility::PRIV};
     /// use tillercoral::Encoding;
     ///
     /// // use ::mm;
-    /// let encoding = Encoding { words: &[28, 1, 0, 1, 16], pairs: &[0, 2], text: b"mm" };
+    /// let words = &[USE, PRIV, GLOBAL, 1, pair(0)];
+    /// let encoding = Encoding { words, pairs: &[0, 2], text: b"mm" };
     /// let file = encoding.to_file();
     /// assert_eq!(file[..12], [1, 0, 0, 0, 5, 0, 0, 0, 2, 0, 0, 0]);
     /// assert_eq!(file[12 + 2 * 4 + 5 * 4..], *b"mm");
@@ -42,6 +46,7 @@ impl Encoding<'_> {
 ///
 /// ```
 /// use tillercoral::tree::{Declaration, Field, Struct, Type};
+/// use tillercoral::words::{fields::NAMED, head::STRUCT, kind, pair, visibility::PUB};
 /// use tillercoral::{declaration_text, EncodingBuf};
 ///
 /// let declaration = Declaration::from(
@@ -50,7 +55,8 @@ impl Encoding<'_> {
 ///         .field(Field::public("millimetres", Type::U32)),
 /// );
 /// let encoding = EncodingBuf::from_declaration(&declaration)?;
-/// assert_eq!(encoding.words, [25, 17, 0, 16, 0, 0, 1, 0, 18, 2]);
+/// let front = [STRUCT, pair(1), 0, pair(0), 0, NAMED, 1];
+/// assert_eq!(encoding.words, [&front[..], &[PUB, pair(2), kind::U32]].concat());
 ///
 /// let mut buffer = [0; 128];
 /// let length = declaration_text(&encoding.as_encoding(), 0, &mut buffer)?;
@@ -217,7 +223,7 @@ impl Maker {
     /// No words yet, and the names of an encoding.
     fn with_names_of(encoding: &Encoding<'_>) -> Result<Maker, Refusal> {
         let mut maker = Maker::default();
-        for (number, name) in (FIXED_NAMES.len() as u32..).zip(pair_names(encoding)?) {
+        for (number, name) in (FIRST_PAIR..).zip(pair_names(encoding)?) {
             maker.numbers.entry(name.to_vec()).or_insert(number);
         }
         maker.made.pairs.extend(encoding.pairs);
@@ -245,7 +251,7 @@ impl Maker {
         if let Some(&number) = self.numbers.get(name) {
             return number;
         }
-        let number = (FIXED_NAMES.len() + self.made.pairs.len() / 2) as u32;
+        let number = FIRST_PAIR + (self.made.pairs.len() / 2) as u32;
         let offset = self.made.text.len() as u32;
         self.made.pairs.extend([offset, name.len() as u32]);
         self.made.text.extend(name);
@@ -268,9 +274,9 @@ impl Maker {
 
     fn put_path(&mut self, path: &Path) {
         self.put(match path.root {
-            Root::Global => 0,
-            Root::Crate => 1,
-            Root::SelfType => 2,
+            Root::Global => root::GLOBAL,
+            Root::Crate => root::CRATE,
+            Root::SelfType => root::SELF_TYPE,
         });
         self.put_count(&path.names);
         for name in &path.names {
@@ -304,7 +310,10 @@ impl Maker {
                 copy_semantics,
                 overflow,
                 ..
-            } => self.put(u32::from(*copy_semantics) + 2 * u32::from(*overflow)),
+            } => self.put(
+                flag::COPY_SEMANTICS * u32::from(*copy_semantics)
+                    + flag::OVERFLOW * u32::from(*overflow),
+            ),
             _ => {}
         }
     }
@@ -338,27 +347,27 @@ impl Maker {
     }
 
     fn put_size(&mut self, size: Option<&[u8]>) {
-        let word = size.map_or(0, |size| self.number(size) + 1);
+        let word = size.map_or(NO_SIZE, |size| self.number(size) + 1);
         self.put(word);
     }
 
     fn put_declaration(&mut self, tree: &Declaration) -> Result<(), Refusal> {
         match tree {
             Declaration::Struct(it) => {
-                self.put_front(25, &it.doc, &it.attributes, &it.name, &it.parameters)?;
+                self.put_front(STRUCT, &it.doc, &it.attributes, &it.name, &it.parameters)?;
                 self.put_fields(&it.fields)
             }
             Declaration::Enum(it) => {
-                self.put_front(26, &it.doc, &it.attributes, &it.name, &it.parameters)?;
+                self.put_front(ENUM, &it.doc, &it.attributes, &it.name, &it.parameters)?;
                 self.put_count(&it.cases);
                 it.cases.iter().try_for_each(|case| self.put_case(case))
             }
             Declaration::TypeSynonym(it) => {
-                self.put_front(27, &it.doc, &it.attributes, &it.name, &it.parameters)?;
+                self.put_front(TYPE, &it.doc, &it.attributes, &it.name, &it.parameters)?;
                 self.put_type(&it.target, 1)
             }
             Declaration::Use(it) => {
-                self.put(28);
+                self.put(USE);
                 self.put_visibility(it.visibility);
                 self.put_path(&it.path);
                 Ok(())
@@ -405,7 +414,7 @@ impl Maker {
     fn put_fields(&mut self, fields: &Fields) -> Result<(), Refusal> {
         match fields {
             Fields::Named(fields) => {
-                self.put(0);
+                self.put(fields::NAMED);
                 self.put_count(fields);
                 for field in fields {
                     self.put_visibility(field.visibility);
@@ -414,7 +423,7 @@ impl Maker {
                 }
             }
             Fields::Nameless(fields) => {
-                self.put(1);
+                self.put(fields::NAMELESS);
                 self.put_count(fields);
                 for field in fields {
                     self.put_visibility(field.visibility);
@@ -427,8 +436,8 @@ impl Maker {
 
     fn put_visibility(&mut self, visibility: Visibility) {
         self.put(match visibility {
-            Visibility::Pub => 0,
-            Visibility::Priv => 1,
+            Visibility::Pub => visibility::PUB,
+            Visibility::Priv => visibility::PRIV,
         });
     }
 }
@@ -436,31 +445,31 @@ impl Maker {
 /// The word that a type begins with.
 fn kind(tree: &Type) -> u32 {
     match tree {
-        Type::U8 => 0,
-        Type::U16 => 1,
-        Type::U32 => 2,
-        Type::U64 => 3,
-        Type::U128 => 4,
-        Type::I8 => 5,
-        Type::I16 => 6,
-        Type::I32 => 7,
-        Type::I64 => 8,
-        Type::I128 => 9,
-        Type::Usize => 10,
-        Type::Bool => 11,
-        Type::Identifier(_) => 12,
-        Type::FromPath(_) => 13,
-        Type::App { .. } => 14,
-        Type::Borrowed(_) => 15,
-        Type::BorrowedMut(_) => 16,
-        Type::Impl(_) => 17,
-        Type::Dyn(_) => 18,
-        Type::Tuple(_) => 19,
-        Type::Fn { .. } => 20,
-        Type::Intersection { .. } => 21,
-        Type::Array { .. } => 22,
-        Type::Synonym { .. } => 23,
-        Type::MetaData { .. } => 24,
+        Type::U8 => kind::U8,
+        Type::U16 => kind::U16,
+        Type::U32 => kind::U32,
+        Type::U64 => kind::U64,
+        Type::U128 => kind::U128,
+        Type::I8 => kind::I8,
+        Type::I16 => kind::I16,
+        Type::I32 => kind::I32,
+        Type::I64 => kind::I64,
+        Type::I128 => kind::I128,
+        Type::Usize => kind::USIZE,
+        Type::Bool => kind::BOOL,
+        Type::Identifier(_) => kind::IDENTIFIER,
+        Type::FromPath(_) => kind::FROM_PATH,
+        Type::App { .. } => kind::APP,
+        Type::Borrowed(_) => kind::BORROWED,
+        Type::BorrowedMut(_) => kind::BORROWED_MUT,
+        Type::Impl(_) => kind::IMPL,
+        Type::Dyn(_) => kind::DYN,
+        Type::Tuple(_) => kind::TUPLE,
+        Type::Fn { .. } => kind::FN,
+        Type::Intersection { .. } => kind::INTERSECTION,
+        Type::Array { .. } => kind::ARRAY,
+        Type::Synonym { .. } => kind::SYNONYM,
+        Type::MetaData { .. } => kind::META_DATA,
     }
 }
 
@@ -504,7 +513,7 @@ mod tests {
     fn equal_names_share_a_pair() {
         let path = Path::in_crate(["nmea", "std", "nmea", "", "Sentence"]);
         let made = EncodingBuf::from_path(&path).unwrap();
-        assert_eq!(made.words, [1, 5, 16, 1, 16, 0, 17]);
+        assert_eq!(made.words, [root::CRATE, 5, 16, 1, 16, 0, 17]);
         assert_eq!(made.pairs, [0, 4, 4, 8]);
         assert_eq!(made.text, b"nmeaSentence");
     }
@@ -512,7 +521,7 @@ mod tests {
     #[test]
     fn files() {
         let made = EncodingBuf {
-            words: vec![28, 1],
+            words: vec![USE, visibility::PRIV],
             pairs: vec![0, 2, 2],
             text: b"mm".to_vec(),
         };
@@ -522,7 +531,7 @@ mod tests {
             &[2, 0, 0, 0],
             &[0, 0, 0, 0],
             &[2, 0, 0, 0],
-            &[28, 0, 0, 0],
+            &USE.to_le_bytes(),
             &[1, 0, 0, 0],
             b"mm",
         ];
@@ -532,27 +541,30 @@ mod tests {
     #[test]
     fn limits() {
         let wrapped = |count| (0..count).fold(Type::U8, |tree, _| Type::borrowed(tree));
-        assert!(EncodingBuf::from_type(&wrapped(63)).is_ok());
-        assert_eq!(EncodingBuf::from_type(&wrapped(64)), Err(Refusal::TooDeep));
-        let tuple = |count| Type::Tuple(vec![Type::U8; count]);
-        assert!(EncodingBuf::from_type(&tuple(8_190)).is_ok());
+        assert!(EncodingBuf::from_type(&wrapped(DEPTH_LIMIT - 1)).is_ok());
         assert_eq!(
-            EncodingBuf::from_type(&tuple(8_191)),
+            EncodingBuf::from_type(&wrapped(DEPTH_LIMIT)),
+            Err(Refusal::TooDeep)
+        );
+        let tuple = |count| Type::Tuple(vec![Type::U8; count]);
+        assert!(EncodingBuf::from_type(&tuple(WORD_LIMIT - 2)).is_ok());
+        assert_eq!(
+            EncodingBuf::from_type(&tuple(WORD_LIMIT - 1)),
             Err(Refusal::Overlong)
         );
         let names = |count: usize| Path {
             root: Root::Global,
             names: (0..count).map(|i| format!("n{i}").into()).collect(),
         };
-        assert!(EncodingBuf::from_path(&names(1_024)).is_ok());
+        assert!(EncodingBuf::from_path(&names(PAIR_LIMIT)).is_ok());
         assert_eq!(
-            EncodingBuf::from_path(&names(1_025)),
+            EncodingBuf::from_path(&names(PAIR_LIMIT + 1)),
             Err(Refusal::Overlong)
         );
         let named = |length| Declaration::from(Struct::new(vec![b'n'; length]));
-        assert!(EncodingBuf::from_declaration(&named(16_384)).is_ok());
+        assert!(EncodingBuf::from_declaration(&named(TEXT_LIMIT)).is_ok());
         assert_eq!(
-            EncodingBuf::from_declaration(&named(16_385)),
+            EncodingBuf::from_declaration(&named(TEXT_LIMIT + 1)),
             Err(Refusal::Overlong)
         );
     }

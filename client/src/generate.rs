@@ -1,7 +1,9 @@
 //! Made-up encodings for the tests, the test vectors and the benchmark. Everything follows from
 //! the seed, so that a failure can be repeated.
 
-use crate::reference::{is_sound_name, is_sound_size, FIXED_NAMES};
+use crate::limits::FIXED_NAMES;
+use crate::reference::{is_sound_name, is_sound_size};
+use crate::words::{flag, head, kind, root, FIRST_PAIR, NO_SIZE};
 use crate::EncodingBuf;
 
 pub use declaration::{random_declaration, random_doc};
@@ -48,6 +50,30 @@ impl Random {
 
     pub fn pick<T: Copy>(&mut self, choices: &[T]) -> T {
         choices[self.below(choices.len())]
+    }
+
+    /// A kind, a head of a declaration, or the number after these. Most names and counts are as
+    /// small.
+    pub fn small_word(&mut self) -> u32 {
+        let heads = head::END + 1 - head::STRUCT;
+        match self.below((kind::END + heads) as usize) as u32 {
+            kind @ ..kind::END => kind,
+            other => head::STRUCT + (other - kind::END),
+        }
+    }
+
+    /// A kind that is a type by itself.
+    pub fn plain_kind(&mut self) -> u32 {
+        kind::U8 + self.below((kind::BOOL + 1 - kind::U8) as usize) as u32
+    }
+
+    /// A kind of types that have others inside.
+    fn outer_kind(&mut self) -> u32 {
+        kind::APP + self.below((kind::END - kind::APP) as usize) as u32
+    }
+
+    fn flags(&mut self) -> u32 {
+        self.below(flag::END as usize) as u32
     }
 }
 
@@ -179,7 +205,7 @@ impl Names {
 
     /// How many name numbers there are, the fixed ones included.
     pub fn count(&self) -> u32 {
-        (FIXED_NAMES.len() + self.pairs.len() / 2) as u32
+        FIRST_PAIR + (self.pairs.len() / 2) as u32
     }
 }
 
@@ -205,6 +231,14 @@ enum Place {
     NoIntersection,
     Named,
 }
+
+/// The kinds that are of use where a name is wanted.
+const NAMED_KINDS: [u32; 4] = [
+    kind::IDENTIFIER,
+    kind::FROM_PATH,
+    kind::SYNONYM,
+    kind::META_DATA,
+];
 
 /// Writes a random type.
 pub fn random_type(random: &mut Random, names: &Names, shape: Shape) -> EncodingBuf {
@@ -259,7 +293,7 @@ impl Writer<'_> {
 
     fn put_size(&mut self) {
         let size = if self.random.percent(40) {
-            0
+            NO_SIZE
         } else if self.careless() {
             1 + self.random.below(self.names.count() as usize) as u32
         } else {
@@ -269,9 +303,9 @@ impl Writer<'_> {
     }
 
     fn put_path(&mut self) {
-        let root = self.random.below(3) as u32;
+        let root = self.random.below(root::END as usize) as u32;
         let mut count = self.random.below(self.shape.children + 1);
-        if root == 0 && count == 0 && !self.careless() {
+        if root == root::GLOBAL && count == 0 && !self.careless() {
             count = 1;
         }
         self.words.extend([root, count as u32]);
@@ -282,17 +316,17 @@ impl Writer<'_> {
 
     fn put_leaf(&mut self, place: Place) {
         let head = match place {
-            Place::Named => 12 + self.random.below(2) as u32,
+            Place::Named => self.random.pick(&[kind::IDENTIFIER, kind::FROM_PATH]),
             _ => match self.random.below(4) {
-                0..=1 => self.random.below(12) as u32,
-                2 => 12,
-                _ => 13,
+                0..=1 => self.random.plain_kind(),
+                2 => kind::IDENTIFIER,
+                _ => kind::FROM_PATH,
             },
         };
         self.words.push(head);
         match head {
-            12 => self.put_name(),
-            13 => self.put_path(),
+            kind::IDENTIFIER => self.put_name(),
+            kind::FROM_PATH => self.put_path(),
             _ => {}
         }
     }
@@ -305,25 +339,27 @@ impl Writer<'_> {
             return self.put_leaf(if place_minded { place } else { Place::Free });
         }
         let head = match place {
-            Place::Named if place_minded => self.random.pick(&[12, 13, 23, 24]),
-            Place::NoIntersection if place_minded => match 14 + self.random.below(11) as u32 {
-                21 => 22,
+            Place::Named if place_minded => self.random.pick(&NAMED_KINDS),
+            Place::NoIntersection if place_minded => match self.random.outer_kind() {
+                kind::INTERSECTION => kind::ARRAY,
                 head => head,
             },
             // What is forbidden here is what to try if nobody minds.
-            Place::NoIntersection if self.random.percent(50) => 21,
-            _ => 14 + self.random.below(11) as u32,
+            Place::NoIntersection if self.random.percent(50) => kind::INTERSECTION,
+            _ => self.random.outer_kind(),
         };
         // A chain goes on downwards, if need be by wrappers.
         let head = match head {
-            12 | 13 if self.shape.chain => 23 + self.random.below(2) as u32,
+            kind::IDENTIFIER | kind::FROM_PATH if self.shape.chain => {
+                self.random.pick(&[kind::SYNONYM, kind::META_DATA])
+            }
             head => head,
         };
         self.words.push(head);
         match head {
-            12 => self.put_name(),
-            13 => self.put_path(),
-            14 => {
+            kind::IDENTIFIER => self.put_name(),
+            kind::FROM_PATH => self.put_path(),
+            kind::APP => {
                 let least = if self.careless() { 0 } else { 1 };
                 let count = self.count(least);
                 let mut depths = self.depths(depth, count + 1);
@@ -332,15 +368,15 @@ impl Writer<'_> {
                     self.put_child(&mut depths, Place::Free);
                 }
             }
-            15..=18 => self.put_type(depth - 1, Place::NoIntersection),
-            19 => {
+            kind::BORROWED..=kind::DYN => self.put_type(depth - 1, Place::NoIntersection),
+            kind::TUPLE => {
                 let count = self.count(if self.shape.chain { 1 } else { 0 });
                 let mut depths = self.depths(depth, count);
                 for _ in 0..count {
                     self.put_child(&mut depths, Place::Free);
                 }
             }
-            20 => {
+            kind::FN => {
                 let count = self.count(0);
                 let mut depths = self.depths(depth, count + 1);
                 for _ in 0..count {
@@ -348,16 +384,16 @@ impl Writer<'_> {
                 }
                 self.put_child(&mut depths, Place::NoIntersection);
             }
-            21 => {
+            kind::INTERSECTION => {
                 let mut depths = self.depths(depth, 2);
                 self.put_child(&mut depths, Place::NoIntersection);
                 self.put_child(&mut depths, Place::Free);
             }
-            22 => {
+            kind::ARRAY => {
                 self.put_size();
                 self.put_type(depth - 1, Place::Free);
             }
-            23 => {
+            kind::SYNONYM => {
                 let mut depths = self.depths(depth, 2);
                 self.put_child(&mut depths, place);
                 // Soundness does not look at bases, so they are made without care.
@@ -366,7 +402,7 @@ impl Writer<'_> {
                 self.shape.careless = care;
             }
             _ => {
-                let flags = self.random.below(4) as u32;
+                let flags = self.random.flags();
                 self.words.push(flags);
                 self.put_type(depth - 1, place);
             }
@@ -403,7 +439,7 @@ pub fn damage(random: &mut Random, sample: &mut EncodingBuf) {
         0..=3 => {
             if !sample.words.is_empty() {
                 let at = random.below(sample.words.len());
-                sample.words[at] = random.below(30) as u32;
+                sample.words[at] = random.small_word();
             }
         }
         4 => {
@@ -418,7 +454,7 @@ pub fn damage(random: &mut Random, sample: &mut EncodingBuf) {
         }
         6 => {
             for _ in 0..1 + random.below(3) {
-                let word = random.below(30) as u32;
+                let word = random.small_word();
                 sample.words.push(word);
             }
         }
@@ -430,7 +466,7 @@ pub fn damage(random: &mut Random, sample: &mut EncodingBuf) {
         }
         8 => {
             let at = random.below(sample.words.len() + 1);
-            let word = random.below(25) as u32;
+            let word = random.below(kind::END as usize) as u32;
             sample.words.insert(at, word);
         }
         _ => damage_names(random, sample),

@@ -63,6 +63,7 @@ mod shape;
 pub mod source;
 pub mod tree;
 mod visit;
+pub mod words;
 
 #[doc(hidden)]
 pub mod generate;
@@ -103,6 +104,7 @@ struct RepositoryReadmeExamples;
 ///
 /// Name numbers 0 to 15 are fixed (empty, `std`, `rc`, `Rc`, `sync`, `Arc`, `boxed`, `Box`, `mem`,
 /// `MaybeUninit`, `dafny_runtime`, `Object`, `Ptr`, `MaybePlacebo`, `_`, `self`); 16 + i is pair i.
+/// All words have names in [`words`].
 ///
 /// ```
 /// use tillercoral::tree::{Path, Type};
@@ -175,12 +177,15 @@ pub fn path_text(encoding: &Encoding<'_>, level: u32, out: &mut [u8]) -> Result<
 /// treated as in [`type_text`].
 ///
 /// ```
+/// use tillercoral::words::{fields::NAMED, head::STRUCT, kind::*, pair, visibility::*};
 /// use tillercoral::{declaration_text, Encoding};
 ///
-/// // 25: a struct; its doc, no attributes, its name, no parameters; two named fields:
-/// // `pub mm` of type 7, `i32`, and `id` of type 15 0, `&u8`
+/// // A struct: its doc, no attributes, its name, no parameters; two named fields: `pub mm` of type
+/// // `i32`, and `id` of type `&u8`
+/// let front = [STRUCT, pair(1), 0, pair(0), 0, NAMED, 2];
+/// let fields = [PUB, pair(2), I32, PRIV, pair(3), BORROWED, U8];
 /// let encoding = Encoding {
-///     words: &[25, 17, 0, 16, 0, 0, 2, 0, 18, 7, 1, 19, 15, 0],
+///     words: &[front, fields].concat(),
 ///     pairs: &[0, 5, 5, 13, 18, 2, 20, 2],
 ///     text: b"GaugeOffset in mm.mmid",
 /// };

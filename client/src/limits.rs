@@ -30,7 +30,11 @@ pub const LEVEL_LIMIT: u32 = 16;
 /// The most rules in a list.
 pub const RULE_LIMIT: usize = 32;
 
-/// The names with numbers 0 to 15. Number 16 + i is pair i.
+/// The longest text that the program `printdecl` prints. The newline after it is not counted.
+pub const PRINT_LIMIT: usize = 65_536;
+
+/// The names with numbers 0 to 15; [`words::name`](crate::words::name) has these by name. Number
+/// 16 + i is pair i.
 pub const FIXED_NAMES: [&str; 16] = [
     "",
     "std",

@@ -11,10 +11,11 @@ use crate::{DecodeError, Encoding, EncodingBuf, Part, Refusal, Shape};
 /// Why a tree gave no text.
 ///
 /// ```
+/// use tillercoral::limits::DEPTH_LIMIT;
 /// use tillercoral::tree::Type;
 /// use tillercoral::{Refusal, TextError};
 ///
-/// let deep = (0..64).fold(Type::U8, |inner, _| Type::borrowed(inner));
+/// let deep = (0..DEPTH_LIMIT).fold(Type::U8, |inner, _| Type::borrowed(inner));
 /// assert_eq!(deep.to_text(), Err(TextError::Refused(Refusal::TooDeep)));
 ///
 /// let name = Type::named(b"\xFF");

@@ -45,17 +45,19 @@ pub fn type_rebuild(
 /// words. All but the types stays as it is.
 ///
 /// ```
+/// use tillercoral::words::{fields::NAMELESS, head::STRUCT, kind::*, name, pair, visibility::PRIV};
 /// use tillercoral::{declaration_rebuild, Encoding};
 ///
 /// // pub struct Gauge(u8);
 /// let encoding = Encoding {
-///     words: &[25, 0, 0, 16, 0, 1, 1, 1, 0],
+///     words: &[STRUCT, name::EMPTY, 0, pair(0), 0, NAMELESS, 1, PRIV, U8],
 ///     pairs: &[0, 5],
 ///     text: b"Gauge",
 /// };
 /// let mut buffer = [0; 16];
-/// let length = declaration_rebuild(&encoding, &[1, 0, 15, 0], &mut buffer)?;
-/// assert_eq!(buffer[..length], [25, 0, 0, 16, 0, 1, 1, 1, 15, 0]);
+/// let length = declaration_rebuild(&encoding, &[1, U8, BORROWED, U8], &mut buffer)?;
+/// assert_eq!(buffer[..8], encoding.words[..8]);
+/// assert_eq!(buffer[8..length], [BORROWED, U8]);
 /// # Ok::<(), tillercoral::Refusal>(())
 /// ```
 pub fn declaration_rebuild(

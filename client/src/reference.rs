@@ -2,33 +2,9 @@
 //! with. It shares no code with the library and aims at being plainly right: words become an owned
 //! tree, the tree becomes text as the Dafny bodies say, and only then is the buffer looked at.
 
+use crate::limits::{DEPTH_LIMIT, FIXED_NAMES, LEVEL_LIMIT, PAIR_LIMIT, TEXT_LIMIT, WORD_LIMIT};
+use crate::words::{flag, kind, root, NO_SIZE};
 use crate::{Encoding, Refusal};
-
-pub const WORD_LIMIT: usize = 8_192;
-pub const PAIR_LIMIT: usize = 1_024;
-pub const TEXT_LIMIT: usize = 16_384;
-pub const DEPTH_LIMIT: usize = 64;
-pub const LEVEL_LIMIT: u32 = 16;
-
-/// The names with numbers 0 to 15.
-pub const FIXED_NAMES: [&str; 16] = [
-    "",
-    "std",
-    "rc",
-    "Rc",
-    "sync",
-    "Arc",
-    "boxed",
-    "Box",
-    "mem",
-    "MaybeUninit",
-    "dafny_runtime",
-    "Object",
-    "Ptr",
-    "MaybePlacebo",
-    "_",
-    "self",
-];
 
 /// Words that are no sound names: each stands for something else in a type's text.
 pub const RESERVED: [&str; 17] = [
@@ -178,16 +154,16 @@ impl Reader<'_> {
 
     fn size(&mut self) -> Result<Option<Name>, Refusal> {
         match self.word()? {
-            0 => Ok(None),
+            NO_SIZE => Ok(None),
             number => self.name_of(number - 1).map(Some),
         }
     }
 
     fn read_path(&mut self) -> Result<Path, Refusal> {
         let root = match self.word()? {
-            0 => Root::Global,
-            1 => Root::Crate,
-            2 => Root::SelfType,
+            root::GLOBAL => Root::Global,
+            root::CRATE => Root::Crate,
+            root::SELF_TYPE => Root::SelfType,
             _ => return Err(Refusal::UnknownWord),
         };
         let count = self.word()?;
@@ -218,64 +194,64 @@ impl Reader<'_> {
         }
         let below = depth + 1;
         Ok(match self.word()? {
-            0 => Type::U8,
-            1 => Type::U16,
-            2 => Type::U32,
-            3 => Type::U64,
-            4 => Type::U128,
-            5 => Type::I8,
-            6 => Type::I16,
-            7 => Type::I32,
-            8 => Type::I64,
-            9 => Type::I128,
-            10 => Type::Usize,
-            11 => Type::Bool,
-            12 => Type::Identifier(self.name()?),
-            13 => Type::FromPath(self.read_path()?),
-            14 => {
+            kind::U8 => Type::U8,
+            kind::U16 => Type::U16,
+            kind::U32 => Type::U32,
+            kind::U64 => Type::U64,
+            kind::U128 => Type::U128,
+            kind::I8 => Type::I8,
+            kind::I16 => Type::I16,
+            kind::I32 => Type::I32,
+            kind::I64 => Type::I64,
+            kind::I128 => Type::I128,
+            kind::USIZE => Type::Usize,
+            kind::BOOL => Type::Bool,
+            kind::IDENTIFIER => Type::Identifier(self.name()?),
+            kind::FROM_PATH => Type::FromPath(self.read_path()?),
+            kind::APP => {
                 let count = self.word()?;
                 let base = self.boxed(below)?;
                 let arguments = self.types(count, below)?;
                 Type::App { base, arguments }
             }
-            15 => Type::Borrowed(self.boxed(below)?),
-            16 => Type::BorrowedMut(self.boxed(below)?),
-            17 => Type::Impl(self.boxed(below)?),
-            18 => Type::Dyn(self.boxed(below)?),
-            19 => {
+            kind::BORROWED => Type::Borrowed(self.boxed(below)?),
+            kind::BORROWED_MUT => Type::BorrowedMut(self.boxed(below)?),
+            kind::IMPL => Type::Impl(self.boxed(below)?),
+            kind::DYN => Type::Dyn(self.boxed(below)?),
+            kind::TUPLE => {
                 let count = self.word()?;
                 Type::Tuple(self.types(count, below)?)
             }
-            20 => {
+            kind::FN => {
                 let count = self.word()?;
                 let arguments = self.types(count, below)?;
                 let result = self.boxed(below)?;
                 Type::Fn { arguments, result }
             }
-            21 => {
+            kind::INTERSECTION => {
                 let left = self.boxed(below)?;
                 let right = self.boxed(below)?;
                 Type::Intersection { left, right }
             }
-            22 => {
+            kind::ARRAY => {
                 let size = self.size()?;
                 let element = self.boxed(below)?;
                 Type::Array { element, size }
             }
-            23 => {
+            kind::SYNONYM => {
                 let display = self.boxed(below)?;
                 let base = self.boxed(below)?;
                 Type::Synonym { display, base }
             }
-            24 => {
+            kind::META_DATA => {
                 let flags = self.word()?;
-                if flags > 3 {
+                if flags > flag::ALL {
                     return Err(Refusal::UnknownWord);
                 }
                 Type::MetaData {
                     display: self.boxed(below)?,
-                    copy_semantics: flags & 1 != 0,
-                    overflow: flags & 2 != 0,
+                    copy_semantics: flags & flag::COPY_SEMANTICS != 0,
+                    overflow: flags & flag::OVERFLOW != 0,
                 }
             }
             _ => return Err(Refusal::UnknownWord),
@@ -542,7 +518,7 @@ mod tests {
     }
 
     fn borrows_then(count: usize, rest: &[u32]) -> Vec<u32> {
-        let mut words = vec![15; count];
+        let mut words = vec![kind::BORROWED; count];
         words.extend_from_slice(rest);
         words
     }
@@ -583,7 +559,7 @@ mod tests {
         let plain = [
             "u8", "u16", "u32", "u64", "u128", "i8", "i16", "i32", "i64", "i128", "usize", "bool",
         ];
-        for (head, text) in (0..).zip(plain) {
+        for (head, text) in (kind::U8..).zip(plain) {
             assert_eq!(text_of(&[head]).unwrap(), text);
             assert!(sound(&[head]));
         }
@@ -624,7 +600,7 @@ mod tests {
     fn soundness_of_places() {
         assert!(!sound(&[14, 1, 14, 1, 12, 16, 0, 0])); // a base that is an application
         assert!(!sound(&[14, 1, 0, 0])); // a plain base
-        for head in 15..=18 {
+        for head in kind::BORROWED..=kind::DYN {
             assert!(!sound(&[head, 21, 0, 1]));
             assert!(sound(&[head, 19, 1, 21, 0, 1]));
         }
@@ -666,17 +642,21 @@ mod tests {
     #[test]
     fn depth() {
         use Refusal::*;
-        assert_eq!(refusal_of(&borrows_then(63, &[0])), None);
-        assert_eq!(refusal_of(&borrows_then(64, &[0])), Some(TooDeep));
-        assert_eq!(refusal_of(&borrows_then(64, &[])), Some(TooDeep));
-        assert_eq!(refusal_of(&borrows_then(63, &[])), Some(EndsEarly));
-        assert_eq!(refusal_of(&borrows_then(63, &[14])), Some(EndsEarly));
-        assert_eq!(refusal_of(&borrows_then(63, &[14, 0])), Some(TooDeep));
-        assert_eq!(refusal_of(&borrows_then(63, &[24, 9])), Some(UnknownWord));
-        assert_eq!(refusal_of(&borrows_then(63, &[24, 3])), Some(TooDeep));
-        assert_eq!(refusal_of(&borrows_then(63, &[19, 0])), None);
-        assert_eq!(refusal_of(&borrows_then(63, &[19, 1])), Some(TooDeep));
-        assert_eq!(refusal_of(&borrows_then(64, &[99])), Some(TooDeep));
+        let inside = DEPTH_LIMIT - 1;
+        assert_eq!(refusal_of(&borrows_then(inside, &[0])), None);
+        assert_eq!(refusal_of(&borrows_then(inside + 1, &[0])), Some(TooDeep));
+        assert_eq!(refusal_of(&borrows_then(inside + 1, &[])), Some(TooDeep));
+        assert_eq!(refusal_of(&borrows_then(inside, &[])), Some(EndsEarly));
+        assert_eq!(refusal_of(&borrows_then(inside, &[14])), Some(EndsEarly));
+        assert_eq!(refusal_of(&borrows_then(inside, &[14, 0])), Some(TooDeep));
+        assert_eq!(
+            refusal_of(&borrows_then(inside, &[24, 9])),
+            Some(UnknownWord)
+        );
+        assert_eq!(refusal_of(&borrows_then(inside, &[24, 3])), Some(TooDeep));
+        assert_eq!(refusal_of(&borrows_then(inside, &[19, 0])), None);
+        assert_eq!(refusal_of(&borrows_then(inside, &[19, 1])), Some(TooDeep));
+        assert_eq!(refusal_of(&borrows_then(inside + 1, &[99])), Some(TooDeep));
     }
 
     #[test]
@@ -700,10 +680,11 @@ mod tests {
             })
             .err()
         };
-        assert_eq!(with_pairs(&vec![0; 2048]), None);
-        assert_eq!(with_pairs(&vec![0; 2049]), Some(Refusal::BadPair));
-        assert_eq!(with_pairs(&vec![0; 2050]), Some(Refusal::Overlong));
-        assert_eq!(with_pairs(&vec![0; 2051]), Some(Refusal::Overlong));
+        let most = 2 * PAIR_LIMIT;
+        assert_eq!(with_pairs(&vec![0; most]), None);
+        assert_eq!(with_pairs(&vec![0; most + 1]), Some(Refusal::BadPair));
+        assert_eq!(with_pairs(&vec![0; most + 2]), Some(Refusal::Overlong));
+        assert_eq!(with_pairs(&vec![0; most + 3]), Some(Refusal::Overlong));
         assert_eq!(with_pairs(&[10, 0, 10, 0]), None);
         assert_eq!(with_pairs(&[11, 0]), Some(Refusal::BadPair));
         assert_eq!(with_pairs(&[0, 11]), Some(Refusal::BadPair));
@@ -724,7 +705,7 @@ mod tests {
         assert_eq!(refusal_of(&[20, most]), Some(Refusal::EndsEarly));
         assert_eq!(refusal_of(&[13, 0, most, 1]), Some(Refusal::EndsEarly));
         assert_eq!(refusal_of(&[13, 0, most, 99]), Some(Refusal::UnknownWord));
-        let deep = borrows_then(63, &[19, most]);
+        let deep = borrows_then(DEPTH_LIMIT - 1, &[19, most]);
         assert_eq!(refusal_of(&deep), Some(Refusal::TooDeep));
     }
 
@@ -732,6 +713,7 @@ mod tests {
     fn order_of_refusals_and_the_buffer() {
         use Refusal::*;
         let too_many_words = vec![0; WORD_LIMIT + 1];
+        let level = LEVEL_LIMIT;
         let mut buffer = *b"....";
         let mut call = |words: &[u32], pairs: &[u32], level: u32, length: usize| {
             let encoding = Encoding {
@@ -743,19 +725,22 @@ mod tests {
             (answer, buffer)
         };
         assert_eq!(
-            call(&too_many_words, &[1], 17, 0),
+            call(&too_many_words, &[1], level + 1, 0),
             (Err(BadLevel), *b"....")
         );
         assert_eq!(
-            call(&too_many_words, &[1], 16, 0),
+            call(&too_many_words, &[1], level, 0),
             (Err(Overlong), *b"....")
         );
-        assert_eq!(call(&[], &[1], 16, 0), (Err(BadPair), *b"...."));
-        assert_eq!(call(&[], &[], 16, 0), (Err(EndsEarly), *b"...."));
-        assert_eq!(call(&[25], &[], 16, 0), (Err(UnknownWord), *b"...."));
-        assert_eq!(call(&[0, 0], &[], 16, 0), (Err(LeftOver), *b"...."));
-        assert_eq!(call(&[0], &[], 16, 1), (Err(BufferTooShort), *b"...."));
-        assert_eq!(call(&[0], &[], 16, 2), (Ok(2), *b"u8.."));
+        assert_eq!(call(&[], &[1], level, 0), (Err(BadPair), *b"...."));
+        assert_eq!(call(&[], &[], level, 0), (Err(EndsEarly), *b"...."));
+        assert_eq!(
+            call(&[kind::END], &[], level, 0),
+            (Err(UnknownWord), *b"....")
+        );
+        assert_eq!(call(&[0, 0], &[], level, 0), (Err(LeftOver), *b"...."));
+        assert_eq!(call(&[0], &[], level, 1), (Err(BufferTooShort), *b"...."));
+        assert_eq!(call(&[0], &[], level, 2), (Ok(2), *b"u8.."));
         assert_eq!(call(&[1], &[], 0, 4), (Ok(3), *b"u16."));
     }
 
@@ -767,10 +752,10 @@ mod tests {
                 .map(|length| String::from_utf8(buffer[..length].to_vec()).unwrap())
         };
         assert_eq!(text(&[0, 0], 0).unwrap(), "");
-        assert_eq!(text(&[1, 0], 16).unwrap(), "crate");
+        assert_eq!(text(&[1, 0], LEVEL_LIMIT).unwrap(), "crate");
         assert_eq!(text(&[0, 2, 10, 11], 3).unwrap(), "::dafny_runtime::Object");
         assert_eq!(text(&[2, 2, 16, 0], 3).unwrap(), "Self::Gauge::");
-        assert_eq!(text(&[0, 0], 17), Err(Refusal::BadLevel));
+        assert_eq!(text(&[0, 0], LEVEL_LIMIT + 1), Err(Refusal::BadLevel));
         assert_eq!(text(&[3, 0], 0), Err(Refusal::UnknownWord));
         assert_eq!(text(&[13, 0, 0], 0), Err(Refusal::UnknownWord));
         assert_eq!(text(&[], 0), Err(Refusal::EndsEarly));

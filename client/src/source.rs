@@ -68,11 +68,13 @@ impl std::error::Error for SourceError {}
 /// Reads a declaration.
 ///
 /// ```
+/// use tillercoral::words::{fields::NAMED, head::STRUCT, kind::I32, pair, visibility::PUB};
 /// use tillercoral::{source, EncodingBuf};
 ///
 /// let declaration = source::parse("struct Gauge\n  doc \"Offset in mm.\"\n  field pub mm: i32")?;
 /// let encoding = EncodingBuf::from_declaration(&declaration)?;
-/// assert_eq!(encoding.words, [25, 17, 0, 16, 0, 0, 1, 0, 18, 7]);
+/// let front = [STRUCT, pair(1), 0, pair(0), 0, NAMED, 1];
+/// assert_eq!(encoding.words, [&front[..], &[PUB, pair(2), I32]].concat());
 ///
 /// let error = source::parse("struct Gauge\n  field pub mm i32").unwrap_err();
 /// assert_eq!(error.to_string(), "line 2: expected `:`, found `i32`");
@@ -732,6 +734,7 @@ fn string(text: &str) -> Result<(Name, &str), Fault> {
 #[cfg(test)]
 mod tests {
     use super::*;
+    use crate::words::{fields::*, head::*, kind::*, name::*, pair, root::*, visibility::*};
     use crate::EncodingBuf;
 
     fn words_of_type(source: &str) -> Result<Vec<u32>, String> {
@@ -819,21 +822,22 @@ mod tests {
 
     #[test]
     fn every_declaration_can_be_written() {
+        const A: u32 = pair(0);
         for (source, wanted) in [
-            ("struct A", &[25, 0, 0, 16, 0, 0, 0][..]),
-            ("struct A\nnameless", &[25, 0, 0, 16, 0, 1, 0]),
-            ("struct A\nnameless u8\nnameless pub u16", &[25, 0, 0, 16, 0, 1, 2, 1, 0, 0, 1]),
-            ("struct A\nfield A: u8\nfield pub self: Self", &[25, 0, 0, 16, 0, 0, 2, 1, 16, 0, 0, 15, 13, 2, 0]),
-            ("struct A\nfield \"pub\": u8", &[25, 0, 0, 16, 0, 0, 1, 1, 17, 0]),
-            ("struct \"\"\ndoc \"self\"", &[25, 15, 0, 0, 0, 0, 0]),
-            ("struct A\nattribute A\nattribute A()\nattribute std(rc, Rc)", &[25, 0, 3, 16, 0, 16, 0, 1, 2, 2, 3, 16, 0, 0, 0]),
-            ("struct A\nparameter A\nparameter std: u8, u16 + u32", &[25, 0, 0, 16, 2, 16, 0, 1, 2, 0, 21, 1, 2, 0, 0]),
-            ("enum A", &[26, 0, 0, 16, 0, 0]),
-            ("enum A\ncase A\ndoc \"self\"\ncase std\nnameless u8\ncase rc\nnameless\ncase Rc\nfield A: u8", &[26, 0, 0, 16, 0, 4, 15, 16, 0, 0, 0, 1, 1, 1, 1, 0, 0, 2, 1, 0, 0, 3, 0, 1, 1, 16, 0]),
-            ("type A\nis u8", &[27, 0, 0, 16, 0, 0]),
-            ("use ::", &[28, 1, 0, 0]),
-            ("pub use ::std::rc::Rc", &[28, 0, 0, 3, 1, 2, 3]),
-            ("// first\n\n  use crate::std\n// last\n", &[28, 1, 1, 1, 1]),
+            ("struct A", &[STRUCT, EMPTY, 0, A, 0, NAMED, 0][..]),
+            ("struct A\nnameless", &[STRUCT, EMPTY, 0, A, 0, NAMELESS, 0]),
+            ("struct A\nnameless u8\nnameless pub u16", &[STRUCT, EMPTY, 0, A, 0, NAMELESS, 2, PRIV, U8, PUB, U16]),
+            ("struct A\nfield A: u8\nfield pub self: Self", &[STRUCT, EMPTY, 0, A, 0, NAMED, 2, PRIV, A, U8, PUB, SELF, FROM_PATH, SELF_TYPE, 0]),
+            ("struct A\nfield \"pub\": u8", &[STRUCT, EMPTY, 0, A, 0, NAMED, 1, PRIV, pair(1), U8]),
+            ("struct \"\"\ndoc \"self\"", &[STRUCT, SELF, 0, EMPTY, 0, NAMED, 0]),
+            ("struct A\nattribute A\nattribute A()\nattribute std(rc, Rc)", &[STRUCT, EMPTY, 3, A, 0, A, 0, STD, 2, RC_MODULE, RC, A, 0, NAMED, 0]),
+            ("struct A\nparameter A\nparameter std: u8, u16 + u32", &[STRUCT, EMPTY, 0, A, 2, A, 0, STD, 2, U8, INTERSECTION, U16, U32, NAMED, 0]),
+            ("enum A", &[ENUM, EMPTY, 0, A, 0, 0]),
+            ("enum A\ncase A\ndoc \"self\"\ncase std\nnameless u8\ncase rc\nnameless\ncase Rc\nfield A: u8", &[ENUM, EMPTY, 0, A, 0, 4, SELF, A, NAMED, 0, EMPTY, STD, NAMELESS, 1, PRIV, U8, EMPTY, RC_MODULE, NAMELESS, 0, EMPTY, RC, NAMED, 1, PRIV, A, U8]),
+            ("type A\nis u8", &[TYPE, EMPTY, 0, A, 0, U8]),
+            ("use ::", &[USE, PRIV, GLOBAL, 0]),
+            ("pub use ::std::rc::Rc", &[USE, PUB, GLOBAL, 3, STD, RC_MODULE, RC]),
+            ("// first\n\n  use crate::std\n// last\n", &[USE, PRIV, CRATE, 1, STD]),
         ] {
             assert_eq!(words(source), wanted, "{source}");
         }

@@ -5,6 +5,8 @@
 //! allocates. The second relies on the first for what the words are; where a bounds check remains,
 //! it is Rust's own.
 
+use crate::limits::{DEPTH_LIMIT, FIXED_NAMES, LEVEL_LIMIT, PAIR_LIMIT, TEXT_LIMIT, WORD_LIMIT};
+use crate::words::{flag, kind, root, FIRST_PAIR, NO_SIZE};
 use crate::{Encoding, Refusal};
 
 pub use declaration::declaration_text;
@@ -24,12 +26,9 @@ mod rebuild;
 mod sound;
 mod walks;
 
-const FIXED_COUNT: u32 = 16;
-const DEPTH_LIMIT: usize = 64;
-
 /// More children than words allow. A larger count ends in the same refusal, so it may be cut down
 /// to this, and then no sum below passes a u32: 8,192 names of 16,384 bytes stay far below.
-const MORE_THAN_WORDS: u32 = 8_193;
+const MORE_THAN_WORDS: u32 = WORD_LIMIT as u32 + 1;
 
 /// A short text, padded so that it can be copied whole, which takes one move instead of a call.
 struct Short<const N: usize> {
@@ -50,27 +49,18 @@ const fn short<const N: usize>(text: &[u8]) -> Short<N> {
     }
 }
 
-static FIXED: [Short<16>; FIXED_COUNT as usize] = [
-    short(b""),
-    short(b"std"),
-    short(b"rc"),
-    short(b"Rc"),
-    short(b"sync"),
-    short(b"Arc"),
-    short(b"boxed"),
-    short(b"Box"),
-    short(b"mem"),
-    short(b"MaybeUninit"),
-    short(b"dafny_runtime"),
-    short(b"Object"),
-    short(b"Ptr"),
-    short(b"MaybePlacebo"),
-    short(b"_"),
-    short(b"self"),
-];
+static FIXED: [Short<16>; FIXED_NAMES.len()] = {
+    let mut fixed = [const { short(b"") }; FIXED_NAMES.len()];
+    let mut number = 0;
+    while number < FIXED_NAMES.len() {
+        fixed[number] = short(FIXED_NAMES[number].as_bytes());
+        number += 1;
+    }
+    fixed
+};
 
-/// The texts of heads 0 to 11.
-static PLAIN: [Short<8>; 12] = [
+/// The texts of the kinds from `U8` to `BOOL`.
+static PLAIN: [Short<8>; kind::BOOL as usize + 1] = [
     short(b"u8"),
     short(b"u16"),
     short(b"u32"),
@@ -85,8 +75,8 @@ static PLAIN: [Short<8>; 12] = [
     short(b"bool"),
 ];
 
-/// What stands before the one child of heads 15 to 18.
-static PREFIX: [Short<8>; 4] = [
+/// What stands before the one child of the kinds from `BORROWED` to `DYN`.
+static PREFIX: [Short<8>; (kind::DYN - kind::BORROWED) as usize + 1] = [
     short(b"&"),
     short(b"&mut "),
     short(b"impl "),
@@ -132,10 +122,10 @@ pub fn path_text(encoding: &Encoding<'_>, level: u32, out: &mut [u8]) -> Result<
 
 fn check_tables(encoding: &Encoding<'_>, level: u32) -> Result<(), Refusal> {
     let Encoding { words, pairs, text } = *encoding;
-    if level > 16 {
+    if level > LEVEL_LIMIT {
         return Err(Refusal::BadLevel);
     }
-    if words.len() > 8_192 || pairs.len() / 2 > 1_024 || text.len() > 16_384 {
+    if words.len() > WORD_LIMIT || pairs.len() / 2 > PAIR_LIMIT || text.len() > TEXT_LIMIT {
         return Err(Refusal::Overlong);
     }
     check_pairs(pairs, text.len())
@@ -174,20 +164,20 @@ fn next(rest: &mut Words<'_>) -> Result<u32, Refusal> {
 }
 
 fn name_length(pairs: &[u32], number: u32) -> Result<u32, Refusal> {
-    if number < FIXED_COUNT {
+    if number < FIRST_PAIR {
         return Ok(u32::from(FIXED[number as usize].length));
     }
     // The index is below 2^33, and half a pair was refused before.
-    let length = 2 * (number - FIXED_COUNT) as usize + 1;
+    let length = 2 * (number - FIRST_PAIR) as usize + 1;
     pairs.get(length).copied().ok_or(Refusal::UnknownWord)
 }
 
 /// The length of the text of the path that the words begin with; its words are taken.
 fn measure_path(rest: &mut Words<'_>, pairs: &[u32]) -> Result<u32, Refusal> {
     let mut length = match next(rest)? {
-        0 => 0,
-        1 => 5,
-        2 => 4,
+        root::GLOBAL => 0,
+        root::CRATE => 5,
+        root::SELF_TYPE => 4,
         _ => return Err(Refusal::UnknownWord),
     };
     for _ in 0..next(rest)? {
@@ -229,51 +219,51 @@ fn measure(rest: &mut Words<'_>, pairs: &[u32], outer: &mut Outer) -> Result<usi
     loop {
         let head = next(rest)?;
         let children = match head {
-            0..=11 => {
+            kind::U8..=kind::BOOL => {
                 length += u32::from(PLAIN[head as usize].length);
                 0
             }
-            12 => {
+            kind::IDENTIFIER => {
                 length += name_length(pairs, next(rest)?)?;
                 0
             }
-            13 => {
+            kind::FROM_PATH => {
                 length += measure_path(rest, pairs)?;
                 0
             }
-            14 => {
+            kind::APP => {
                 let count = next(rest)?.min(MORE_THAN_WORDS);
                 length += 2 * count; // `<`, `>` and a separator between each two
                 count + 1
             }
-            15..=18 => {
-                length += u32::from(PREFIX[head as usize - 15].length);
+            kind::BORROWED..=kind::DYN => {
+                length += u32::from(PREFIX[(head - kind::BORROWED) as usize].length);
                 1
             }
-            19 => {
+            kind::TUPLE => {
                 let count = next(rest)?.min(MORE_THAN_WORDS);
                 length += 2 * count.max(1);
                 count
             }
-            20 => {
+            kind::FN => {
                 let count = next(rest)?.min(MORE_THAN_WORDS);
                 length += (FN_OPEN.len() + FN_CLOSE.len()) as u32 + 2 * count.saturating_sub(1);
                 count + 1
             }
-            21 => {
+            kind::INTERSECTION => {
                 length += 3;
                 2
             }
-            22 => {
+            kind::ARRAY => {
                 length += match next(rest)? {
-                    0 => 2,
+                    NO_SIZE => 2,
                     size => 4 + name_length(pairs, size - 1)?,
                 };
                 1
             }
-            23 => 2,
-            24 => {
-                if next(rest)? > 3 {
+            kind::SYNONYM => 2,
+            kind::META_DATA => {
+                if next(rest)? > flag::ALL {
                     return Err(Refusal::UnknownWord);
                 }
                 1
@@ -285,7 +275,7 @@ fn measure(rest: &mut Words<'_>, pairs: &[u32], outer: &mut Outer) -> Result<usi
             *outer.get_mut(depth).ok_or(Refusal::TooDeep)? = open;
             open = Open {
                 children_left: children,
-                length_without_base: if head == 23 { 0 } else { NO_SYNONYM },
+                length_without_base: if head == kind::SYNONYM { 0 } else { NO_SYNONYM },
             };
             continue;
         }
@@ -340,10 +330,10 @@ impl Writer<'_> {
 
     #[inline(always)]
     fn put_name(&mut self, end: usize, number: u32) -> usize {
-        if number < FIXED_COUNT {
+        if number < FIRST_PAIR {
             return self.put_short(end, &FIXED[number as usize]);
         }
-        let pair = 2 * (number - FIXED_COUNT) as usize;
+        let pair = 2 * (number - FIRST_PAIR) as usize;
         let (offset, length) = (self.pairs[pair] as usize, self.pairs[pair + 1] as usize);
         let text = self.text;
         self.put_front(end, &text[offset..], length)
@@ -375,9 +365,9 @@ impl Writer<'_> {
     #[inline(always)]
     fn put_item(&mut self, at: usize, end: usize) -> (usize, usize) {
         let head = self.words[at];
-        if head < 12 {
+        if head <= kind::BOOL {
             (at + 1, self.put_short(end, &PLAIN[head as usize]))
-        } else if head == 12 {
+        } else if head == kind::IDENTIFIER {
             (at + 2, self.put_name(end, self.words[at + 1]))
         } else {
             self.put_type(at, end)
@@ -386,8 +376,8 @@ impl Writer<'_> {
 
     fn put_path(&mut self, at: usize, mut end: usize) -> (usize, usize) {
         match self.words[at] {
-            0 => {}
-            1 => end = self.put(end, b"crate"),
+            root::GLOBAL => {}
+            root::CRATE => end = self.put(end, b"crate"),
             _ => end = self.put(end, b"Self"),
         }
         let names = at + 2..at + 2 + self.words[at + 1] as usize;
@@ -407,10 +397,10 @@ impl Writer<'_> {
             let head = self.words[at];
             at += 1;
             match head {
-                0..=11 => return (at, self.put_short(end, &PLAIN[head as usize])),
-                12 => return (at + 1, self.put_name(end, self.words[at])),
-                13 => return self.put_path(at, end),
-                14 => {
+                kind::U8..=kind::BOOL => return (at, self.put_short(end, &PLAIN[head as usize])),
+                kind::IDENTIFIER => return (at + 1, self.put_name(end, self.words[at])),
+                kind::FROM_PATH => return self.put_path(at, end),
+                kind::APP => {
                     let count = self.words[at];
                     (at, end) = self.put_type(at + 1, end);
                     if count > 0 {
@@ -420,38 +410,40 @@ impl Writer<'_> {
                     }
                     return (at, end);
                 }
-                15..=18 => end = self.put_short(end, &PREFIX[head as usize - 15]),
-                19 => {
+                kind::BORROWED..=kind::DYN => {
+                    end = self.put_short(end, &PREFIX[(head - kind::BORROWED) as usize]);
+                }
+                kind::TUPLE => {
                     let count = self.words[at];
                     end = self.put(end, b"(");
                     (at, end) = self.put_list(at + 1, end, count);
                     return (at, self.put(end, b")"));
                 }
-                20 => {
+                kind::FN => {
                     let count = self.words[at];
                     end = self.put(end, FN_OPEN);
                     (at, end) = self.put_list(at + 1, end, count);
                     end = self.put(end, FN_CLOSE);
                 }
-                21 => {
+                kind::INTERSECTION => {
                     (at, end) = self.put_type(at, end);
                     end = self.put(end, b" + ");
                 }
-                22 => {
+                kind::ARRAY => {
                     let size = self.words[at];
                     end = self.put(end, b"[");
                     (at, end) = self.put_type(at + 1, end);
-                    if size > 0 {
+                    if size != NO_SIZE {
                         end = self.put(end, b"; ");
                         end = self.put_name(end, size - 1);
                     }
                     return (at, self.put(end, b"]"));
                 }
-                23 => {
+                kind::SYNONYM => {
                     (at, end) = self.put_type(at, end);
                     return (skip_type(self.words, at), end);
                 }
-                _ => at += 1, // 24: the flags do not show
+                _ => at += 1, // metadata: the flags do not show
             }
         }
     }
@@ -462,33 +454,33 @@ fn skip_type(words: &[u32], mut at: usize) -> usize {
     let mut types_left = 1_u32;
     while types_left > 0 {
         match words[at] {
-            0..=11 => {
+            kind::U8..=kind::BOOL => {
                 at += 1;
                 types_left -= 1;
             }
-            12 => {
+            kind::IDENTIFIER => {
                 at += 2;
                 types_left -= 1;
             }
-            13 => {
+            kind::FROM_PATH => {
                 at += 3 + words[at + 2] as usize;
                 types_left -= 1;
             }
-            14 | 20 => {
+            kind::APP | kind::FN => {
                 types_left += words[at + 1];
                 at += 2;
             }
-            15..=18 => at += 1,
-            19 => {
+            kind::BORROWED..=kind::DYN => at += 1,
+            kind::TUPLE => {
                 types_left += words[at + 1];
                 types_left -= 1;
                 at += 2;
             }
-            21 | 23 => {
+            kind::INTERSECTION | kind::SYNONYM => {
                 types_left += 1;
                 at += 1;
             }
-            _ => at += 2, // 22, 24
+            _ => at += 2, // arrays and metadata
         }
     }
     at

@@ -25,10 +25,12 @@ pub fn type_visit(encoding: &Encoding<'_>, out: &mut [u32]) -> Result<usize, Ref
 /// of a struct are not visited, those of an enum are.
 ///
 /// ```
+/// use tillercoral::words::{head::TYPE, kind::*, name::*};
 /// use tillercoral::{declaration_visit, Encoding};
 ///
 /// // pub type std = &u8;
-/// let encoding = Encoding { words: &[27, 0, 0, 1, 0, 15, 0], pairs: &[], text: &[] };
+/// let words = &[TYPE, EMPTY, 0, STD, 0, BORROWED, U8];
+/// let encoding = Encoding { words, pairs: &[], text: &[] };
 /// let mut buffer = [0; 4];
 /// let count = declaration_visit(&encoding, &mut buffer)?;
 /// assert_eq!(buffer[..count], [5, 6]);

@@ -4,16 +4,25 @@
 mod common;
 
 use common::{buffer_lengths, check_text, gauge, pattern, shape, Tally};
+use tillercoral::cases::{GAUGE_NAME, ID, MM, OFFSET};
 use tillercoral::generate::{
     damage, damage_names, random_declaration, random_doc, Names, Random, Shape,
 };
+use tillercoral::limits::{
+    DEPTH_LIMIT, LEVEL_LIMIT, PAIR_LIMIT, PRINT_LIMIT, TEXT_LIMIT, WORD_LIMIT,
+};
+use tillercoral::words::{
+    fields::*, head, head::*, kind, kind::*, name::*, pair, root::*, visibility::*,
+};
 use tillercoral::{declaration_text, reference, tuned, Encoding, EncodingBuf, Refusal};
+
+const HEADS: usize = (head::END - STRUCT) as usize;
 
 /// How often each answer was met, and for how many declarations of each head.
 #[derive(Default, Debug)]
 struct DeclarationTally {
     answers: Tally,
-    heads: [usize; 4],
+    heads: [usize; HEADS],
 }
 
 impl DeclarationTally {
@@ -40,12 +49,12 @@ impl DeclarationTally {
 /// The call on one encoding, with buffers of many lengths.
 fn check(encoding: &Encoding<'_>, level: u32, tally: &mut DeclarationTally) {
     let wanted = match reference::read_declaration(encoding) {
-        _ if level > 16 => Err(Refusal::BadLevel),
+        _ if level > LEVEL_LIMIT => Err(Refusal::BadLevel),
         tree => tree.map(|tree| tree.reference_text(level)),
     };
     tally.answers.count_text(&wanted);
     if wanted.is_ok() {
-        tally.heads[encoding.words[0] as usize - 25] += 1;
+        tally.heads[(encoding.words[0] - STRUCT) as usize] += 1;
     }
     for length in buffer_lengths(&wanted) {
         check_text(
@@ -80,7 +89,9 @@ fn check(encoding: &Encoding<'_>, level: u32, tally: &mut DeclarationTally) {
 fn check_struct_doc(doc: &[u8], level: u32, tally: &mut DeclarationTally) {
     let names = Names::of(&[b"A", doc]);
     check(
-        &names.with_words(&[25, 17, 0, 16, 0, 1, 0]).as_encoding(),
+        &names
+            .with_words(&[STRUCT, pair(1), 0, pair(0), 0, NAMELESS, 0])
+            .as_encoding(),
         level,
         tally,
     );
@@ -91,7 +102,7 @@ fn check_case_doc(doc: &[u8], level: u32, tally: &mut DeclarationTally) {
     let names = Names::of(&[doc, b"A"]);
     check(
         &names
-            .with_words(&[26, 0, 0, 17, 0, 1, 16, 17, 1, 0])
+            .with_words(&[ENUM, EMPTY, 0, pair(1), 0, 1, pair(0), pair(1), NAMELESS, 0])
             .as_encoding(),
         level,
         tally,
@@ -106,7 +117,11 @@ fn random_declarations() {
         let names = Names::random_with_docs(random, 12);
         let shape = shape(round, random);
         let sample = random_declaration(random, &names, shape);
-        check(&sample.as_encoding(), random.below(18) as u32, &mut tally);
+        check(
+            &sample.as_encoding(),
+            random.below(LEVEL_LIMIT as usize + 2) as u32,
+            &mut tally,
+        );
     }
     tally.assert_met(&[Refusal::TooDeep, Refusal::BadLevel], 500);
     assert!(tally.texts() > 15_000);
@@ -123,7 +138,11 @@ fn damaged_declarations() {
         for _ in 0..1 + random.below(2) {
             damage(random, &mut sample);
         }
-        check(&sample.as_encoding(), random.below(17) as u32, &mut tally);
+        check(
+            &sample.as_encoding(),
+            random.below(LEVEL_LIMIT as usize + 1) as u32,
+            &mut tally,
+        );
     }
     use Refusal::*;
     tally.assert_met(&[BadPair, EndsEarly, UnknownWord, TooDeep, LeftOver], 500);
@@ -161,7 +180,7 @@ fn truncated_declarations() {
             check(&part, 0, &mut tally);
         }
         check(&sample.as_encoding(), 0, &mut tally);
-        for word in [0, 12, 25, u32::MAX] {
+        for word in [U8, IDENTIFIER, kind::END, u32::MAX] {
             let mut longer = sample.clone();
             longer.words.push(word);
             check(&longer.as_encoding(), 0, &mut tally);
@@ -181,7 +200,7 @@ fn huge_words() {
         let shape = shape(round % 8, random);
         let sample = random_declaration(random, &names, shape);
         for at in 0..sample.words.len() {
-            for word in [8_192, 1 << 31, u32::MAX - 16, u32::MAX] {
+            for word in [WORD_LIMIT as u32, 1 << 31, u32::MAX - 16, u32::MAX] {
                 let mut huge = sample.clone();
                 huge.words[at] = word;
                 check(&huge.as_encoding(), 0, &mut tally);
@@ -212,7 +231,7 @@ fn each_run(front: &[u32], words: &[u32], most: u32, mut visit: impl FnMut(&[u32
 #[test]
 fn all_short_encodings() {
     let mut tally = DeclarationTally::default();
-    for head in 24..=29 {
+    for head in STRUCT - 1..=head::END {
         each_run(&[head], &[0, 1, 2, 12, 16, 21], 6, |words| {
             check(&gauge(words), 0, &mut tally);
         });
@@ -228,8 +247,9 @@ fn all_short_field_types() {
     // 18 is a head as well as the name `_`, and 21 as well as `__`.
     let names = Names::of(&[b"A", b"self", b"_", b"sel", b"selfs", b"__"]);
     let heads = [0, 2, 12, 13, 14, 15, 16, 18, 21, 23, 24];
-    for name in [15, 16, 17, 19, 20] {
-        each_run(&[25, 0, 0, 16, 0, 0, 1, 1, name], &heads, 5, |words| {
+    for name in [SELF, pair(0), pair(1), pair(3), pair(4)] {
+        let front = [STRUCT, EMPTY, 0, pair(0), 0, NAMED, 1, PRIV, name];
+        each_run(&front, &heads, 5, |words| {
             let encoding = Encoding {
                 words,
                 pairs: &names.pairs,
@@ -267,7 +287,7 @@ fn random_docs() {
     let random = &mut Random::new(56);
     let mut tally = DeclarationTally::default();
     for round in 0..60_000 {
-        let level = [0, 1, 3, 16][round % 4];
+        let level = [0, 1, 3, LEVEL_LIMIT][round % 4];
         let doc: Vec<u8> = if round % 3 == 0 {
             (0..random.below(30))
                 .map(|_| random.pick(b"` \nrsx\t\r"))
@@ -292,16 +312,16 @@ fn long_docs() {
     let mut tally = DeclarationTally::default();
     let mut docs: Vec<Vec<u8>> = [b'\n', b' ', b'`', b'x']
         .iter()
-        .map(|&byte| vec![byte; 16_383])
+        .map(|&byte| vec![byte; TEXT_LIMIT - 1])
         .collect();
     for _ in 0..8 {
         let mut doc = random_doc(random, 12_000);
-        doc.truncate(16_383);
+        doc.truncate(TEXT_LIMIT - 1);
         docs.push(doc);
     }
     let lines = [b"    x\n".repeat(2_700), b"```\n".repeat(4_000)];
     for doc in docs.iter().chain(&lines) {
-        for level in [0, 16] {
+        for level in [0, LEVEL_LIMIT] {
             check_struct_doc(doc, level, &mut tally);
             check_case_doc(doc, level, &mut tally);
         }
@@ -313,14 +333,22 @@ fn long_docs() {
 fn levels() {
     let mut tally = DeclarationTally::default();
     let declarations: [&[u32]; 6] = [
-        &[25, 17, 1, 16, 1, 18, 16, 0, 0, 2, 0, 18, 7, 1, 19, 15, 0],
-        &[25, 17, 0, 16, 0, 1, 2, 0, 0, 1, 1],
         &[
-            26, 17, 1, 16, 0, 16, 0, 2, 17, 18, 0, 1, 1, 19, 0, 17, 19, 1, 2, 0, 0, 1, 1,
+            STRUCT, OFFSET, 1, GAUGE_NAME, 1, MM, GAUGE_NAME, 0, NAMED, 2, PUB, MM, I32, PRIV, ID,
+            BORROWED, U8,
         ],
-        &[27, 17, 1, 16, 0, 16, 1, 18, 1, 11, 0],
-        &[28, 0, 1, 1, 16],
-        &[29],
+        &[
+            STRUCT, OFFSET, 0, GAUGE_NAME, 0, NAMELESS, 2, PUB, U8, PRIV, U16,
+        ],
+        &[
+            ENUM, OFFSET, 1, GAUGE_NAME, 0, GAUGE_NAME, 0, 2, OFFSET, MM, NAMED, 1, PRIV, ID, U8,
+            OFFSET, ID, NAMELESS, 2, PUB, U8, PRIV, U16,
+        ],
+        &[
+            TYPE, OFFSET, 1, GAUGE_NAME, 0, GAUGE_NAME, 1, MM, 1, BOOL, U8,
+        ],
+        &[USE, PUB, CRATE, 1, GAUGE_NAME],
+        &[head::END],
     ];
     for level in (0..=40).chain([255, 256, 1 << 31, u32::MAX - 1, u32::MAX]) {
         for words in declarations {
@@ -328,8 +356,9 @@ fn levels() {
         }
     }
     println!("{tally:?}");
-    assert_eq!(tally.texts(), 5 * 17);
-    assert_eq!(tally.heads, [2 * 17, 17, 17, 17]);
+    let levels = LEVEL_LIMIT as usize + 1;
+    assert_eq!(tally.texts(), 5 * levels);
+    assert_eq!(tally.heads, [2 * levels, levels, levels, levels]);
     assert_eq!(tally.refused(Refusal::BadLevel), 6 * 29);
 }
 
@@ -337,14 +366,50 @@ fn levels() {
 fn declarations_of_length(length: usize) -> Vec<Vec<u32>> {
     // What stands before the list, with its count last; an item; what stands after the list.
     let lists: [(&[u32], &[u32], &[u32]); 8] = [
-        (&[25, 0, 0, 16, 0, 0, 0], &[0, 18, 7], &[]), // fields
-        (&[25, 0, 0, 16, 0, 1, 0], &[1, 0], &[]),     // nameless fields
-        (&[25, 17, 0], &[16, 1, 18], &[16, 0, 0, 0]), // attributes
-        (&[25, 17, 1, 16, 0], &[18], &[16, 0, 0, 0]), // arguments of an attribute
-        (&[26, 0, 0, 16, 0, 0], &[0, 18, 0, 0], &[]), // cases
-        (&[27, 17, 0, 16, 0], &[18, 2, 0, 1], &[11]), // parameters
-        (&[27, 17, 0, 16, 1, 18, 0], &[12, 18], &[12, 16]), // constraints
-        (&[28, 0, 1, 0], &[18], &[]),                 // names of a path
+        // fields
+        (
+            &[STRUCT, EMPTY, 0, GAUGE_NAME, 0, NAMED, 0],
+            &[PUB, MM, I32],
+            &[],
+        ),
+        // nameless fields
+        (
+            &[STRUCT, EMPTY, 0, GAUGE_NAME, 0, NAMELESS, 0],
+            &[PRIV, U8],
+            &[],
+        ),
+        // attributes
+        (
+            &[STRUCT, OFFSET, 0],
+            &[GAUGE_NAME, 1, MM],
+            &[GAUGE_NAME, 0, NAMED, 0],
+        ),
+        // arguments of an attribute
+        (
+            &[STRUCT, OFFSET, 1, GAUGE_NAME, 0],
+            &[MM],
+            &[GAUGE_NAME, 0, NAMED, 0],
+        ),
+        // cases
+        (
+            &[ENUM, EMPTY, 0, GAUGE_NAME, 0, 0],
+            &[EMPTY, MM, NAMED, 0],
+            &[],
+        ),
+        // parameters
+        (
+            &[TYPE, OFFSET, 0, GAUGE_NAME, 0],
+            &[MM, 2, U8, U16],
+            &[BOOL],
+        ),
+        // constraints
+        (
+            &[TYPE, OFFSET, 0, GAUGE_NAME, 1, MM, 0],
+            &[IDENTIFIER, MM],
+            &[IDENTIFIER, GAUGE_NAME],
+        ),
+        // names of a path
+        (&[USE, PUB, CRATE, 0], &[MM], &[]),
     ];
     lists
         .into_iter()
@@ -360,9 +425,8 @@ fn declarations_of_length(length: usize) -> Vec<Vec<u32>> {
 #[test]
 fn limit_of_words() {
     let mut tally = DeclarationTally::default();
-    for length in [
-        8_188, 8_189, 8_190, 8_191, 8_192, 8_193, 8_194, 8_200, 20_000,
-    ] {
+    let most = WORD_LIMIT;
+    for length in (most - 4..=most + 2).chain([most + 8, 20_000]) {
         for mut words in declarations_of_length(length) {
             check(&gauge(&words), 2, &mut tally);
             words.push(0);
@@ -378,20 +442,22 @@ fn limit_of_words() {
 #[test]
 fn limit_of_pairs() {
     let mut tally = DeclarationTally::default();
-    for length in [0, 2, 2_046, 2_047, 2_048, 2_049, 2_050, 2_051, 5_000] {
+    let most = 2 * PAIR_LIMIT as u32;
+    for length in [0, 2].into_iter().chain(most - 2..=most + 3).chain([5_000]) {
         // Each pair one byte, in order; the text has 2,600 bytes, room for all of them.
         let pairs: Vec<u32> = (0..length)
             .map(|i| if i % 2 == 0 { i / 2 } else { 1 })
             .collect();
-        let last = 15 + length / 2;
+        let last = pair(length / 2) - 1;
         for words in [
             &[
-                25, last, 1, last, 1, last, last, 1, last, 0, 0, 1, 1, last, 12, last,
+                STRUCT, last, 1, last, 1, last, last, 1, last, 0, NAMED, 1, PRIV, last, IDENTIFIER,
+                last,
             ][..],
-            &[25, last + 1, 0, 0, 0, 0, 0],
-            &[25, 0, 0, last + 1, 0, 0, 0],
-            &[28, 1, 0, 1, last],
-            &[28, 1, 0, 1, last + 1],
+            &[STRUCT, last + 1, 0, EMPTY, 0, NAMED, 0],
+            &[STRUCT, EMPTY, 0, last + 1, 0, NAMED, 0],
+            &[USE, PRIV, GLOBAL, 1, last],
+            &[USE, PRIV, GLOBAL, 1, last + 1],
         ] {
             let encoding = Encoding {
                 words,
@@ -409,8 +475,9 @@ fn limit_of_pairs() {
 
 #[test]
 fn limit_of_text() {
+    let name = pair(0);
     let mut tally = DeclarationTally::default();
-    for length in [16_383, 16_384, 16_385, 40_000] {
+    for length in [TEXT_LIMIT - 1, TEXT_LIMIT, TEXT_LIMIT + 1, 40_000] {
         let text = pattern(length);
         for pair in [
             [0, length as u32],
@@ -420,11 +487,13 @@ fn limit_of_text() {
             [length as u32 + 1, 0],
         ] {
             let encoding = Encoding {
-                words: &[26, 16, 0, 16, 0, 1, 16, 16, 0, 1, 0, 16, 12, 16],
+                words: &[
+                    ENUM, name, 0, name, 0, 1, name, name, NAMED, 1, PUB, name, IDENTIFIER, name,
+                ],
                 pairs: &pair,
                 text: &text,
             };
-            check(&encoding, 16, &mut tally);
+            check(&encoding, LEVEL_LIMIT, &mut tally);
         }
     }
     assert_eq!(tally.texts(), 2 * 3);
@@ -437,12 +506,31 @@ fn limit_of_text() {
 fn depth() {
     let mut tally = DeclarationTally::default();
     let places: [(&[u32], &[u32]); 6] = [
-        (&[25, 0, 0, 16, 1, 16, 1], &[0, 0]),
-        (&[25, 0, 0, 16, 0, 0, 2, 0, 18], &[1, 15, 13, 2, 0]),
-        (&[25, 0, 0, 16, 0, 1, 2, 1, 0, 0], &[]),
-        (&[26, 0, 0, 16, 0, 1, 0, 16, 1, 1, 0], &[]),
-        (&[26, 0, 0, 16, 0, 2, 0, 16, 0, 1, 0, 15], &[0, 16, 1, 0]),
-        (&[27, 0, 0, 16, 0], &[]),
+        (
+            &[STRUCT, EMPTY, 0, GAUGE_NAME, 1, GAUGE_NAME, 1],
+            &[NAMED, 0],
+        ),
+        (
+            &[STRUCT, EMPTY, 0, GAUGE_NAME, 0, NAMED, 2, PUB, MM],
+            &[PRIV, SELF, FROM_PATH, SELF_TYPE, 0],
+        ),
+        (
+            &[STRUCT, EMPTY, 0, GAUGE_NAME, 0, NAMELESS, 2, PRIV, U8, PUB],
+            &[],
+        ),
+        (
+            &[
+                ENUM, EMPTY, 0, GAUGE_NAME, 0, 1, EMPTY, GAUGE_NAME, NAMELESS, 1, PUB,
+            ],
+            &[],
+        ),
+        (
+            &[
+                ENUM, EMPTY, 0, GAUGE_NAME, 0, 2, EMPTY, GAUGE_NAME, NAMED, 1, PUB, SELF,
+            ],
+            &[EMPTY, GAUGE_NAME, NAMELESS, 0],
+        ),
+        (&[TYPE, EMPTY, 0, GAUGE_NAME, 0], &[]),
     ];
     let steps: [(&[u32], &[u32]); 6] = [
         (&[15], &[]),
@@ -464,7 +552,7 @@ fn depth() {
     ];
     for (front, end) in places {
         for (before, after) in steps {
-            for count in 61..=66 {
+            for count in DEPTH_LIMIT - 3..=DEPTH_LIMIT + 2 {
                 for inner in inner {
                     let words = [
                         front,
@@ -498,7 +586,11 @@ fn large_random_declarations() {
             careless: [0, 100, 10][round % 3],
         };
         let mut sample = random_declaration(random, &names, shape);
-        check(&sample.as_encoding(), random.below(17) as u32, &mut tally);
+        check(
+            &sample.as_encoding(),
+            random.below(LEVEL_LIMIT as usize + 1) as u32,
+            &mut tally,
+        );
         damage(random, &mut sample);
         check(&sample.as_encoding(), 0, &mut tally);
     }
@@ -511,16 +603,23 @@ fn large_random_declarations() {
 fn long_texts() {
     let mut tally = DeclarationTally::default();
     let names = Names::of(&[&pattern(16_000), b"A"]);
-    let mut fields = vec![25, 16, 1, 16, 1, 16, 17, 1, 16, 1, 12, 16, 0, 20];
+    let (long, short) = (pair(0), pair(1));
+    let mut fields = vec![
+        STRUCT, long, 1, long, 1, long, short, 1, long, 1, IDENTIFIER, long, NAMED, 20,
+    ];
     for _ in 0..20 {
-        fields.extend([1, 16, 12, 16]);
+        fields.extend([PRIV, long, IDENTIFIER, long]);
     }
     check(&names.with_words(&fields).as_encoding(), 3, &mut tally);
-    let mut cases = vec![26, 0, 0, 17, 0, 12];
+    let mut cases = vec![ENUM, EMPTY, 0, short, 0, 12];
     for _ in 0..12 {
-        cases.extend([16, 16, 1, 1, 0, 12, 16]);
+        cases.extend([long, long, NAMELESS, 1, PUB, IDENTIFIER, long]);
     }
-    check(&names.with_words(&cases).as_encoding(), 16, &mut tally);
+    check(
+        &names.with_words(&cases).as_encoding(),
+        LEVEL_LIMIT,
+        &mut tally,
+    );
     assert_eq!(tally.texts(), 2);
 }
 
@@ -528,28 +627,28 @@ fn long_texts() {
 /// too short is to be said, and without the text being made.
 #[test]
 fn a_text_beyond_31_bits() {
-    let text = [b'\n'; 16_384];
-    let mut words = vec![26, 0, 0, 0, 0, 2_000];
+    let text = [b'\n'; TEXT_LIMIT];
+    let mut words = vec![ENUM, EMPTY, 0, EMPTY, 0, 2_000];
     for _ in 0..2_000 {
-        words.extend([16, 0, 1, 0]);
+        words.extend([pair(0), EMPTY, NAMELESS, 0]);
     }
     let encoding = Encoding {
         words: &words,
-        pairs: &[0, 16_384],
+        pairs: &[0, TEXT_LIMIT as u32],
         text: &text,
     };
     // `pub enum  {`, and for each case a newline, an indent, a comment, `()` and a comma; a comment
     // has one line more than newlines, and ends with a newline and an indent.
-    let comment = 16_385 * (4 + 1 + 68);
+    let comment = (TEXT_LIMIT as u64 + 1) * (4 + 1 + 68);
     let length: u64 = 11 + 2_000 * (1 + 68 + comment + 2 + 1) - 1 + 1 + 64 + 1;
     assert!(length > 1 << 31);
-    for length in [0, 1, 65_536, 1 << 20] {
+    for length in [0, 1, PRINT_LIMIT, 1 << 20] {
         for (what, call) in [
             ("tuned", tuned::declaration_text as common::TextCall),
             ("library", declaration_text),
         ] {
             let wanted = Err(Refusal::BufferTooShort);
-            check_text(what, call, &encoding, 16, length, &wanted);
+            check_text(what, call, &encoding, LEVEL_LIMIT, length, &wanted);
         }
     }
 }
@@ -559,27 +658,27 @@ fn a_text_beyond_31_bits() {
 fn order_of_refusals() {
     let mut tally = DeclarationTally::default();
     let overlong = EncodingBuf {
-        words: vec![99; 8_193],
+        words: vec![99; WORD_LIMIT + 1],
         pairs: vec![9],
         text: vec![],
     };
-    check(&overlong.as_encoding(), 17, &mut tally);
+    check(&overlong.as_encoding(), LEVEL_LIMIT + 1, &mut tally);
     assert_eq!(tally.refused(Refusal::BadLevel), 1);
-    check(&overlong.as_encoding(), 16, &mut tally);
+    check(&overlong.as_encoding(), LEVEL_LIMIT, &mut tally);
     assert_eq!(tally.refused(Refusal::Overlong), 1);
     let bad_pair = EncodingBuf {
         words: vec![99],
         ..overlong
     };
-    check(&bad_pair.as_encoding(), 16, &mut tally);
+    check(&bad_pair.as_encoding(), LEVEL_LIMIT, &mut tally);
     assert_eq!(tally.refused(Refusal::BadPair), 1);
     check(&gauge(&[]), 0, &mut tally);
     assert_eq!(tally.refused(Refusal::EndsEarly), 1);
-    check(&gauge(&[28, 2]), 0, &mut tally);
+    check(&gauge(&[USE, 2]), 0, &mut tally);
     assert_eq!(tally.refused(Refusal::UnknownWord), 1);
-    check(&gauge(&[28, 0, 0, 0, 0]), 0, &mut tally);
+    check(&gauge(&[USE, PUB, GLOBAL, 0, 0]), 0, &mut tally);
     assert_eq!(tally.refused(Refusal::LeftOver), 1);
-    let deep = [&[27, 0, 0, 16, 0][..], &[15; 64]].concat();
+    let deep = [&[TYPE, EMPTY, 0, pair(0), 0][..], &[BORROWED; DEPTH_LIMIT]].concat();
     check(&gauge(&deep), 0, &mut tally);
     assert_eq!(tally.refused(Refusal::TooDeep), 1);
 }

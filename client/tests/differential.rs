@@ -8,6 +8,8 @@ use std::collections::HashMap;
 
 use common::{bare, buffer_lengths, check_text, gauge, pattern, shape, Tally};
 use tillercoral::generate::{damage, damage_names, random_path, random_type, Names, Random, Shape};
+use tillercoral::limits::{DEPTH_LIMIT, LEVEL_LIMIT, PAIR_LIMIT, TEXT_LIMIT, WORD_LIMIT};
+use tillercoral::words::{kind, kind::*, name, pair, root};
 use tillercoral::{
     path_text, reference, tuned, type_is_sound, type_text, Encoding, EncodingBuf, Refusal,
 };
@@ -16,7 +18,7 @@ use tillercoral::{
 fn check_type(encoding: &Encoding<'_>, level: u32, tally: &mut Tally) {
     let tree = reference::read_type(encoding);
     let wanted = match &tree {
-        _ if level > 16 => Err(Refusal::BadLevel),
+        _ if level > LEVEL_LIMIT => Err(Refusal::BadLevel),
         Ok(tree) => Ok(tree.reference_text()),
         Err(refusal) => Err(*refusal),
     };
@@ -53,7 +55,7 @@ fn check_sound(encoding: &Encoding<'_>, wanted: Result<bool, Refusal>) {
 /// The call for a path on one encoding, with buffers of many lengths.
 fn check_path(encoding: &Encoding<'_>, level: u32, tally: &mut Tally) {
     let wanted = match reference::read_path(encoding) {
-        _ if level > 16 => Err(Refusal::BadLevel),
+        _ if level > LEVEL_LIMIT => Err(Refusal::BadLevel),
         path => path.map(|path| path.reference_text()),
     };
     tally.count_text(&wanted);
@@ -81,7 +83,11 @@ fn random_types() {
         let names = Names::random(random, 12);
         let shape = shape(round, random);
         let sample = random_type(random, &names, shape);
-        check_type(&sample.as_encoding(), random.below(17) as u32, &mut tally);
+        check_type(
+            &sample.as_encoding(),
+            random.below(LEVEL_LIMIT as usize + 1) as u32,
+            &mut tally,
+        );
     }
     println!("{tally:?}");
     assert!(tally.texts > 40_000);
@@ -143,7 +149,7 @@ fn truncated_types() {
             };
             check_type(&part, 0, &mut tally);
         }
-        for word in [0, 12, 25, u32::MAX] {
+        for word in [U8, IDENTIFIER, kind::END, u32::MAX] {
             let mut longer = sample.clone();
             longer.words.push(word);
             check_type(&longer.as_encoding(), 0, &mut tally);
@@ -157,7 +163,7 @@ fn truncated_types() {
 /// All runs of up to four words that could mean something, as a type and as a path.
 #[test]
 fn all_short_encodings() {
-    const WORDS: u32 = 27; // heads run to 24, names to 19, sizes to 20
+    const WORDS: u32 = kind::END + 2; // heads run to 24, names to 19, sizes to 20
     let mut tally = Tally::default();
     for length in 0..=4 {
         for number in 0..WORDS.pow(length) {
@@ -169,7 +175,7 @@ fn all_short_encodings() {
             }
             let encoding = gauge(&words[..length as usize]);
             check_type(&encoding, 0, &mut tally);
-            if words[0] < 4 {
+            if words[0] <= root::END {
                 check_path(&encoding, 0, &mut tally);
             }
         }
@@ -200,7 +206,7 @@ fn paths() {
             }
             _ => {}
         }
-        let level = random.below(19) as u32;
+        let level = random.below(LEVEL_LIMIT as usize + 3) as u32;
         check_path(&sample.as_encoding(), level, &mut tally);
     }
     println!("{tally:?}");
@@ -356,29 +362,29 @@ fn levels() {
     for level in (0..=40).chain([255, 256, 1 << 31, u32::MAX - 1, u32::MAX]) {
         check_type(&gauge(&[14, 1, 12, 16, 0]), level, &mut tally);
         check_path(&gauge(&[1, 1, 16]), level, &mut tally);
-        check_type(&gauge(&[25]), level, &mut tally);
+        check_type(&gauge(&[kind::END]), level, &mut tally);
         check_path(&gauge(&[]), level, &mut tally);
     }
-    assert_eq!(tally.texts, 2 * 17);
+    assert_eq!(tally.texts, 2 * (LEVEL_LIMIT as usize + 1));
     assert_eq!(tally.refused(Refusal::BadLevel), 4 * 29);
 }
 
 #[test]
 fn limit_of_words() {
     let mut tally = Tally::default();
-    for length in [8_190, 8_191, 8_192, 8_193, 8_194, 20_000] {
-        let mut tuple = vec![19, length as u32 - 2];
-        tuple.resize(length, 7);
+    for length in (WORD_LIMIT - 2..=WORD_LIMIT + 2).chain([20_000]) {
+        let mut tuple = vec![TUPLE, length as u32 - 2];
+        tuple.resize(length, I32);
         check_type(&bare(&tuple), 0, &mut tally);
         tuple[1] = u32::MAX;
         check_type(&bare(&tuple), 0, &mut tally);
 
-        let mut synonym = vec![23, 0, 19, length as u32 - 4];
-        synonym.resize(length, 11);
+        let mut synonym = vec![SYNONYM, U8, TUPLE, length as u32 - 4];
+        synonym.resize(length, BOOL);
         check_type(&bare(&synonym), 0, &mut tally);
 
-        let mut path = vec![0, length as u32 - 2];
-        path.resize(length, 10);
+        let mut path = vec![root::GLOBAL, length as u32 - 2];
+        path.resize(length, name::DAFNY_RUNTIME);
         check_path(&bare(&path), 0, &mut tally);
         path[1] += 1;
         check_path(&bare(&path), 0, &mut tally);
@@ -392,7 +398,7 @@ fn large_random_types() {
     let random = &mut Random::new(18);
     let mut tally = Tally::default();
     for round in 0..150 {
-        let names = Names::random(random, 1_024);
+        let names = Names::random(random, PAIR_LIMIT);
         let shape = Shape {
             depth: [3, 5, 12, 40][round % 4],
             chain: false,
@@ -412,21 +418,20 @@ fn large_random_types() {
 #[test]
 fn limit_of_pairs() {
     let mut tally = Tally::default();
-    for length in [
-        0, 1, 2, 2_046, 2_047, 2_048, 2_049, 2_050, 2_051, 2_052, 5_000, 5_001,
-    ] {
+    let most = 2 * PAIR_LIMIT as u32;
+    for length in (0..=2).chain(most - 2..=most + 4).chain([5_000, 5_001]) {
         // Each pair one byte, in order; the text has 2,600 bytes, room for all of them.
         let pairs: Vec<u32> = (0..length)
             .map(|i| if i % 2 == 0 { i / 2 } else { 1 })
             .collect();
         let text = pattern(2_600);
-        let count = length / 2;
+        let last = pair(length / 2) - 1;
         for words in [
-            &[0][..],
-            &[12, 15 + count],
-            &[12, 16 + count],
-            &[22, 16 + count, 0],
-            &[22, 17 + count, 0],
+            &[U8][..],
+            &[IDENTIFIER, last],
+            &[IDENTIFIER, last + 1],
+            &[ARRAY, last + 1, U8],
+            &[ARRAY, last + 2, U8],
         ] {
             let encoding = Encoding {
                 words,
@@ -436,7 +441,7 @@ fn limit_of_pairs() {
             check_type(&encoding, 0, &mut tally);
         }
         let encoding = Encoding {
-            words: &[0, 1, 15 + count],
+            words: &[root::GLOBAL, 1, last],
             pairs: &pairs,
             text: &text,
         };
@@ -451,7 +456,7 @@ fn limit_of_pairs() {
 #[test]
 fn limit_of_text() {
     let mut tally = Tally::default();
-    for length in [16_383, 16_384, 16_385, 40_000] {
+    for length in [TEXT_LIMIT - 1, TEXT_LIMIT, TEXT_LIMIT + 1, 40_000] {
         let text = pattern(length);
         for pair in [
             [0, length as u32],
@@ -481,14 +486,14 @@ fn limit_of_text() {
 /// The longest text there is room for in this test: far more bytes than words.
 #[test]
 fn long_text() {
-    let text = pattern(16_384);
-    let mut words = vec![19, 500];
+    let text = pattern(TEXT_LIMIT);
+    let mut words = vec![TUPLE, 500];
     for _ in 0..500 {
-        words.extend([12, 16]);
+        words.extend([IDENTIFIER, pair(0)]);
     }
     let encoding = Encoding {
         words: &words,
-        pairs: &[0, 16_384],
+        pairs: &[0, TEXT_LIMIT as u32],
         text: &text,
     };
     check_type(&encoding, 0, &mut Tally::default());
@@ -531,7 +536,7 @@ fn depth() {
         &[24, 3],
     ];
     for (before, after) in steps {
-        for count in 61..=66 {
+        for count in DEPTH_LIMIT - 3..=DEPTH_LIMIT + 2 {
             for inner in inner {
                 let mut words = before.repeat(count);
                 words.extend_from_slice(inner);
@@ -555,7 +560,7 @@ fn huge_words() {
         let shape = shape(round % 8, random);
         let sample = random_type(random, &names, shape);
         for at in 0..sample.words.len() {
-            for word in [8_192, 65_536, 1 << 31, u32::MAX - 16, u32::MAX] {
+            for word in [WORD_LIMIT as u32, 1 << 16, 1 << 31, u32::MAX - 16, u32::MAX] {
                 let mut huge = sample.clone();
                 huge.words[at] = word;
                 check_type(&huge.as_encoding(), 0, &mut tally);

@@ -3,6 +3,7 @@
 use std::fs;
 use std::path::{Path, PathBuf};
 
+use tillercoral::cases::GAUGE;
 use tillercoral::{declaration_text, reference, source, Encoding, EncodingBuf};
 
 fn folder() -> PathBuf {
@@ -79,7 +80,7 @@ fn gauge_is_the_papers_own() {
     assert_eq!(
         encoding_of_source("gauge").as_encoding(),
         Encoding {
-            words: &[25, 17, 0, 16, 0, 0, 2, 0, 18, 7, 1, 19, 15, 0],
+            words: &GAUGE,
             pairs: &[0, 5, 5, 13, 18, 2, 20, 2],
             text: b"GaugeOffset in mm.mmid",
         }

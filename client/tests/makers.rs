@@ -7,7 +7,7 @@ use std::process::Command;
 use std::{env, fs};
 
 use tillercoral::tree::{Declaration, Type};
-use tillercoral::{limits, reference, EncodingBuf, Refusal};
+use tillercoral::{limits, reference, words, EncodingBuf, Refusal};
 
 // The examples' own data, for the reference to print.
 #[allow(dead_code)]
@@ -266,7 +266,7 @@ fn the_header_has_the_numbers() {
         ("DEPTH_LIMIT", limits::DEPTH_LIMIT),
         ("LEVEL_LIMIT", limits::LEVEL_LIMIT as usize),
         ("RULE_LIMIT", limits::RULE_LIMIT),
-        ("FIRST_PAIR", limits::FIXED_NAMES.len()),
+        ("FIRST_PAIR", words::FIRST_PAIR as usize),
     ] {
         assert_eq!(value(&format!("#define TILLERCORAL_{name} ")), limit);
     }

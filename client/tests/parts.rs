@@ -5,9 +5,11 @@ mod common;
 use std::ops::Range;
 
 use common::{gauge, shape};
-use tillercoral::cases;
+use tillercoral::cases::{self, MAYBE_UNINIT_OF, PTR_OF};
 use tillercoral::generate::{damage, damage_names, random_shaped_type, random_type, Names, Random};
+use tillercoral::limits::WORD_LIMIT;
 use tillercoral::reference::PARTS;
+use tillercoral::words::{kind, kind::*, name::*, root::GLOBAL, NO_SIZE};
 use tillercoral::{tuned, Encoding, Refusal};
 
 type PartCall = fn(&Encoding<'_>) -> Result<Range<usize>, Refusal>;
@@ -142,16 +144,16 @@ fn longest_parts() {
     let mut tally = Tally::default();
     for front in [
         &[][..],
-        &[15],
-        &[24, 1],
-        &[23, 11],
-        &[14, 1, 13, 0, 3, 1, 2, 3],
-        &[14, 1, 13, 0, 2, 10, 12, 22, 0, 14, 1, 13, 0, 3, 1, 8, 9],
+        &[BORROWED],
+        &[META_DATA, 1],
+        &[SYNONYM, BOOL],
+        &[APP, 1, FROM_PATH, GLOBAL, 3, STD, RC_MODULE, RC],
+        &cases::joined(&[&PTR_OF, &[ARRAY, NO_SIZE], &MAYBE_UNINIT_OF]),
     ] {
-        for length in [8_191, 8_192, 8_193] {
+        for length in WORD_LIMIT - 1..=WORD_LIMIT + 1 {
             let count = length - front.len() - 2;
-            let mut words = [front, &[19, count as u32]].concat();
-            words.resize(length, 11);
+            let mut words = [front, &[TUPLE, count as u32]].concat();
+            words.resize(length, BOOL);
             check(&common::bare(&words), &mut tally);
         }
     }
@@ -163,7 +165,7 @@ fn longest_parts() {
 /// All runs of up to four words that could mean something.
 #[test]
 fn all_short_types() {
-    const WORDS: u32 = 26;
+    const WORDS: u32 = kind::END + 1;
     let mut tally = Tally::default();
     for length in 0..=4 {
         for number in 0..WORDS.pow(length) {

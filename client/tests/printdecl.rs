@@ -11,8 +11,11 @@ use std::sync::LazyLock;
 use std::time::Duration;
 use std::{env, io, thread};
 
+use tillercoral::cases::GAUGE;
 use tillercoral::generate::{damage, random_declaration, Names, Random, Shape};
+use tillercoral::limits::{PAIR_LIMIT, PRINT_LIMIT, TEXT_LIMIT, WORD_LIMIT};
 use tillercoral::reference::printdecl;
+use tillercoral::words::{fields::*, head::*, kind::*, name::*, pair, visibility::PRIV};
 use tillercoral::{Encoding, EncodingBuf};
 
 const PROGRAM_VARIABLE: &str = "TILLERCORAL_PRINTDECL";
@@ -127,7 +130,7 @@ fn file(header: [u32; 3], numbers: &[u32], text: &[u8]) -> Vec<u8> {
 
 fn gauge() -> Vec<u8> {
     Encoding {
-        words: &[25, 17, 0, 16, 0, 0, 2, 0, 18, 7, 1, 19, 15, 0],
+        words: &GAUGE,
         pairs: &[0, 5, 5, 13, 18, 2, 20, 2],
         text: b"GaugeOffset in mm.mmid",
     }
@@ -139,19 +142,20 @@ fn struct_of_length(length: usize) -> Vec<u8> {
     // `pub struct e(n.., n.., n.., n..);`
     let (name, extra) = ((length - 20) / 4, (length - 20) % 4);
     let names = Names::of(&[&vec![b'n'; name], &vec![b'e'; extra]]);
-    let words = [
-        25, 0, 0, 17, 0, 1, 4, 1, 12, 16, 1, 12, 16, 1, 12, 16, 1, 12, 16,
-    ];
+    let front = [STRUCT, EMPTY, 0, pair(1), 0, NAMELESS, 4];
+    let words = [&front[..], &[PRIV, IDENTIFIER, pair(0)].repeat(4)].concat();
     names.with_words(&words).to_file()
 }
 
 /// Everything at its limit: 1,024 pairs, 8,192 words, 16,384 bytes.
 fn largest() -> EncodingBuf {
-    let stock: Vec<Vec<u8>> = (0..1_024).map(|_| vec![b'n'; 16]).collect();
+    let stock: Vec<Vec<u8>> = vec![vec![b'n'; TEXT_LIMIT / PAIR_LIMIT]; PAIR_LIMIT];
     let names = Names::of(&stock.iter().map(Vec::as_slice).collect::<Vec<_>>());
     // What makes the words many is the base of a synonym, which does not show.
-    let mut words = vec![27, 16, 0, 1_039, 0, 23, 12, 17, 19, 8_182];
-    words.resize(8_192, 11);
+    let last = pair(PAIR_LIMIT as u32 - 1);
+    let mut words = vec![TYPE, pair(0), 0, last, 0, SYNONYM, IDENTIFIER, pair(1)];
+    words.extend([TUPLE, WORD_LIMIT as u32 - 10]);
+    words.resize(WORD_LIMIT, BOOL);
     names.with_words(&words)
 }
 
@@ -164,16 +168,18 @@ fn headers() {
     }
     // The header alone, over a limit or at it.
     let most = u32::MAX;
+    let limits = [PAIR_LIMIT, WORD_LIMIT, TEXT_LIMIT].map(|limit| limit as u32);
+    let [pairs, words, text] = limits;
     for header in [
-        [1_025, 0, 0],
-        [0, 8_193, 0],
-        [0, 0, 16_385],
+        [pairs + 1, 0, 0],
+        [0, words + 1, 0],
+        [0, 0, text + 1],
         [most, 0, 0],
         [0, most, 0],
         [0, 0, most],
-        [1_024, 8_192, 16_384],
-        [1_024, 8_192, 16_385],
-        [1_025, most, most],
+        limits,
+        [pairs, words, text + 1],
+        [pairs + 1, most, most],
         [1, 0, 0],
         [0, 1, 0],
         [0, 0, 1],
@@ -187,12 +193,15 @@ fn headers() {
         [0, 0, 1 << 31],
     ] {
         tally.check("header alone", &file(header, &[], b""));
-        tally.check("header and a word", &file(header, &[25], b""));
+        tally.check("header and a word", &file(header, &[STRUCT], b""));
     }
     // Over a limit, with all that the header promises.
-    tally.check("pairs", &file([1_025, 0, 0], &vec![0; 2_050], b""));
-    tally.check("words", &file([0, 8_193, 0], &vec![28; 8_193], b""));
-    tally.check("text", &file([0, 0, 16_385], &[], &[b'x'; 16_385]));
+    let many_pairs = vec![0; 2 * PAIR_LIMIT + 2];
+    tally.check("pairs", &file([pairs + 1, 0, 0], &many_pairs, b""));
+    let many_words = vec![USE; WORD_LIMIT + 1];
+    tally.check("words", &file([0, words + 1, 0], &many_words, b""));
+    let long_text = [b'x'; TEXT_LIMIT + 1];
+    tally.check("text", &file([0, 0, text + 1], &[], &long_text));
     println!("{tally:?}");
     assert!(tally.refusals[1] > 20 && tally.refusals[9] > 20 && tally.refusals[3] > 0);
 }
@@ -238,7 +247,7 @@ fn lengths_that_the_header_contradicts() {
 #[test]
 fn limits() {
     let mut tally = Tally::default();
-    for length in [65_535, 65_536, 65_537, 65_538] {
+    for length in PRINT_LIMIT - 1..=PRINT_LIMIT + 2 {
         tally.check("length of the text", &struct_of_length(length));
     }
     assert_eq!((tally.texts, tally.refusals[8]), (2, 2));
@@ -253,8 +262,8 @@ fn limits() {
     for at in 0..3 {
         let mut over = largest.clone();
         match at {
-            0 => over.words.push(11),
-            1 => over.pairs.extend([16_384, 0]),
+            0 => over.words.push(BOOL),
+            1 => over.pairs.extend([TEXT_LIMIT as u32, 0]),
             _ => over.text.push(b'n'),
         }
         tally.check("one over a limit", &over.to_file());
@@ -262,16 +271,11 @@ fn limits() {
     assert_eq!((tally.refusals[9], tally.refusals[1]), (2, 3));
 
     // 16,384 newlines: a text that is longer than its buffer by its indents alone.
-    let newlines = Names::of(&[&[b'\n'; 16_384]]);
-    tally.check(
-        "newlines",
-        &newlines.with_words(&[25, 16, 0, 0, 0, 0, 0]).to_file(),
-    );
+    let words = [STRUCT, pair(0), 0, EMPTY, 0, NAMED, 0];
+    let newlines = Names::of(&[&[b'\n'; TEXT_LIMIT]]);
+    tally.check("newlines", &newlines.with_words(&words).to_file());
     let fewer = Names::of(&[&[b'\n'; 13_000]]);
-    tally.check(
-        "fewer newlines",
-        &fewer.with_words(&[25, 16, 0, 0, 0, 0, 0]).to_file(),
-    );
+    tally.check("fewer newlines", &fewer.with_words(&words).to_file());
     assert_eq!((tally.texts, tally.refusals[8]), (4, 3));
 }
 

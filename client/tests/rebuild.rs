@@ -9,7 +9,9 @@ use tillercoral::generate::{
     damage, damage_names, damage_rules, random_declaration, random_rules, random_shaped_type,
     random_type, respelled, Names, Random,
 };
+use tillercoral::limits::{DEPTH_LIMIT, RULE_LIMIT, WORD_LIMIT};
 use tillercoral::reference::{self, Rebuilt};
+use tillercoral::words::{head::ENUM, kind, kind::*, NO_SIZE};
 use tillercoral::{
     declaration_rebuild, tuned, type_at_initialization, type_rebuild, Encoding, EncodingBuf,
     Refusal,
@@ -140,7 +142,7 @@ fn buffer_lengths(rebuilt: &Rebuilt, large: bool) -> Vec<usize> {
         peak + 7,
     ];
     if large {
-        lengths.extend([8_191, 8_192, 8_193, 9_001]);
+        lengths.extend([WORD_LIMIT - 1, WORD_LIMIT, WORD_LIMIT + 1, 9_001]);
     }
     lengths.sort();
     lengths.dedup();
@@ -239,7 +241,7 @@ fn truncated_rules() {
         for length in 0..rules.len().min(200) {
             TYPES.check(&sample.as_encoding(), &rules[..length], false, &mut tally);
         }
-        for word in [0, 12, 25, u32::MAX] {
+        for word in [U8, IDENTIFIER, kind::END, u32::MAX] {
             let longer = [&rules[..], &[word]].concat();
             TYPES.check(&sample.as_encoding(), &longer, false, &mut tally);
         }
@@ -259,11 +261,11 @@ fn names_are_compared_by_bytes() {
         let encoding = sample.as_encoding();
         let from = respelled(random, &names, &sample.words);
         respelled_froms += usize::from(from != sample.words);
-        let rules = [&[1], &from[..], &[11]].concat();
+        let rules = [&[1], &from[..], &[BOOL]].concat();
         let mut buffer = vec![7; sample.words.len() + 1];
         assert_eq!(type_rebuild(&encoding, &rules, &mut buffer), Ok(1));
-        assert_eq!((buffer[0], buffer[1]), (11, 7));
-        let twice = [&[2], &from[..], &[11], &sample.words, &[10]].concat();
+        assert_eq!((buffer[0], buffer[1]), (BOOL, 7));
+        let twice = [&[2], &from[..], &[BOOL], &sample.words, &[USIZE]].concat();
         let answer = type_rebuild(&encoding, &twice, &mut buffer);
         assert_eq!(answer, Err(Refusal::RepeatedRule));
     }
@@ -298,7 +300,7 @@ fn all_short_rules() {
             for to in TYPES_TRIED {
                 let one = [&[1], from, to].concat();
                 TYPES.check(&tree.as_encoding(), &one, false, &mut tally);
-                let two = [&[2], from, to, &[15], to, from].concat();
+                let two = [&[2], from, to, &[BORROWED], to, from].concat();
                 TYPES.check(&tree.as_encoding(), &two, false, &mut tally);
             }
         }
@@ -336,16 +338,16 @@ fn by_hand() {
 /// first word of the rules.
 #[test]
 fn order_of_refusals() {
-    let long = vec![0; 8_193];
-    let mut most_rules = vec![1, 0, 19, 8_188];
-    most_rules.resize(8_192, 1);
+    let long = vec![0; WORD_LIMIT + 1];
+    let mut most_rules = vec![1, U8, TUPLE, WORD_LIMIT as u32 - 4];
+    most_rules.resize(WORD_LIMIT, U16);
     let at_limit = &most_rules[..];
     for (words, pairs, rules, number) in [
         (&[][..], &[1][..], &long[..], 1),
         (&long, &[1], &[], 1),
         (&[], &[1], at_limit, 2),
         (&[], &[], at_limit, 3),
-        (&[26], &[], &[33], 4),
+        (&[ENUM], &[], &[RULE_LIMIT as u32 + 1], 4),
         (&[0, 0], &[], &[], 6),
         (&[0], &[], &[], 3),
         (&[1], &[], at_limit, 0),
@@ -365,29 +367,31 @@ fn order_of_refusals() {
     }
 }
 
+/// Rules by which `&bool` becomes `&&bool` and then `u16`.
+const BACK_AGAIN: [u32; 8] = [2, BOOL, BORROWED, BOOL, BORROWED, BORROWED, BOOL, U16];
+
 /// Trees and results about as long as they may be.
 #[test]
 fn limits() {
     let mut tally = Tally::default();
-    for count in [8_186, 8_187, 8_188, 8_189, 8_190, 8_191] {
-        let mut words = vec![19, count];
-        words.resize(count as usize + 2, 0);
-        words[2] = 11;
+    for count in WORD_LIMIT - 6..WORD_LIMIT {
+        let mut words = vec![TUPLE, count as u32];
+        words.resize(count + 2, U8);
+        words[2] = BOOL;
         for rules in [
             &[0][..],
-            &[1, 11, 15, 11],
-            &[1, 0, 1],
-            &[1, 11, 19, 4, 1, 1, 1, 1],
-            &[1, 2, 3],
+            &[1, BOOL, BORROWED, BOOL],
+            &[1, U8, U16],
+            &[1, BOOL, TUPLE, 4, U16, U16, U16, U16],
+            &[1, U32, U64],
         ] {
             TYPES.check(&bare(&words), rules, true, &mut tally);
         }
         // The last child grows for a moment, and is a single word in the end.
-        let mut words = vec![19, count];
-        words.resize(count as usize + 1, 0);
-        words.extend([15, 11]);
-        let back = &[2, 11, 15, 11, 15, 15, 11, 1];
-        TYPES.check(&bare(&words), back, true, &mut tally);
+        let mut words = vec![TUPLE, count as u32];
+        words.resize(count + 1, U8);
+        words.extend([BORROWED, BOOL]);
+        TYPES.check(&bare(&words), &BACK_AGAIN, true, &mut tally);
     }
     println!("{tally:?}");
     assert!(tally.done > 50 && tally.shrunk > 5 && tally.too_short > 50);
@@ -399,22 +403,22 @@ fn limits() {
 #[test]
 fn lengths_of_scratch() {
     let mut tally = Tally::default();
-    let mut many_for_one = vec![1, 11, 19, 390];
-    many_for_one.resize(4 + 390, 0);
+    let mut many_for_one = vec![1, BOOL, TUPLE, 390];
+    many_for_one.resize(4 + 390, U8);
     for length in (125..=131).chain(253..=259).chain(509..=515) {
-        let mut words = vec![19, length - 2];
-        words.resize(length as usize, 0);
-        words[2] = 11;
+        let mut words = vec![TUPLE, length - 2];
+        words.resize(length as usize, U8);
+        words[2] = BOOL;
         // The last child grows for a moment, and is a single word in the end.
-        let mut moment = vec![19, length - 3];
-        moment.resize(length as usize - 2, 0);
-        moment.extend([15, 11]);
+        let mut moment = vec![TUPLE, length - 3];
+        moment.resize(length as usize - 2, U8);
+        moment.extend([BORROWED, BOOL]);
         for (words, rules) in [
-            (&words, &[1, 11, 15, 11][..]),
-            (&words, &[1, 0, 1]),
-            (&words, &[1, 2, 3]),
+            (&words, &[1, BOOL, BORROWED, BOOL][..]),
+            (&words, &[1, U8, U16]),
+            (&words, &[1, U32, U64]),
             (&words, &many_for_one),
-            (&moment, &[2, 11, 15, 11, 15, 15, 11, 1]),
+            (&moment, &BACK_AGAIN),
         ] {
             TYPES.check(&bare(words), rules, false, &mut tally);
             for buffer in [127, 128, 129, 511, 512, 513] {
@@ -429,20 +433,21 @@ fn lengths_of_scratch() {
 #[test]
 fn thirty_two_rules() {
     let mut tally = Tally::default();
-    let many: Vec<u32> = (0..32)
-        .flat_map(|i| [24, i / 8, i % 8, 24, i / 8, 15, i % 8])
+    let limit = RULE_LIMIT as u32;
+    let many: Vec<u32> = (0..limit)
+        .flat_map(|i| [META_DATA, i / 8, i % 8, META_DATA, i / 8, BORROWED, i % 8])
         .collect();
-    let mut words = vec![19, 2_000];
-    words.extend((0..2_000).flat_map(|i| [24, i % 4, i % 12]));
+    let mut words = vec![TUPLE, 2_000];
+    words.extend((0..2_000).flat_map(|i| [META_DATA, i % 4, i % 12]));
     TYPES.check(
         &bare(&words),
-        &[&[32], &many[..]].concat(),
+        &[&[limit], &many[..]].concat(),
         true,
         &mut tally,
     );
     TYPES.check(
         &bare(&words),
-        &[&[33], &many[..]].concat(),
+        &[&[limit + 1], &many[..]].concat(),
         true,
         &mut tally,
     );
@@ -454,13 +459,13 @@ fn thirty_two_rules() {
 #[test]
 fn depths() {
     let mut tally = Tally::default();
-    for count in 55..=64 {
-        let words = borrows_then(count, &[0]);
+    for count in DEPTH_LIMIT - 9..=DEPTH_LIMIT {
+        let words = borrows_then(count, &[U8]);
         for deeper in 0..=12 {
-            let to = borrows_then(deeper, &[0]);
-            let grow = [&[1, 0], &to[..]].concat();
+            let to = borrows_then(deeper, &[U8]);
+            let grow = [&[1, U8], &to[..]].concat();
             TYPES.check(&bare(&words), &grow, false, &mut tally);
-            let back = [&[2, 0], &to[..], &[15], &to, &[1]].concat();
+            let back = [&[2, U8], &to[..], &[BORROWED], &to, &[U16]].concat();
             TYPES.check(&bare(&words), &back, false, &mut tally);
         }
     }
@@ -529,17 +534,22 @@ fn initializations() {
         check_initialization(&sample.as_encoding(), &mut tally);
     }
     // Elements of which the deepest just fit, or just do not.
-    let wrapped_array = cases::joined(&[&[24, 0], &cases::ARRAY2_OF]);
+    let wrapped_array = cases::joined(&[&[META_DATA, 0], &cases::ARRAY2_OF]);
     for outside in [cases::OBJECT_OF, cases::PTR_OF] {
-        for depth in 55..=64 {
-            let deep = borrows_then(depth, &[0]);
-            for inside in [&[22, 0][..], &cases::ARRAY2_OF, &[22, 1], &wrapped_array] {
+        for depth in DEPTH_LIMIT - 9..=DEPTH_LIMIT {
+            let deep = borrows_then(depth, &[U8]);
+            for inside in [
+                &[ARRAY, NO_SIZE][..],
+                &cases::ARRAY2_OF,
+                &[ARRAY, 1],
+                &wrapped_array,
+            ] {
                 let words = cases::joined(&[&outside, inside, &deep]);
                 for words in [
-                    cases::joined(&[&[24, 0], &words]),
-                    cases::joined(&[&[23, 0], &words]),
+                    cases::joined(&[&[META_DATA, 0], &words]),
+                    cases::joined(&[&[SYNONYM, U8], &words]),
                     // Deep is what goes, not the element.
-                    cases::joined(&[&[23], &deep, &outside, inside, &[0]]),
+                    cases::joined(&[&[SYNONYM], &deep, &outside, inside, &[U8]]),
                     words,
                 ] {
                     check_initialization(&cases::encoded(&words).as_encoding(), &mut tally);
@@ -558,11 +568,16 @@ fn initializations() {
 /// The longest results: 8,192 words, and what would be more.
 #[test]
 fn longest_initializations() {
-    for (count, wanted) in [(8_172, Ok(8_191)), (8_173, Ok(8_192)), (8_174, Err(8))] {
-        let mut words = cases::joined(&[&cases::PTR_OF, &[22, 0, 19, count]]);
-        words.resize(11 + count as usize, 1);
+    for (count, wanted) in [
+        (WORD_LIMIT - 20, Ok(WORD_LIMIT - 1)),
+        (WORD_LIMIT - 19, Ok(WORD_LIMIT)),
+        (WORD_LIMIT - 18, Err(8)),
+    ] {
+        let tuples = [ARRAY, NO_SIZE, TUPLE, count as u32];
+        let mut words = cases::joined(&[&cases::PTR_OF, &tuples]);
+        words.resize(11 + count, U16);
         for (what, call) in INITIALIZATIONS {
-            for length in [8_192, 9_000] {
+            for length in [WORD_LIMIT, 9_000] {
                 let mut buffer = word_pattern(length);
                 let answer = call(&bare(&words), &mut buffer);
                 assert_eq!(answer.map_err(Refusal::number), wanted, "{what}");

@@ -15,6 +15,7 @@ use std::process::{Command, Output};
 use std::{env, fs};
 
 use tillercoral::generate::{random_doc, Random};
+use tillercoral::limits::LEVEL_LIMIT;
 use tillercoral::tree::{
     Attribute, Declaration, Enum, EnumCase, Field, Fields, Name, NamelessField, Path, Root, Struct,
     Type, TypeParameter, TypeSynonym, Use, Visibility,
@@ -92,7 +93,7 @@ fn generated_declarations_parse() {
                 Declaration::Use(_) => 3,
                 other => panic!("{other:?} is none of the kinds made here"),
             }] += 1;
-            printed(&declaration, random.below(17) as u32)
+            printed(&declaration, random.below(LEVEL_LIMIT as usize + 1) as u32)
         })
         .collect();
     assert!(heads.iter().all(|&count| count > 40), "{heads:?}");

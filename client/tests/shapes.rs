@@ -6,6 +6,7 @@ use common::{gauge, shape};
 use tillercoral::cases;
 use tillercoral::generate::{damage, damage_names, random_shaped_type, random_type, Names, Random};
 use tillercoral::reference::SHAPES;
+use tillercoral::words::{kind, kind::*, root::*, FIRST_PAIR};
 use tillercoral::{tuned, Encoding, Refusal};
 
 type Question = fn(&Encoding<'_>) -> Result<bool, Refusal>;
@@ -160,11 +161,11 @@ fn paths_that_differ_in_one_byte() {
 /// The path applied to each number of arguments up to three, as an encoding with no fixed names.
 fn check_path(path: &[&[u8]], tally: &mut Tally) {
     let names = Names::of(path);
-    for root in 0..2 {
+    for root in [GLOBAL, CRATE] {
         for count in 0..4 {
-            let mut words = vec![14, count, 13, root, path.len() as u32];
-            words.extend(16..16 + path.len() as u32);
-            words.extend((0..count).map(|_| 11));
+            let mut words = vec![APP, count, FROM_PATH, root, path.len() as u32];
+            words.extend((FIRST_PAIR..).take(path.len()));
+            words.extend((0..count).map(|_| BOOL));
             check(&names.with_words(&words).as_encoding(), tally);
         }
     }
@@ -192,7 +193,7 @@ fn near_names(name: &[u8]) -> Vec<Vec<u8>> {
 /// All runs of up to four words that could mean something.
 #[test]
 fn all_short_types() {
-    const WORDS: u32 = 26;
+    const WORDS: u32 = kind::END + 1;
     let mut tally = Tally::default();
     for length in 0..=4 {
         for number in 0..WORDS.pow(length) {

@@ -15,6 +15,9 @@ use tillercoral::tree::{
     Attribute, Declaration, Enum, EnumCase, Field, Fields, NamelessField, Path, Root, Struct, Type,
     TypeParameter, TypeSynonym, Use,
 };
+use tillercoral::words::{
+    fields::*, head, head::*, kind, kind::*, name::*, pair, root::*, visibility::*,
+};
 use tillercoral::{
     declaration_text, limits, path_text, reference, type_text, DecodeError, Encoding, EncodingBuf,
     Part, Refusal, Shape, TextError,
@@ -146,7 +149,7 @@ fn random_encodings() {
     for _ in 0..150_000 {
         let word = |random: &mut Random| match random.percent(3) {
             true => random.word(),
-            false => random.below(30) as u32,
+            false => random.small_word(),
         };
         let words: Vec<u32> = (0..random.below(14)).map(|_| word(random)).collect();
         let numbers = if random.percent(20) {
@@ -172,7 +175,8 @@ fn random_encodings() {
 /// All runs of up to three words.
 #[test]
 fn short_encodings() {
-    let words: Vec<u32> = (0..30).chain([1 << 31, u32::MAX]).collect();
+    let small = (0..kind::END).chain(STRUCT..=head::END);
+    let words: Vec<u32> = small.chain([1 << 31, u32::MAX]).collect();
     let mut checker = Checker::new();
     checker.check_all(&gauge(&[]));
     for &first in &words {
@@ -190,25 +194,27 @@ fn short_encodings() {
 #[test]
 fn limits_of_tables() {
     let mut checker = Checker::new();
-    let mut tuple = vec![0; 8_193];
-    tuple[0] = 19;
-    for (length, count) in [(8_192, 8_190), (8_192, 8_191), (8_193, 8_191)] {
-        tuple[1] = count;
+    let most = limits::WORD_LIMIT;
+    let mut tuple = vec![U8; most + 1];
+    tuple[0] = TUPLE;
+    for (length, count) in [(most, most - 2), (most, most - 1), (most + 1, most - 1)] {
+        tuple[1] = count as u32;
         checker.check_all(&bare(&tuple[..length]));
     }
-    for numbers in [2_048, 2_049, 2_050, 2_051] {
-        for last_name in [1_039, 1_040] {
+    let (most, last) = (2 * limits::PAIR_LIMIT, pair(limits::PAIR_LIMIT as u32 - 1));
+    for numbers in most..most + 4 {
+        for name in [last, last + 1] {
             checker.check_all(&Encoding {
-                words: &[12, last_name],
+                words: &[IDENTIFIER, name],
                 pairs: &vec![0; numbers],
                 text: b"",
             });
         }
     }
-    for length in [16_384, 16_385] {
+    for length in [limits::TEXT_LIMIT, limits::TEXT_LIMIT + 1] {
         checker.check_all(&Encoding {
-            words: &[12, 16],
-            pairs: &[0, 16_384],
+            words: &[IDENTIFIER, pair(0)],
+            pairs: &[0, limits::TEXT_LIMIT as u32],
             text: &vec![b'm'; length],
         });
     }
@@ -229,7 +235,8 @@ fn limits_of_depth() {
         &[19, 1],
     ];
     for rest in ends {
-        for borrows in [62, 63, 64, 8_000] {
+        let most = limits::DEPTH_LIMIT;
+        for borrows in [most - 2, most - 1, most, 8_000] {
             checker.check_all(&bare(&borrows_then(borrows, rest)));
         }
     }
@@ -239,17 +246,23 @@ fn limits_of_depth() {
 /// Depth is bounded and counts are not believed: a small stack is enough for anything.
 #[test]
 fn a_small_stack_is_enough() {
-    let of_pattern =
-        |pattern: &[u32]| -> Vec<u32> { pattern.iter().copied().cycle().take(8_192).collect() };
+    let of_pattern = |pattern: &[u32]| -> Vec<u32> {
+        pattern
+            .iter()
+            .copied()
+            .cycle()
+            .take(limits::WORD_LIMIT)
+            .collect()
+    };
     let patterns = [
-        &[15][..],
-        &[19, u32::MAX],
-        &[14, u32::MAX],
-        &[20, 0],
-        &[21],
-        &[23],
-        &[24, 3],
-        &[26, 0, 0, 0, u32::MAX],
+        &[BORROWED][..],
+        &[TUPLE, u32::MAX],
+        &[APP, u32::MAX],
+        &[FN, 0],
+        &[INTERSECTION],
+        &[SYNONYM],
+        &[META_DATA, 3],
+        &[ENUM, EMPTY, 0, EMPTY, u32::MAX],
     ];
     let samples: Vec<Vec<u32>> = patterns.iter().map(|pattern| of_pattern(pattern)).collect();
     let decode_all = move || {
@@ -282,9 +295,13 @@ fn errors_say_where() {
         (&[14, 1, 12, 20, 0], UnknownWord, 3),
         (&[24, 4, 0], UnknownWord, 1),
         (&[22, 21, 0], UnknownWord, 1),
-        (&[19, 2, 0, 25], UnknownWord, 3),
+        (&[19, 2, 0, kind::END], UnknownWord, 3),
         (&[19, 1, 0, 0, 0], LeftOver, 3),
-        (&borrows_then(64, &[0]), TooDeep, 64),
+        (
+            &borrows_then(limits::DEPTH_LIMIT, &[0]),
+            TooDeep,
+            limits::DEPTH_LIMIT,
+        ),
     ] {
         assert_eq!(error(words).refusal(), refusal, "{words:?}");
         assert_eq!(error(words).position(), Some(position), "{words:?}");
@@ -304,12 +321,17 @@ fn errors_say_where() {
     assert!(of_pairs(&[0, 1, 0, 1])
         .to_string()
         .starts_with("at pair 1: a pair overlaps"));
-    assert!(of_pairs(&[0; 2_050]).to_string().starts_with("more than"));
+    assert!(of_pairs(&[0; 2 * limits::PAIR_LIMIT + 2])
+        .to_string()
+        .starts_with("more than"));
     let with_pairs = |pairs| (of_pairs(pairs).refusal(), of_pairs(pairs).position());
     assert_eq!(with_pairs(&[0, 1, 0, 1]), (BadPair, Some(1)));
     assert_eq!(with_pairs(&[0, 3]), (BadPair, Some(0)));
     assert_eq!(with_pairs(&[0, 1, 1]), (BadPair, Some(1)));
-    assert_eq!(with_pairs(&[0; 2_050]), (Overlong, None));
+    assert_eq!(
+        with_pairs(&[0; 2 * limits::PAIR_LIMIT + 2]),
+        (Overlong, None)
+    );
 }
 
 #[test]
@@ -320,7 +342,10 @@ fn limits_are_those_of_the_papers() {
     assert_eq!(limits::DEPTH_LIMIT, 64);
     assert_eq!(limits::LEVEL_LIMIT, 16);
     assert_eq!(limits::RULE_LIMIT, 32);
-    assert_eq!(limits::FIXED_NAMES, reference::FIXED_NAMES);
+    let names = " std rc Rc sync Arc boxed Box mem MaybeUninit \
+        dafny_runtime Object Ptr MaybePlacebo _ self";
+    assert_eq!(limits::FIXED_NAMES.join(" "), names);
+    assert_eq!(limits::PRINT_LIMIT, 65_536);
 }
 
 fn assert_type(tree: Type, words: &[u32]) {
@@ -392,6 +417,9 @@ fn assert_declaration(tree: impl Into<Declaration>, words: &[u32]) {
     assert_eq!(tree.encode().unwrap().words, words, "{tree:?}");
 }
 
+/// The name that `derive` adds.
+const DERIVE: u32 = pair(0);
+
 /// Each function that builds a part of a declaration, with the words written by hand. But for
 /// `derive` the names are fixed ones.
 #[test]
@@ -406,20 +434,27 @@ fn built_declarations() {
         .parameter(parameter.clone());
     assert_declaration(
         front,
-        &[25, 1, 2, 4, 0, 16, 2, 8, 7, 2, 1, 5, 2, 0, 11, 0, 0],
+        &[
+            STRUCT, STD, 2, SYNC, 0, DERIVE, 2, MEM, BOX, RC_MODULE, 1, ARC, 2, U8, BOOL, NAMED, 0,
+        ],
     );
     let synonym = TypeSynonym::new("rc", Type::U8)
         .doc("std")
         .derive(["mem"])
         .parameter(parameter);
-    assert_declaration(synonym, &[27, 1, 1, 16, 1, 8, 2, 1, 5, 2, 0, 11, 0]);
+    assert_declaration(
+        synonym,
+        &[
+            TYPE, STD, 1, DERIVE, 1, MEM, RC_MODULE, 1, ARC, 2, U8, BOOL, U8,
+        ],
+    );
     let choice = Enum::new("rc")
         .attribute(Attribute::new("sync"))
         .parameter(TypeParameter::new("Arc"));
-    assert_declaration(choice, &[26, 0, 1, 4, 0, 2, 1, 5, 0, 0]);
+    assert_declaration(choice, &[ENUM, EMPTY, 1, SYNC, 0, RC_MODULE, 1, ARC, 0, 0]);
     let path = Path::global(["std"]);
-    assert_declaration(Use::public(path.clone()), &[28, 0, 0, 1, 1]);
-    assert_declaration(Use::private(path), &[28, 1, 0, 1, 1]);
+    assert_declaration(Use::public(path.clone()), &[USE, PUB, GLOBAL, 1, STD]);
+    assert_declaration(Use::private(path), &[USE, PRIV, GLOBAL, 1, STD]);
 }
 
 #[test]
@@ -427,16 +462,21 @@ fn built_fields_and_cases() {
     let both = Struct::new("rc")
         .field(Field::public("Ptr", Type::U8))
         .field(Field::private("self", Type::U16));
-    assert_declaration(both, &[25, 0, 0, 2, 0, 0, 2, 0, 12, 0, 1, 15, 1]);
+    assert_declaration(
+        both,
+        &[
+            STRUCT, EMPTY, 0, RC_MODULE, 0, NAMED, 2, PUB, PTR, U8, PRIV, SELF, U16,
+        ],
+    );
     let named = Fields::named([Field::private("Ptr", Type::U8)]);
     assert_declaration(
         Struct::new("rc").fields(named),
-        &[25, 0, 0, 2, 0, 0, 1, 1, 12, 0],
+        &[STRUCT, EMPTY, 0, RC_MODULE, 0, NAMED, 1, PRIV, PTR, U8],
     );
     let nameless = Fields::nameless([NamelessField::private(Type::U8)]);
     assert_declaration(
         Struct::new("rc").fields(nameless),
-        &[25, 0, 0, 2, 0, 1, 1, 1, 0],
+        &[STRUCT, EMPTY, 0, RC_MODULE, 0, NAMELESS, 1, PRIV, U8],
     );
     let first = EnumCase::new("mem")
         .doc("Box")
@@ -450,7 +490,8 @@ fn built_fields_and_cases() {
     assert_declaration(
         choice,
         &[
-            26, 1, 1, 16, 1, 3, 2, 0, 2, 7, 8, 0, 1, 0, 14, 0, 0, 12, 1, 1, 0, 0,
+            ENUM, STD, 1, DERIVE, 1, RC, RC_MODULE, 0, 2, BOX, MEM, NAMED, 1, PUB, UNDERSCORE, U8,
+            EMPTY, PTR, NAMELESS, 1, PUB, U8,
         ],
     );
 }
@@ -466,13 +507,19 @@ fn built_twice() {
         .attribute(attribute)
         .fields(nameless())
         .fields(Fields::nameless([]));
-    assert_declaration(of_struct, &[25, 1, 1, 4, 1, 7, 2, 0, 1, 0]);
+    assert_declaration(
+        of_struct,
+        &[STRUCT, STD, 1, SYNC, 1, BOX, RC_MODULE, 0, NAMELESS, 0],
+    );
     let case = EnumCase::new("mem")
         .doc("std")
         .doc("Box")
         .fields(nameless())
         .fields(Fields::nameless([]));
-    assert_declaration(Enum::new("rc").case(case), &[26, 0, 0, 2, 0, 1, 7, 8, 1, 0]);
+    assert_declaration(
+        Enum::new("rc").case(case),
+        &[ENUM, EMPTY, 0, RC_MODULE, 0, 1, BOX, MEM, NAMELESS, 0],
+    );
 }
 
 #[test]
@@ -523,7 +570,7 @@ fn calls_of_types() {
 
 fn check_initialization(tree: &Type) {
     let encoding = tree.encode().unwrap();
-    let mut buffer = [0; 8_192];
+    let mut buffer = [0; limits::WORD_LIMIT];
     let wanted = reference::type_at_initialization(&encoding.as_encoding(), &mut buffer)
         .and_then(|length| reference::read_type(&with_words(&encoding, &buffer[..length])));
     assert_eq!(tree.at_initialization(), wanted);
@@ -610,7 +657,7 @@ fn rebuilt_types() {
         let rules = random_rules(random, &names, &sample);
         let encoding = sample.as_encoding();
         if let (Ok(tree), Some(trees)) = (Type::decode(&encoding), rule_trees(&sample, &rules)) {
-            let mut buffer = [0; 8_192];
+            let mut buffer = [0; limits::WORD_LIMIT];
             let wanted = reference::type_rebuild(&encoding, &rules, &mut buffer)
                 .and_then(|length| reference::read_type(&with_words(&sample, &buffer[..length])));
             tally.check(&tree, tree.rebuild(&trees), wanted);
@@ -633,7 +680,7 @@ fn rebuilt_and_visited_declarations() {
         if let (Ok(tree), Some(trees)) =
             (Declaration::decode(&encoding), rule_trees(&sample, &rules))
         {
-            let mut buffer = [0; 8_192];
+            let mut buffer = [0; limits::WORD_LIMIT];
             let wanted =
                 reference::declaration_rebuild(&encoding, &rules, &mut buffer).and_then(|length| {
                     reference::read_declaration(&with_words(&sample, &buffer[..length]))
@@ -656,10 +703,13 @@ fn rules_that_have_no_encoding() {
     let rule = || (Type::named("Depth"), Type::named("Height"));
     let mut encoding = Type::named("Depth").encode().unwrap();
     let before = encoding.clone();
-    assert_eq!(encoding.encode_rules(&vec![rule(); 33]), Err(UnknownWord));
-    let long_name = (Type::U8, Type::named("m".repeat(16_380)));
+    assert_eq!(
+        encoding.encode_rules(&vec![rule(); limits::RULE_LIMIT + 1]),
+        Err(UnknownWord)
+    );
+    let long_name = (Type::U8, Type::named("m".repeat(limits::TEXT_LIMIT - 4)));
     assert_eq!(encoding.encode_rules(&[long_name]), Err(Overlong));
-    let deep = (0..64).fold(Type::U8, |inner, _| Type::borrowed(inner));
+    let deep = (0..limits::DEPTH_LIMIT).fold(Type::U8, |inner, _| Type::borrowed(inner));
     assert_eq!(encoding.encode_rules(&[(deep, Type::U8)]), Err(TooDeep));
     assert_eq!(encoding, before);
 
@@ -715,11 +765,13 @@ fn files() {
 /// over a limit has the first word 0, which begins no declaration.
 #[test]
 fn limits_of_files() {
+    let [pairs, words, text] =
+        [limits::PAIR_LIMIT, limits::WORD_LIMIT, limits::TEXT_LIMIT].map(|limit| limit as u32);
     let limits = [
-        ([1_024, 8_192, 16_384], UnknownWord),
-        ([1_025, 0, 0], Overlong),
-        ([0, 8_193, 0], Overlong),
-        ([0, 0, 16_385], Overlong),
+        ([pairs, words, text], UnknownWord),
+        ([pairs + 1, 0, 0], Overlong),
+        ([0, words + 1, 0], Overlong),
+        ([0, 0, text + 1], Overlong),
     ];
     for (header, of_whole) in limits {
         let [pairs, words, text]: [u32; 3] = header;
@@ -745,7 +797,10 @@ fn long_texts() {
     assert!(synonym.to_text(0).unwrap() == format!("pub type A = {wanted};"));
     let path = Path::global(vec![&name; 3_000]);
     assert!(path.to_text().unwrap() == format!("::{name}").repeat(3_000));
-    assert_eq!(synonym.to_text_bytes(17), Err(Refusal::BadLevel));
+    assert_eq!(
+        synonym.to_text_bytes(limits::LEVEL_LIMIT + 1),
+        Err(Refusal::BadLevel)
+    );
 }
 
 #[test]

@@ -8,6 +8,8 @@ use tillercoral::cases::{self, WordCase};
 use tillercoral::generate::{
     damage, damage_names, random_declaration, random_shaped_type, random_type, Names, Random,
 };
+use tillercoral::limits::WORD_LIMIT;
+use tillercoral::words::{fields::NAMELESS, head::ENUM, kind, kind::*, name::*, visibility::PRIV};
 use tillercoral::{declaration_visit, reference, tuned, type_visit, Encoding, Refusal};
 
 type VisitCall = fn(&Encoding<'_>, &mut [u32]) -> Result<usize, Refusal>;
@@ -56,7 +58,7 @@ fn check(calls: [VisitCall; 3], encoding: &Encoding<'_>, types: usize, tally: &m
     }
     let exact = whole.unwrap_or(5);
     for length in [exact, exact.saturating_sub(1), 0, exact + 1, exact + 9_000] {
-        if length > 8_192 && !tally.lists.is_multiple_of(50) {
+        if length > WORD_LIMIT && !tally.lists.is_multiple_of(50) {
             continue;
         }
         let [wanted, library, tuned] = calls.map(|call| {
@@ -144,7 +146,7 @@ fn damaged_trees() {
 /// All runs of up to four words that could mean something.
 #[test]
 fn all_short_types() {
-    const WORDS: u32 = 26;
+    const WORDS: u32 = kind::END + 1;
     let mut tally = Tally::default();
     for length in 0..=4 {
         for number in 0..WORDS.pow(length) {
@@ -159,9 +161,9 @@ fn all_short_types() {
 /// Pushes a tree of intersections with so many leaves.
 fn halves(words: &mut Vec<u32>, leaves: usize) {
     if leaves == 1 {
-        words.push(0);
+        words.push(U8);
     } else {
-        words.push(21);
+        words.push(INTERSECTION);
         halves(words, leaves / 2);
         halves(words, leaves - leaves / 2);
     }
@@ -171,19 +173,29 @@ fn halves(words: &mut Vec<u32>, leaves: usize) {
 #[test]
 fn longest_lists() {
     let mut tally = Tally::default();
-    for count in [8_189, 8_190, 8_191] {
-        let mut words = vec![19, count];
-        words.resize(count as usize + 2, 0);
+    for count in WORD_LIMIT - 3..WORD_LIMIT {
+        let mut words = vec![TUPLE, count as u32];
+        words.resize(count + 2, U8);
         check_type(&bare(&words), &mut tally);
-        words[0] = 26;
-        words.splice(1..2, [0, 0, 1, 0, 1, 0, 1, 1, count / 2 - 4]);
-        words.truncate(10);
-        words.resize(10 + 2 * (count as usize / 2 - 4), 1);
+        let fields = count / 2 - 4;
+        let mut words = vec![
+            ENUM,
+            EMPTY,
+            0,
+            STD,
+            0,
+            1,
+            EMPTY,
+            STD,
+            NAMELESS,
+            fields as u32,
+        ];
+        words.extend([PRIV, U16].repeat(fields));
         check_declaration(&bare(&words), &mut tally);
     }
-    let mut full = vec![15];
-    halves(&mut full, 4_096);
-    assert_eq!(full.len(), 8_192);
+    let mut full = vec![BORROWED];
+    halves(&mut full, WORD_LIMIT / 2);
+    assert_eq!(full.len(), WORD_LIMIT);
     check_type(&bare(&full), &mut tally);
     println!("{tally:?}");
     assert!(tally.lists == 6 && tally.refused[1] == 1);

@@ -4,6 +4,7 @@
 #![allow(dead_code)]
 
 use tillercoral::generate::Names;
+use tillercoral::words::{kind::*, name::*, pair, root::*};
 use tillercoral::EncodingBuf;
 
 /// The types in the drivers of a maker of marine instruments.
@@ -79,8 +80,10 @@ pub fn nested_paths(words: usize) -> EncodingBuf {
     let mut children = Vec::new();
     let mut count = 0;
     while children.len() + 18 <= words {
-        children.extend([14, 1, 13, 1, 4, 16, 17, 18, 19, 13, 0, 3, 1, 2, 3]);
+        children.extend([APP, 1, FROM_PATH, CRATE, 4]);
+        children.extend([0, 1, 2, 3].map(pair));
+        children.extend([FROM_PATH, GLOBAL, 3, STD, RC_MODULE, RC]);
         count += 1;
     }
-    names.with_words(&[&[19, count], &children[..]].concat())
+    names.with_words(&[&[TUPLE, count], &children[..]].concat())
 }

@@ -6,6 +6,7 @@
 use std::hint::black_box;
 use std::time::{Duration, Instant};
 
+use tillercoral::limits::WORD_LIMIT;
 use tillercoral::{Encoding, EncodingBuf, Refusal};
 
 pub type TextCall = fn(&Encoding<'_>, u32, &mut [u8]) -> Result<usize, Refusal>;
@@ -207,7 +208,7 @@ pub fn print_growth(kind: &Kind, makers: &[(&'static str, Maker)]) {
         for (version, which) in [("ours", 0), ("tuned", 1)] {
             print!("{:<18}", format!("{name}, {version}"));
             for part in [8, 4, 2, 1] {
-                let case = Case::new(kind, name, 0, vec![make(8_192 / part)]);
+                let case = Case::new(kind, name, 0, vec![make(WORD_LIMIT / part)]);
                 case.check();
                 let per_word = case.time()[which] / case.words() as f64;
                 print!(" {per_word:>9.2} ns");

@@ -4,14 +4,11 @@
 use std::io::{self, Read, Write};
 use std::process::ExitCode;
 
+use tillercoral::limits::{PAIR_LIMIT, PRINT_LIMIT, TEXT_LIMIT, WORD_LIMIT};
 use tillercoral::{tuned, Encoding, Refusal};
 
-const MOST_PAIRS: usize = 1_024;
-const MOST_WORDS: usize = 8_192;
-const MOST_TEXT: usize = 16_384;
 const HEADER: usize = 12;
-const LONGEST_FILE: usize = HEADER + 8 * MOST_PAIRS + 4 * MOST_WORDS + MOST_TEXT;
-const LONGEST_TEXT: usize = 65_536;
+const LONGEST_FILE: usize = HEADER + 8 * PAIR_LIMIT + 4 * WORD_LIMIT + TEXT_LIMIT;
 
 fn main() -> ExitCode {
     match run() {
@@ -28,9 +25,9 @@ fn run() -> io::Result<()> {
     let mut file = [0; LONGEST_FILE + 1];
     let length = read_file(&mut file)?;
     // One byte more than any text, for the newline.
-    let mut out = [0; LONGEST_TEXT + 1];
+    let mut out = [0; PRINT_LIMIT + 1];
     let mut stdout = io::stdout().lock();
-    match print(&file[..length], &mut out[..LONGEST_TEXT]) {
+    match print(&file[..length], &mut out[..PRINT_LIMIT]) {
         Ok(length) => {
             out[length] = b'\n';
             stdout.write_all(&out[..=length])?;
@@ -62,16 +59,16 @@ fn print(file: &[u8], out: &mut [u8]) -> Result<usize, Refusal> {
     let mut counts = [0; 3];
     decode(header, &mut counts);
     let [pair_count, word_count, text_length] = counts.map(|count| count as usize);
-    if pair_count > MOST_PAIRS || word_count > MOST_WORDS || text_length > MOST_TEXT {
+    if pair_count > PAIR_LIMIT || word_count > WORD_LIMIT || text_length > TEXT_LIMIT {
         return Err(Refusal::Overlong);
     }
     let (pair_bytes, word_bytes) = (8 * pair_count, 4 * word_count);
     if rest.len() != pair_bytes + word_bytes + text_length {
         return Err(Refusal::BadFileLength);
     }
-    let mut pairs = [0; 2 * MOST_PAIRS];
+    let mut pairs = [0; 2 * PAIR_LIMIT];
     let pairs = &mut pairs[..2 * pair_count];
-    let mut words = [0; MOST_WORDS];
+    let mut words = [0; WORD_LIMIT];
     let words = &mut words[..word_count];
     decode(&rest[..pair_bytes], pairs);
     decode(&rest[pair_bytes..pair_bytes + word_bytes], words);

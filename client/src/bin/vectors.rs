@@ -17,10 +17,17 @@ use std::path::{Path, PathBuf};
 use std::process::ExitCode;
 use std::{env, fs, io};
 
+use tillercoral::cases::{borrows_then, GAUGE, GAUGE_NAME, MM, OFFSET};
 use tillercoral::generate::{
     damage, random_declaration, random_doc, random_path, random_type, Names, Random, Shape,
 };
+use tillercoral::limits::{
+    DEPTH_LIMIT, LEVEL_LIMIT, PAIR_LIMIT, PRINT_LIMIT, TEXT_LIMIT, WORD_LIMIT,
+};
 use tillercoral::reference;
+use tillercoral::words::{
+    fields::*, head, head::*, kind, kind::*, name::*, pair, root::*, visibility::*,
+};
 use tillercoral::{Encoding, EncodingBuf, Refusal};
 
 #[path = "vectors/rebuild.rs"]
@@ -247,6 +254,9 @@ fn all_vectors() -> Vectors {
 const GAUGE_PAIRS: [u32; 8] = [0, 5, 5, 13, 18, 2, 20, 2];
 const GAUGE_TEXT: &[u8] = b"GaugeOffset in mm.mmid";
 
+/// A word that begins no type.
+const NO_KIND: u32 = kind::END;
+
 fn gauge(words: &[u32]) -> Encoding<'_> {
     Encoding {
         words,
@@ -263,23 +273,16 @@ fn bare(words: &[u32]) -> Encoding<'_> {
     }
 }
 
-/// `count` times `&`, then these words.
-fn borrows_then(count: usize, rest: &[u32]) -> Vec<u32> {
-    let mut words = vec![15; count];
-    words.extend(rest);
-    words
-}
-
 fn every_kind(vectors: &mut Vectors) {
-    for head in 0..=11 {
+    for head in U8..=BOOL {
         vectors.type_text(0, &bare(&[head]), 6);
     }
     vectors.sound(&bare(&[19, 12, 0, 1, 2, 3, 4, 5, 6, 7, 8, 9, 10, 11]));
-    let mut all_names = vec![19, 20];
-    all_names.extend((0..20).flat_map(|name| [12, name]));
+    let mut all_names = vec![TUPLE, 20];
+    all_names.extend((0..20).flat_map(|name| [IDENTIFIER, name]));
     vectors.type_both(&gauge(&all_names));
-    let mut all_sizes = vec![19, 21];
-    all_sizes.extend((0..21).flat_map(|size| [22, size, 0]));
+    let mut all_sizes = vec![TUPLE, 21];
+    all_sizes.extend((0..21).flat_map(|size| [ARRAY, size, U8]));
     vectors.type_both(&gauge(&all_sizes));
     for words in [
         // the marked cases (a) to (f)
@@ -418,7 +421,7 @@ fn buffers_and_levels(vectors: &mut Vectors) {
     for buffer in [11, 12, 13] {
         vectors.path_text(0, &gauge(&[1, 1, 16]), buffer);
     }
-    for level in [1, 16, 17, 256, u32::MAX] {
+    for level in [1, LEVEL_LIMIT, LEVEL_LIMIT + 1, 256, u32::MAX] {
         vectors.type_text(level, &gauge(&words), length + 4);
         vectors.path_text(level, &gauge(&[0, 2, 1, 2]), 16);
     }
@@ -452,7 +455,7 @@ fn paths(vectors: &mut Vectors) {
         &[0, u32::MAX, 1, 2],
         &[0, u32::MAX, 1, 20],
         &[0, 0, 0],
-        &[1, 1, 16, 25],
+        &[1, 1, 16, NO_KIND],
     ] {
         vectors.path_text(0, &gauge(words), 48);
     }
@@ -463,11 +466,11 @@ fn refusals_in_the_tree(vectors: &mut Vectors) {
     let mut words_refused: Vec<Vec<u32>> = [
         &[][..],
         // a head that is none
-        &[25],
-        &[28],
+        &[NO_KIND],
+        &[USE],
         &[most],
-        &[15, 25],
-        &[19, 2, 0, 25],
+        &[15, NO_KIND],
+        &[19, 2, 0, NO_KIND],
         // an end in each kind
         &[12],
         &[13],
@@ -505,16 +508,16 @@ fn refusals_in_the_tree(vectors: &mut Vectors) {
         &[23, 0, 12, 20],
         // the front comes first
         &[19, 2, 12, 20],
-        &[19, 3, 25, 0],
+        &[19, 3, NO_KIND, 0],
         // words left over
         &[0, 0],
-        &[0, 25],
+        &[0, NO_KIND],
         &[19, 0, most],
         &[14, 0, 12, 16, 0],
         // counts beyond all words
         &[19, most],
         &[19, most, 0, 0],
-        &[19, most, 0, 25],
+        &[19, most, 0, NO_KIND],
         &[14, most, 12, 16, 0],
         &[20, most, 0, 0],
         &[13, 0, most, 1, 1],
@@ -553,11 +556,11 @@ fn refusals_in_the_tree(vectors: &mut Vectors) {
         &[24, 3],
         &[0, 0],
     ] {
-        words_refused.push(borrows_then(63, rest));
+        words_refused.push(borrows_then(DEPTH_LIMIT - 1, rest));
     }
-    words_refused.push(borrows_then(64, &[]));
-    words_refused.push(borrows_then(64, &[0]));
-    words_refused.push(borrows_then(64, &[99]));
+    words_refused.push(borrows_then(DEPTH_LIMIT, &[]));
+    words_refused.push(borrows_then(DEPTH_LIMIT, &[0]));
+    words_refused.push(borrows_then(DEPTH_LIMIT, &[99]));
     for words in &words_refused {
         vectors.type_text(0, &gauge(words), 80);
     }
@@ -565,13 +568,13 @@ fn refusals_in_the_tree(vectors: &mut Vectors) {
         vectors.sound(&gauge(words));
     }
     // The depth is counted from the root, not from the last list: siblings do not add up.
-    let mut siblings = vec![19, 3];
+    let mut siblings = vec![TUPLE, 3];
     for _ in 0..3 {
-        siblings.extend(borrows_then(62, &[0]));
+        siblings.extend(borrows_then(DEPTH_LIMIT - 2, &[U8]));
     }
     vectors.type_text(0, &bare(&siblings), 256);
-    siblings[0] = 15;
-    siblings.splice(1..2, [19, 3]);
+    siblings[0] = BORROWED;
+    siblings.splice(1..2, [TUPLE, 3]);
     vectors.type_text(0, &bare(&siblings), 256);
 }
 
@@ -627,16 +630,16 @@ fn pair_tables(vectors: &mut Vectors) {
 fn order(vectors: &mut Vectors) {
     /// Level, words, pairs, text, length of the buffer.
     type Case<'a> = (u32, &'a [u32], &'a [u32], &'a [u8], usize);
-    let long_text = vec![b'x'; 16_385];
+    let long_text = vec![b'x'; TEXT_LIMIT + 1];
     let cases: [Case; 8] = [
-        (17, &[], &[9], &long_text, 0),    // 11 before 1
-        (16, &[], &[9], &long_text, 0),    // 1 before 2
-        (16, &[], &[9], b"", 0),           // 2 before 3
-        (16, &[25, 0], &[9, 0], b"", 0),   // 2 before 4
-        (0, &[19, 1, 25, 0], &[], b"", 0), // 4 before 6
-        (0, &[19, 2, 0], &[], b"", 0),     // 3 before 8
-        (0, &[0, 0], &[], b"", 0),         // 6 before 8
-        (0, &[0], &[], b"", 1),            // 8
+        (LEVEL_LIMIT + 1, &[], &[9], &long_text, 0), // 11 before 1
+        (LEVEL_LIMIT, &[], &[9], &long_text, 0),     // 1 before 2
+        (LEVEL_LIMIT, &[], &[9], b"", 0),            // 2 before 3
+        (LEVEL_LIMIT, &[NO_KIND, 0], &[9, 0], b"", 0), // 2 before 4
+        (0, &[19, 1, NO_KIND, 0], &[], b"", 0),      // 4 before 6
+        (0, &[19, 2, 0], &[], b"", 0),               // 3 before 8
+        (0, &[0, 0], &[], b"", 0),                   // 6 before 8
+        (0, &[0], &[], b"", 1),                      // 8
     ];
     for (level, words, pairs, text, buffer) in cases {
         let encoding = Encoding { words, pairs, text };
@@ -647,50 +650,53 @@ fn order(vectors: &mut Vectors) {
 fn limits(vectors: &mut Vectors) {
     // A synonym with a large base: many words, little text.
     let large = |words: usize| {
-        let mut large = vec![23, 0, 19, (words - 4) as u32];
-        large.resize(words, 11);
+        let mut large = vec![SYNONYM, U8, TUPLE, (words - 4) as u32];
+        large.resize(words, BOOL);
         large
     };
-    vectors.type_text(0, &bare(&large(8_192)), 8);
-    vectors.type_text(0, &bare(&large(8_193)), 8);
-    let mut wide = vec![19, 8_190];
-    wide.resize(8_192, 0);
+    vectors.type_text(0, &bare(&large(WORD_LIMIT)), 8);
+    vectors.type_text(0, &bare(&large(WORD_LIMIT + 1)), 8);
+    let mut wide = vec![TUPLE, WORD_LIMIT as u32 - 2];
+    wide.resize(WORD_LIMIT, U8);
     vectors.sound(&bare(&wide));
     vectors.type_text(0, &bare(&wide), 16);
 
     // 1,024 pairs, the last name used, the same with half a pair more, and one pair too many.
+    let most = 2 * PAIR_LIMIT;
+    let last = pair(PAIR_LIMIT as u32 - 1);
     let pairs_of = |length: usize| {
         let mut pairs = vec![0; length];
-        if length >= 2_048 {
-            pairs[2_047] = 2; // pair 1,023 is all of the text
+        if length >= most {
+            pairs[most - 1] = 2; // pair 1,023 is all of the text
         }
-        if length >= 2_050 {
-            pairs[2_048] = 2;
+        if length >= most + 2 {
+            pairs[most] = 2;
         }
         pairs
     };
-    for length in [2_048, 2_049, 2_050, 2_051] {
+    for length in most..most + 4 {
         let encoding = Encoding {
-            words: &[22, 1_040, 12, 1_039],
+            words: &[ARRAY, last + 1, IDENTIFIER, last],
             pairs: &pairs_of(length),
             text: b"mm",
         };
         vectors.type_text(0, &encoding, 12);
     }
     let too_far = Encoding {
-        words: &[12, 1_040],
-        pairs: &pairs_of(2_048),
+        words: &[IDENTIFIER, last + 1],
+        pairs: &pairs_of(most),
         text: b"mm",
     };
     vectors.type_text(0, &too_far, 12);
 
     // 16,384 bytes of text, used to the last one, and one byte too many.
-    for length in [16_384, 16_385] {
+    let edge = TEXT_LIMIT - 4;
+    for length in [TEXT_LIMIT, TEXT_LIMIT + 1] {
         let mut text = vec![b'-'; length];
-        text[16_380..16_384].copy_from_slice(b"edge");
+        text[edge..TEXT_LIMIT].copy_from_slice(b"edge");
         let encoding = Encoding {
-            words: &[0, 1, 16],
-            pairs: &[16_380, 4],
+            words: &[GLOBAL, 1, pair(0)],
+            pairs: &[edge as u32, 4],
             text: &text,
         };
         vectors.path_text(0, &encoding, 12);
@@ -698,7 +704,7 @@ fn limits(vectors: &mut Vectors) {
     // A text longer than any buffer here, though the words are few; and one that fills it.
     let text = vec![b'n'; 1_024];
     let four = Encoding {
-        words: &[0, 4, 16, 16, 16, 16],
+        words: &[GLOBAL, 4, pair(0), pair(0), pair(0), pair(0)],
         pairs: &[0, 1_022],
         text: &text,
     };
@@ -744,59 +750,85 @@ fn generated(vectors: &mut Vectors) {
 
 // Declarations.
 
-/// The papers' example.
-const GAUGE_WORDS: [u32; 14] = [25, 17, 0, 16, 0, 0, 2, 0, 18, 7, 1, 19, 15, 0];
+const A: u32 = pair(0);
+const B: u32 = pair(1);
+const SELF_PAIR: u32 = pair(2);
+const UNDER_PAIR: u32 = pair(3);
+const EMPTY_PAIR: u32 = pair(4);
 
 /// Names 16 `A`, 17 `B`, 18 `self`, 19 `_`, 20 empty.
 fn letters(words: &[u32]) -> EncodingBuf {
     Names::of(&[b"A", b"B", b"self", b"_", b""]).with_words(words)
 }
 
+/// `pub struct A<B, A: u8 + &u16 + u32 + u64>();`
+#[rustfmt::skip]
+const CONSTRAINED: [u32; 17] = [
+    STRUCT, EMPTY, 0, A, 2, B, 0, A, 3, U8, BORROWED, U16, INTERSECTION, U32, U64, NAMELESS, 0,
+];
+
 /// Whole declarations, one of each sort, with lists of none, one and several.
 const WHOLE: [&[u32]; 24] = [
-    &[25, 0, 0, 16, 0, 0, 0],
-    &[25, 0, 0, 16, 0, 1, 0],
-    &[25, 17, 0, 16, 0, 0, 1, 0, 17, 7],
+    &[STRUCT, EMPTY, 0, A, 0, NAMED, 0],
+    &[STRUCT, EMPTY, 0, A, 0, NAMELESS, 0],
+    &[STRUCT, B, 0, A, 0, NAMED, 1, PUB, B, I32],
     &[
-        25, 0, 0, 16, 0, 0, 3, 0, 16, 0, 1, 17, 15, 1, 1, 17, 19, 2, 0, 1,
+        STRUCT, EMPTY, 0, A, 0, NAMED, 3, PUB, A, U8, PRIV, B, BORROWED, U16, PRIV, B, TUPLE, 2,
+        U8, U16,
     ],
-    &[25, 0, 0, 16, 0, 1, 1, 0, 0],
-    &[25, 0, 0, 16, 0, 1, 2, 0, 0, 1, 1],
-    &[25, 17, 1, 16, 0, 16, 0, 1, 2, 1, 0, 1, 1],
-    &[25, 17, 3, 16, 0, 17, 1, 0, 0, 2, 1, 2, 16, 0, 0, 0],
-    &[25, 0, 0, 16, 2, 17, 0, 16, 3, 0, 15, 1, 21, 2, 3, 1, 0],
-    &[25, 20, 0, 20, 0, 0, 1, 1, 20, 12, 20],
-    &[25, 15, 0, 15, 1, 15, 1, 12, 15, 0, 0],
-    &[26, 0, 0, 16, 0, 0],
-    &[26, 17, 1, 16, 1, 17, 16, 1, 17, 1, 12, 16, 0],
-    &[26, 0, 0, 16, 0, 2, 0, 17, 0, 0, 0, 16, 1, 0],
-    &[26, 0, 0, 16, 0, 1, 0, 17, 1, 2, 0, 0, 1, 1],
-    &[26, 0, 0, 16, 0, 1, 17, 17, 0, 2, 0, 16, 0, 1, 17, 1],
+    &[STRUCT, EMPTY, 0, A, 0, NAMELESS, 1, PUB, U8],
+    &[STRUCT, EMPTY, 0, A, 0, NAMELESS, 2, PUB, U8, PRIV, U16],
+    &[STRUCT, B, 1, A, 0, A, 0, NAMELESS, 2, PRIV, U8, PRIV, U16],
     &[
-        26, 15, 0, 16, 0, 3, 17, 17, 0, 2, 0, 16, 0, 1, 17, 1, 16, 16, 1, 1, 1, 11, 0, 16, 0, 0,
+        STRUCT, B, 3, A, 0, B, 1, EMPTY, EMPTY, 2, STD, RC_MODULE, A, 0, NAMED, 0,
     ],
-    &[27, 0, 0, 16, 0, 0],
+    &CONSTRAINED,
     &[
-        27, 17, 2, 16, 0, 17, 1, 16, 16, 2, 16, 0, 17, 2, 0, 1, 14, 1, 12, 16, 12, 17,
+        STRUCT, EMPTY_PAIR, 0, EMPTY_PAIR, 0, NAMED, 1, PRIV, EMPTY_PAIR, IDENTIFIER, EMPTY_PAIR,
     ],
-    &[27, 0, 0, 16, 1, 17, 1, 12, 14, 12, 19],
-    &[28, 1, 0, 0],
-    &[28, 0, 0, 3, 1, 2, 3],
-    &[28, 1, 2, 2, 16, 0],
-    &[28, 0, 1, 1, 16],
+    &[
+        STRUCT, SELF, 0, SELF, 1, SELF, 1, IDENTIFIER, SELF, NAMED, 0,
+    ],
+    &[ENUM, EMPTY, 0, A, 0, 0],
+    &[ENUM, B, 1, A, 1, B, A, 1, B, 1, IDENTIFIER, A, 0],
+    &[
+        ENUM, EMPTY, 0, A, 0, 2, EMPTY, B, NAMED, 0, EMPTY, A, NAMELESS, 0,
+    ],
+    &[
+        ENUM, EMPTY, 0, A, 0, 1, EMPTY, B, NAMELESS, 2, PUB, U8, PRIV, U16,
+    ],
+    &[
+        ENUM, EMPTY, 0, A, 0, 1, B, B, NAMED, 2, PUB, A, U8, PRIV, B, U16,
+    ],
+    &[
+        ENUM, SELF, 0, A, 0, 3, B, B, NAMED, 2, PUB, A, U8, PRIV, B, U16, A, A, NAMELESS, 1, PRIV,
+        BOOL, EMPTY, A, NAMED, 0,
+    ],
+    &[TYPE, EMPTY, 0, A, 0, U8],
+    &[
+        TYPE, B, 2, A, 0, B, 1, A, A, 2, A, 0, B, 2, U8, U16, APP, 1, IDENTIFIER, A, IDENTIFIER, B,
+    ],
+    &[
+        TYPE, EMPTY, 0, A, 1, B, 1, IDENTIFIER, UNDERSCORE, IDENTIFIER, UNDER_PAIR,
+    ],
+    &[USE, PRIV, GLOBAL, 0],
+    &[USE, PUB, GLOBAL, 3, STD, RC_MODULE, RC],
+    &[USE, PRIV, SELF_TYPE, 2, A, EMPTY],
+    &[USE, PUB, CRATE, 1, A],
 ];
 
 fn declarations(vectors: &mut Vectors) {
-    let length = reference::read_declaration(&gauge(&GAUGE_WORDS))
-        .map_or(0, |it| it.reference_text(0).len());
+    let length =
+        reference::read_declaration(&gauge(&GAUGE)).map_or(0, |it| it.reference_text(0).len());
     for buffer in [0, 1, length - 1, length, length + 1, 2 * length] {
-        vectors.declaration_text(0, &gauge(&GAUGE_WORDS), buffer);
+        vectors.declaration_text(0, &gauge(&GAUGE), buffer);
     }
-    for level in [1, 2, 15, 16, 17, 256, u32::MAX] {
-        vectors.declaration_text(level, &gauge(&GAUGE_WORDS), 400);
+    let most = LEVEL_LIMIT;
+    for level in [1, 2, most - 1, most, most + 1, 256, u32::MAX] {
+        vectors.declaration_text(level, &gauge(&GAUGE), 400);
     }
     for words in WHOLE {
-        for level in [0, 1, 16] {
+        for level in [0, 1, LEVEL_LIMIT] {
             vectors.declaration(level, &letters(words).as_encoding());
         }
     }
@@ -805,60 +837,67 @@ fn declarations(vectors: &mut Vectors) {
 /// Fields named self and fields of type `_`, all in one struct or case.
 fn fields_by_formal(vectors: &mut Vectors) {
     let types: [&[u32]; 29] = [
-        &[13, 2, 0],
-        &[23, 0, 13, 2, 0],
-        &[23, 13, 2, 0, 0],
-        &[24, 3, 13, 2, 0],
-        &[23, 0, 24, 0, 23, 1, 13, 2, 0],
-        &[23, 19, 2, 0, 23, 1, 2, 13, 2, 0],
-        &[24, 0, 23, 13, 2, 0, 13, 2, 0],
-        &[15, 13, 2, 0],
-        &[16, 13, 2, 0],
-        &[15, 24, 0, 13, 2, 0],
-        &[24, 0, 15, 13, 2, 0],
-        &[23, 0, 15, 13, 2, 0],
-        &[15, 23, 0, 13, 2, 0],
-        &[16, 23, 0, 13, 2, 0],
-        &[15, 15, 13, 2, 0],
-        &[15, 16, 13, 2, 0],
-        &[14, 0, 13, 2, 0],
-        &[13, 2, 1, 16],
-        &[13, 2, 1, 0],
-        &[15, 13, 2, 1, 0],
-        &[13, 1, 0],
-        &[13, 0, 0],
-        &[12, 14],
-        &[12, 19],
-        &[24, 0, 12, 14],
-        &[23, 12, 19, 0],
-        &[23, 0, 12, 14],
-        &[13, 0, 1, 14],
-        &[0],
+        &[FROM_PATH, SELF_TYPE, 0],
+        &[SYNONYM, U8, FROM_PATH, SELF_TYPE, 0],
+        &[SYNONYM, FROM_PATH, SELF_TYPE, 0, U8],
+        &[META_DATA, 3, FROM_PATH, SELF_TYPE, 0],
+        &[
+            SYNONYM, U8, META_DATA, 0, SYNONYM, U16, FROM_PATH, SELF_TYPE, 0,
+        ],
+        &[
+            SYNONYM, TUPLE, 2, U8, SYNONYM, U16, U32, FROM_PATH, SELF_TYPE, 0,
+        ],
+        &[
+            META_DATA, 0, SYNONYM, FROM_PATH, SELF_TYPE, 0, FROM_PATH, SELF_TYPE, 0,
+        ],
+        &[BORROWED, FROM_PATH, SELF_TYPE, 0],
+        &[BORROWED_MUT, FROM_PATH, SELF_TYPE, 0],
+        &[BORROWED, META_DATA, 0, FROM_PATH, SELF_TYPE, 0],
+        &[META_DATA, 0, BORROWED, FROM_PATH, SELF_TYPE, 0],
+        &[SYNONYM, U8, BORROWED, FROM_PATH, SELF_TYPE, 0],
+        &[BORROWED, SYNONYM, U8, FROM_PATH, SELF_TYPE, 0],
+        &[BORROWED_MUT, SYNONYM, U8, FROM_PATH, SELF_TYPE, 0],
+        &[BORROWED, BORROWED, FROM_PATH, SELF_TYPE, 0],
+        &[BORROWED, BORROWED_MUT, FROM_PATH, SELF_TYPE, 0],
+        &[APP, 0, FROM_PATH, SELF_TYPE, 0],
+        &[FROM_PATH, SELF_TYPE, 1, A],
+        &[FROM_PATH, SELF_TYPE, 1, EMPTY],
+        &[BORROWED, FROM_PATH, SELF_TYPE, 1, EMPTY],
+        &[FROM_PATH, CRATE, 0],
+        &[FROM_PATH, GLOBAL, 0],
+        &[IDENTIFIER, UNDERSCORE],
+        &[IDENTIFIER, UNDER_PAIR],
+        &[META_DATA, 0, IDENTIFIER, UNDERSCORE],
+        &[SYNONYM, IDENTIFIER, UNDER_PAIR, U8],
+        &[SYNONYM, U8, IDENTIFIER, UNDERSCORE],
+        &[FROM_PATH, GLOBAL, 1, UNDERSCORE],
+        &[U8],
     ];
-    for name in [15, 16, 18] {
-        for visibility in [0, 1] {
-            let mut fields = vec![0, types.len() as u32];
+    for name in [SELF, A, SELF_PAIR] {
+        for visibility in [PUB, PRIV] {
+            let mut fields = vec![NAMED, types.len() as u32];
             for of in types {
                 fields.extend([visibility, name]);
                 fields.extend(of);
             }
-            let of_struct = [&[25, 0, 0, 16, 0], &fields[..]].concat();
+            let of_struct = [&[STRUCT, EMPTY, 0, A, 0], &fields[..]].concat();
             vectors.declaration(0, &letters(&of_struct).as_encoding());
-            let of_case = [&[26, 0, 0, 16, 0, 1, 0, 17], &fields[..]].concat();
+            let of_case = [&[ENUM, EMPTY, 0, A, 0, 1, EMPTY, B], &fields[..]].concat();
             vectors.declaration(1, &letters(&of_case).as_encoding());
         }
     }
-    let mut nameless = vec![25, 0, 0, 16, 0, 1, types.len() as u32];
+    let mut nameless = vec![STRUCT, EMPTY, 0, A, 0, NAMELESS, types.len() as u32];
     for of in types {
-        nameless.push(1);
+        nameless.push(PRIV);
         nameless.extend(of);
     }
     vectors.declaration(0, &letters(&nameless).as_encoding());
     // Almost self: a name that begins with it, or is longer or shorter by a byte.
     let names = Names::of(&[b"A", b"sel", b"selfs", b"Self", b"self ", b"__"]);
-    let mut fields = vec![25, 0, 0, 16, 0, 0, 10];
-    for name in 17..22 {
-        fields.extend([1, name, 13, 2, 0, 1, 16, 12, name]);
+    let mut fields = vec![STRUCT, EMPTY, 0, A, 0, NAMED, 10];
+    for name in pair(1)..pair(6) {
+        fields.extend([PRIV, name, FROM_PATH, SELF_TYPE, 0]);
+        fields.extend([PRIV, A, IDENTIFIER, name]);
     }
     vectors.declaration(0, &names.with_words(&fields).as_encoding());
 }
@@ -930,13 +969,18 @@ fn docs(vectors: &mut Vectors) {
     ];
     for (number, doc) in docs.into_iter().enumerate() {
         let names = Names::of(&[doc, b"A"]);
-        let level = [0, 0, 1, 16][number % 4];
+        let [comment, name] = [pair(0), pair(1)];
+        let level = [0, 0, 1, LEVEL_LIMIT][number % 4];
         vectors.declaration(
             level,
-            &names.with_words(&[25, 16, 0, 17, 0, 1, 0]).as_encoding(),
+            &names
+                .with_words(&[STRUCT, comment, 0, name, 0, NAMELESS, 0])
+                .as_encoding(),
         );
         if number % 3 == 0 {
-            let case = [26, 16, 0, 17, 0, 2, 16, 17, 1, 0, 16, 17, 0, 0];
+            let case = [
+                ENUM, comment, 0, name, 0, 2, comment, name, NAMELESS, 0, comment, name, NAMED, 0,
+            ];
             vectors.declaration(level, &names.with_words(&case).as_encoding());
         }
     }
@@ -946,14 +990,21 @@ fn docs(vectors: &mut Vectors) {
         let names = Names::of(&[b"A", &doc]);
         vectors.declaration(
             round % 3,
-            &names.with_words(&[25, 17, 0, 16, 0, 0, 0]).as_encoding(),
+            &names
+                .with_words(&[STRUCT, pair(1), 0, pair(0), 0, NAMED, 0])
+                .as_encoding(),
         );
     }
     // A doc of one long line, and one of many.
     let long = [&[b'd'; 3_000][..], b"\n    ", &[b'd'; 500]].concat();
     for doc in [&long[..], &[b'\n'; 200], &b"    x\n```\n".repeat(30)] {
         let names = Names::of(&[doc]);
-        vectors.declaration(2, &names.with_words(&[27, 16, 0, 0, 0, 0]).as_encoding());
+        vectors.declaration(
+            2,
+            &names
+                .with_words(&[TYPE, pair(0), 0, EMPTY, 0, U8])
+                .as_encoding(),
+        );
     }
 }
 
@@ -962,16 +1013,20 @@ fn refusals_in_declarations(vectors: &mut Vectors) {
     // Every front part of some declarations, and a word too many.
     for words in [
         &[
-            25, 17, 1, 16, 1, 16, 16, 1, 16, 1, 0, 0, 2, 0, 16, 0, 1, 17, 15, 1,
+            STRUCT, OFFSET, 1, GAUGE_NAME, 1, GAUGE_NAME, GAUGE_NAME, 1, GAUGE_NAME, 1, U8, NAMED,
+            2, PUB, GAUGE_NAME, U8, PRIV, OFFSET, BORROWED, U16,
         ][..],
-        &[26, 17, 0, 16, 0, 2, 16, 17, 0, 0, 0, 16, 1, 1, 1, 11],
-        &[27, 0, 0, 16, 0, 19, 2, 0, 1],
-        &[28, 0, 1, 2, 16, 17],
+        &[
+            ENUM, OFFSET, 0, GAUGE_NAME, 0, 2, GAUGE_NAME, OFFSET, NAMED, 0, EMPTY, GAUGE_NAME,
+            NAMELESS, 1, PRIV, BOOL,
+        ],
+        &[TYPE, EMPTY, 0, GAUGE_NAME, 0, TUPLE, 2, U8, U16],
+        &[USE, PUB, CRATE, 2, GAUGE_NAME, OFFSET],
     ] {
         for length in 0..words.len() {
             vectors.declaration_text(0, &gauge(&words[..length]), 8);
         }
-        for word in [0, 25, most] {
+        for word in [0, NO_KIND, most] {
             vectors.declaration_text(0, &gauge(&[words, &[word]].concat()), 300);
         }
     }
@@ -979,60 +1034,79 @@ fn refusals_in_declarations(vectors: &mut Vectors) {
         &[0][..],
         &[12, 16],
         &[24, 0, 0],
-        &[29],
+        &[head::END],
         &[most],
-        &[25, 20],
-        &[25, most],
-        &[25, 0, 1, 20],
-        &[25, 0, 1, 16, 1, 20],
-        &[25, 0, 0, 20],
-        &[25, 0, 0, 16, 1, 20],
-        &[25, 0, 0, 16, 1, 16, 1, 25],
-        &[25, 0, 0, 16, 0, 2],
-        &[25, 0, 0, 16, 0, most],
-        &[25, 0, 0, 16, 0, 0, 1, 2],
-        &[25, 0, 0, 16, 0, 0, 1, 0, 20],
-        &[25, 0, 0, 16, 0, 0, 1, 0, 16, 25],
-        &[25, 0, 0, 16, 0, 1, 1, 2],
-        &[26, 0, 0, 16, 0, 1, 20],
-        &[26, 0, 0, 16, 0, 1, 0, 20],
-        &[26, 0, 0, 16, 0, 1, 0, 16, 2],
-        &[27, 0, 0, 16, 0, 26],
-        &[28, 2],
-        &[28, 0, 3],
-        &[28, 0, 0, 1, 20],
+        &[STRUCT, pair(4)],
+        &[STRUCT, most],
+        &[STRUCT, EMPTY, 1, pair(4)],
+        &[STRUCT, EMPTY, 1, GAUGE_NAME, 1, pair(4)],
+        &[STRUCT, EMPTY, 0, pair(4)],
+        &[STRUCT, EMPTY, 0, GAUGE_NAME, 1, pair(4)],
+        &[STRUCT, EMPTY, 0, GAUGE_NAME, 1, GAUGE_NAME, 1, NO_KIND],
+        &[STRUCT, EMPTY, 0, GAUGE_NAME, 0, 2],
+        &[STRUCT, EMPTY, 0, GAUGE_NAME, 0, most],
+        &[STRUCT, EMPTY, 0, GAUGE_NAME, 0, NAMED, 1, 2],
+        &[STRUCT, EMPTY, 0, GAUGE_NAME, 0, NAMED, 1, PUB, pair(4)],
+        &[
+            STRUCT, EMPTY, 0, GAUGE_NAME, 0, NAMED, 1, PUB, GAUGE_NAME, NO_KIND,
+        ],
+        &[STRUCT, EMPTY, 0, GAUGE_NAME, 0, NAMELESS, 1, 2],
+        &[ENUM, EMPTY, 0, GAUGE_NAME, 0, 1, pair(4)],
+        &[ENUM, EMPTY, 0, GAUGE_NAME, 0, 1, EMPTY, pair(4)],
+        &[ENUM, EMPTY, 0, GAUGE_NAME, 0, 1, EMPTY, GAUGE_NAME, 2],
+        &[TYPE, EMPTY, 0, GAUGE_NAME, 0, ENUM],
+        &[USE, 2],
+        &[USE, PUB, 3],
+        &[USE, PUB, GLOBAL, 1, pair(4)],
         // counts beyond all words
-        &[25, 0, most, 16, 0, 99],
-        &[25, 0, most, 16, 0],
-        &[25, 0, 1, 16, most, 16],
-        &[25, 0, 0, 16, most, 16, 0],
-        &[25, 0, 0, 16, 1, 16, most, 0],
-        &[25, 0, 0, 16, 0, 0, most, 0, 16, 0],
-        &[25, 0, 0, 16, 0, 1, most, 0, 0],
-        &[26, 0, 0, 16, 0, most, 0, 16, 1, 0, 99],
-        &[26, 0, 0, 16, 0, most, 0, 16, 1, most, 0, 0],
-        &[28, 0, 0, most, 16],
+        &[STRUCT, EMPTY, most, GAUGE_NAME, 0, 99],
+        &[STRUCT, EMPTY, most, GAUGE_NAME, 0],
+        &[STRUCT, EMPTY, 1, GAUGE_NAME, most, GAUGE_NAME],
+        &[STRUCT, EMPTY, 0, GAUGE_NAME, most, GAUGE_NAME, 0],
+        &[STRUCT, EMPTY, 0, GAUGE_NAME, 1, GAUGE_NAME, most, U8],
+        &[
+            STRUCT, EMPTY, 0, GAUGE_NAME, 0, NAMED, most, PUB, GAUGE_NAME, U8,
+        ],
+        &[STRUCT, EMPTY, 0, GAUGE_NAME, 0, NAMELESS, most, PUB, U8],
+        &[
+            ENUM, EMPTY, 0, GAUGE_NAME, 0, most, EMPTY, GAUGE_NAME, NAMELESS, 0, 99,
+        ],
+        &[
+            ENUM, EMPTY, 0, GAUGE_NAME, 0, most, EMPTY, GAUGE_NAME, NAMELESS, most, PUB, U8,
+        ],
+        &[USE, PUB, GLOBAL, most, GAUGE_NAME],
     ] {
         vectors.declaration_text(0, &gauge(words), 16);
     }
     // Depth is counted anew in each type.
-    for count in [63, 64] {
+    for count in [DEPTH_LIMIT - 1, DEPTH_LIMIT] {
         for inner in [&[0][..], &[], &[13, 2, 0], &[24, 9]] {
             let deep = borrows_then(count, inner);
-            let field = [&[25, 0, 0, 16, 0, 0, 2, 0, 18, 0, 1, 15], &deep[..]].concat();
+            let field = [
+                &[
+                    STRUCT, EMPTY, 0, GAUGE_NAME, 0, NAMED, 2, PUB, MM, U8, PRIV, SELF,
+                ],
+                &deep[..],
+            ]
+            .concat();
             vectors.declaration_text(0, &gauge(&field), 200);
-            let constraint = [&[27, 0, 0, 16, 1, 16, 2, 0], &deep[..], &[0]].concat();
+            let constraint = [
+                &[TYPE, EMPTY, 0, GAUGE_NAME, 1, GAUGE_NAME, 2, U8],
+                &deep[..],
+                &[0],
+            ]
+            .concat();
             vectors.declaration_text(0, &gauge(&constraint), 200);
         }
     }
     // 11 before 1 before 2 before 3 and 4.
-    let long_text = vec![b'x'; 16_385];
+    let long_text = vec![b'x'; TEXT_LIMIT + 1];
     for (level, words, pairs, text) in [
-        (17, &[][..], &[9][..], &long_text[..]),
-        (16, &[], &[9], &long_text),
-        (16, &[], &[9], b""),
-        (16, &[99], &[9, 0], b""),
-        (16, &[99], &[], b""),
+        (LEVEL_LIMIT + 1, &[][..], &[9][..], &long_text[..]),
+        (LEVEL_LIMIT, &[], &[9], &long_text),
+        (LEVEL_LIMIT, &[], &[9], b""),
+        (LEVEL_LIMIT, &[99], &[9, 0], b""),
+        (LEVEL_LIMIT, &[99], &[], b""),
     ] {
         vectors.declaration_text(level, &Encoding { words, pairs, text }, 4);
     }
@@ -1040,29 +1114,39 @@ fn refusals_in_declarations(vectors: &mut Vectors) {
 
 fn limits_of_declarations(vectors: &mut Vectors) {
     // Many words and little text: a base that does not show.
-    for length in [8_192, 8_193] {
-        let mut words = vec![25, 0, 0, 16, 0, 0, 1, 1, 15, 23, 19, length - 15];
-        words.resize(length as usize - 3, 11);
-        words.extend([13, 2, 0]);
+    for length in [WORD_LIMIT, WORD_LIMIT + 1] {
+        let mut words = vec![STRUCT, EMPTY, 0, GAUGE_NAME, 0, NAMED, 1, PRIV, SELF];
+        words.extend([SYNONYM, TUPLE, length as u32 - 15]);
+        words.resize(length - 3, BOOL);
+        words.extend([FROM_PATH, SELF_TYPE, 0]);
         vectors.declaration_text(0, &gauge(&words), 64);
     }
     // The last of 1,024 pairs as every name, then one number too far.
-    let mut pairs = vec![0; 2_048];
-    pairs[2_047] = 2;
-    for last in [1_039, 1_040] {
+    let mut pairs = vec![0; 2 * PAIR_LIMIT];
+    pairs[2 * PAIR_LIMIT - 1] = 2;
+    let last = pair(PAIR_LIMIT as u32 - 1);
+    for doc in [last, last + 1] {
         let encoding = Encoding {
-            words: &[25, last, 0, 1_039, 0, 0, 1, 1, 1_039, 12, 1_039],
+            words: &[
+                STRUCT, doc, 0, last, 0, NAMED, 1, PRIV, last, IDENTIFIER, last,
+            ],
             pairs: &pairs,
             text: b"mm",
         };
         vectors.declaration_text(0, &encoding, 64);
     }
     // A doc of 16,384 bytes does not fit, whatever it is; a name at the edge of the text does.
-    let mut text = vec![b'\n'; 16_384];
-    text[16_380..].copy_from_slice(b"edge");
-    for (pair, level) in [([0, 16_384], 16), ([16_380, 4], 16), ([16_380, 5], 0)] {
+    let mut text = vec![b'\n'; TEXT_LIMIT];
+    text[TEXT_LIMIT - 4..].copy_from_slice(b"edge");
+    let name = pair(0);
+    let end = TEXT_LIMIT as u32;
+    for (pair, level) in [
+        ([0, end], LEVEL_LIMIT),
+        ([end - 4, 4], LEVEL_LIMIT),
+        ([end - 4, 5], 0),
+    ] {
         let encoding = Encoding {
-            words: &[26, 16, 0, 16, 0, 1, 16, 16, 1, 0],
+            words: &[ENUM, name, 0, name, 0, 1, name, name, NAMELESS, 0],
             pairs: &pair,
             text: &text,
         };
@@ -1085,14 +1169,14 @@ fn generated_declarations(vectors: &mut Vectors) {
         if round % 4 == 3 {
             damage(random, &mut sample);
         }
-        let level = random.below(17) as u32;
+        let level = random.below(LEVEL_LIMIT as usize + 1) as u32;
         vectors.declaration(level, &sample.as_encoding());
     }
 }
 
 /// Whole files of the program printdecl.
 fn files(vectors: &mut Vectors) {
-    let whole = gauge(&GAUGE_WORDS).to_file();
+    let whole = gauge(&GAUGE).to_file();
     vectors.printdecl(&whole);
     for length in [0, 1, 4, 8, 11, 12, 13, 43, 44, 99, 100, whole.len() - 1] {
         vectors.printdecl(&whole[..length]);
@@ -1143,19 +1227,21 @@ fn files(vectors: &mut Vectors) {
 
 fn headers(vectors: &mut Vectors) {
     let most = u32::MAX;
+    let limits = [PAIR_LIMIT, WORD_LIMIT, TEXT_LIMIT].map(|limit| limit as u32);
+    let [pairs, words, text] = limits;
     for header in [
         [0, 0, 0],
         [1, 0, 0],
         [0, 1, 0],
         [0, 0, 1],
-        [1_025, 0, 0],
-        [0, 8_193, 0],
-        [0, 0, 16_385],
+        [pairs + 1, 0, 0],
+        [0, words + 1, 0],
+        [0, 0, text + 1],
         [most, 0, 0],
         [0, most, 0],
         [0, 0, most],
-        [1_024, 8_192, 16_384],
-        [1_025, most, most],
+        limits,
+        [pairs + 1, most, most],
         // sizes in bytes that come to 0 or so in 32 bits
         [1 << 29, 0, 0],
         [0, 1 << 30, 0],
@@ -1164,7 +1250,7 @@ fn headers(vectors: &mut Vectors) {
     ] {
         let header: Vec<u8> = header.into_iter().flat_map(u32::to_le_bytes).collect();
         vectors.printdecl(&header);
-        vectors.printdecl(&[&header[..], &25_u32.to_le_bytes()].concat());
+        vectors.printdecl(&[&header[..], &STRUCT.to_le_bytes()].concat());
     }
     // 9 before 2, 2 before 4.
     let bad = Encoding {
@@ -1178,10 +1264,12 @@ fn headers(vectors: &mut Vectors) {
 
 fn largest_files(vectors: &mut Vectors) {
     // 1,024 pairs, 8,192 words, 16,384 bytes, and more than that.
-    let stock: Vec<Vec<u8>> = vec![vec![b'n'; 16]; 1_024];
+    let stock: Vec<Vec<u8>> = vec![vec![b'n'; TEXT_LIMIT / PAIR_LIMIT]; PAIR_LIMIT];
     let names = Names::of(&stock.iter().map(Vec::as_slice).collect::<Vec<_>>());
-    let mut words = vec![27, 16, 0, 1_039, 0, 23, 12, 17, 19, 8_182];
-    words.resize(8_192, 11);
+    let last = pair(PAIR_LIMIT as u32 - 1);
+    let mut words = vec![TYPE, pair(0), 0, last, 0, SYNONYM, IDENTIFIER, pair(1)];
+    words.extend([TUPLE, WORD_LIMIT as u32 - 10]);
+    words.resize(WORD_LIMIT, BOOL);
     let largest = names.with_words(&words);
     let whole = largest.to_file();
     assert_eq!(whole.len(), 57_356, "the longest file that is accepted");
@@ -1192,15 +1280,14 @@ fn largest_files(vectors: &mut Vectors) {
     longer.resize(MOST_TEXT, b'x');
     vectors.printdecl(&longer);
     let mut one_word_more = largest;
-    one_word_more.words.push(11);
+    one_word_more.words.push(BOOL);
     vectors.printdecl(&one_word_more.to_file());
     // A text that just fits the program's buffer, and one that does not.
-    for length in [65_536, 65_537] {
+    for length in [PRINT_LIMIT, PRINT_LIMIT + 1] {
         let (name, extra) = ((length - 20) / 4, (length - 20) % 4);
         let names = Names::of(&[&vec![b'n'; name], &vec![b'e'; extra]]);
-        let words = [
-            25, 0, 0, 17, 0, 1, 4, 1, 12, 16, 1, 12, 16, 1, 12, 16, 1, 12, 16,
-        ];
+        let front = [STRUCT, EMPTY, 0, pair(1), 0, NAMELESS, 4];
+        let words = [&front[..], &[PRIV, IDENTIFIER, pair(0)].repeat(4)].concat();
         vectors.printdecl(&names.with_words(&words).to_file());
     }
 }

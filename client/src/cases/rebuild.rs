@@ -2,8 +2,10 @@
 
 use super::{
     borrows_then, joined, rebuilt, refused, with_least_room, WordCase, ARRAY2_OF, GAUGE,
-    MAYBE_UNINIT_OF, OBJECT_OF, PTR_OF,
+    GAUGE_NAME, ID, MAYBE_UNINIT_OF, MM, OBJECT_OF, OFFSET, PTR_OF,
 };
+use crate::limits::{DEPTH_LIMIT, RULE_LIMIT};
+use crate::words::{fields::*, head::*, kind, kind::*, name::*, root::*, visibility::*, NO_SIZE};
 
 /// Rebuilt types.
 pub fn type_rebuilds() -> Vec<WordCase> {
@@ -51,9 +53,9 @@ fn replacements() -> Vec<WordCase> {
 
 /// Rules for metadata around plain types: the last turns `24 3 7` into `22 32 0`.
 fn thirty_two_rules() -> Vec<u32> {
-    let mut rules = vec![32];
-    for number in 0..32 {
-        rules.extend([24, number / 8, number % 8, 22, number + 1, 0]);
+    let mut rules = vec![RULE_LIMIT as u32];
+    for number in 0..RULE_LIMIT as u32 {
+        rules.extend([META_DATA, number / 8, number % 8, ARRAY, number + 1, U8]);
     }
     rules
 }
@@ -146,40 +148,48 @@ fn peaks() -> Vec<WordCase> {
 
 fn depths() -> Vec<WordCase> {
     let room = |case: WordCase, buffer| WordCase { buffer, ..case };
-    let deepest = borrows_then(63, &[0]);
+    let inside = DEPTH_LIMIT - 1;
+    let deepest = borrows_then(inside, &[0]);
+    let length = deepest.len();
     let deeper = &[1, 0, 15, 0];
     // Inside 63 borrows a second one comes and both go again.
     let back_again = &[2, 0, 15, 0, 15, 15, 0, 1];
     vec![
-        room(rebuilt(&deepest, &[1, 0, 1], &borrows_then(63, &[1])), 64),
-        room(refused(&deepest, deeper, 5), 65),
-        room(refused(&deepest, deeper, 5), 100),
-        room(refused(&deepest, deeper, 8), 64), // 8 comes before 5
-        room(rebuilt(&deepest, back_again, &borrows_then(62, &[1])), 65),
-        room(refused(&deepest, back_again, 8), 64),
         room(
-            rebuilt(&deepest, &[1, 0, 19, 0], &borrows_then(63, &[19, 0])),
-            65,
+            rebuilt(&deepest, &[1, 0, 1], &borrows_then(inside, &[1])),
+            length,
         ),
-        room(refused(&deepest, &[1, 0, 19, 1, 0], 5), 66),
+        room(refused(&deepest, deeper, 5), length + 1),
+        room(refused(&deepest, deeper, 5), 100),
+        room(refused(&deepest, deeper, 8), length), // 8 comes before 5
+        room(
+            rebuilt(&deepest, back_again, &borrows_then(inside - 1, &[1])),
+            length + 1,
+        ),
+        room(refused(&deepest, back_again, 8), length),
+        room(
+            rebuilt(&deepest, &[1, 0, 19, 0], &borrows_then(inside, &[19, 0])),
+            length + 1,
+        ),
+        room(refused(&deepest, &[1, 0, 19, 1, 0], 5), length + 2),
     ]
 }
 
 fn refused_rules() -> Vec<WordCase> {
     vec![
         refused(&[0], &[], 3),
-        refused(&[0], &[33], 4),
+        refused(&[0], &[RULE_LIMIT as u32 + 1], 4),
         refused(&[0], &[u32::MAX], 4),
         refused(&[0], &[1], 3),
         refused(&[0], &[1, 0], 3),
         refused(&[0], &[1, 15], 3),
-        refused(&[0], &[1, 0, 25], 4),
-        refused(&[0], &[1, 25, 0], 4),
+        refused(&[0], &[1, 0, kind::END], 4),
+        refused(&[0], &[1, kind::END, 0], 4),
         refused(&[0], &[1, 12, 36, 0], 4),
         refused(&[0], &[1, 0, 12, 36], 4),
         refused(&[0], &[0, 0], 6),
-        refused(&[0], &[1, 0, 1, 25], 6),
-        refused(&[0], &[32, 0, 1], 3),
+        refused(&[0], &[1, 0, 1, kind::END], 6),
+        refused(&[0], &[RULE_LIMIT as u32, 0, 1], 3),
         // Two rules with equal from, whatever their tos, and after all words were read.
         refused(&[1], &[2, 0, 1, 0, 1], 10),
         refused(&[1], &[2, 0, 1, 0, 2], 10),
@@ -189,10 +199,10 @@ fn refused_rules() -> Vec<WordCase> {
         refused(&[1], &[3, 0, 1, 0, 1, 0], 3),
         refused(&[19, 3, 0, 0, 0], &[2, 0, 1, 0, 1], 10), // not 8
         // All of the tree comes before the first word of the rules.
-        refused(&[], &[33], 3),
-        refused(&[25], &[], 4),
+        refused(&[], &[RULE_LIMIT as u32 + 1], 3),
+        refused(&[kind::END], &[], 4),
         refused(&[0, 0], &[], 6),
-        refused(&[0, 0], &[33], 6),
+        refused(&[0, 0], &[RULE_LIMIT as u32 + 1], 6),
     ]
 }
 
@@ -203,10 +213,10 @@ pub fn declaration_rebuilds() -> Vec<WordCase> {
     cases.extend([
         refused(&[0], &[0], 4),
         refused(&[12, 16], &[0], 4),
-        refused(&[28, 0, 0, 0, 0], &[], 6),
-        refused(&[28, 0, 0, 0], &[], 3),
-        refused(&[28, 0, 0, 0], &[2, 0, 1, 0, 1], 10),
-        refused(&[28, 0, 0, 0], &[0], 8),
+        refused(&[USE, PUB, GLOBAL, 0, 0], &[], 6),
+        refused(&[USE, PUB, GLOBAL, 0], &[], 3),
+        refused(&[USE, PUB, GLOBAL, 0], &[2, 0, 1, 0, 1], 10),
+        refused(&[USE, PUB, GLOBAL, 0], &[0], 8),
     ]);
     cases
 }
@@ -217,29 +227,46 @@ fn replacements_in_declarations() -> Vec<WordCase> {
         // A struct's fields are rebuilt, the words between them kept.
         rebuilt(
             &GAUGE,
-            &[2, 7, 12, 16, 0, 19, 0],
-            &[25, 17, 0, 16, 0, 0, 2, 0, 18, 12, 16, 1, 19, 15, 19, 0],
-        ),
-        rebuilt(
-            &[25, 0, 1, 16, 1, 17, 18, 1, 16, 2, 0, 15, 0, 1, 1, 0, 0],
-            &[1, 0, 1],
-            &[25, 0, 1, 16, 1, 17, 18, 1, 16, 2, 1, 15, 1, 1, 1, 0, 1],
-        ),
-        rebuilt(
+            &[2, I32, IDENTIFIER, GAUGE_NAME, U8, TUPLE, 0],
             &[
-                26, 0, 0, 16, 1, 17, 1, 0, 2, 0, 18, 1, 1, 0, 0, 17, 19, 0, 1, 0, 16, 0,
-            ],
-            &[1, 0, 11],
-            &[
-                26, 0, 0, 16, 1, 17, 1, 11, 2, 0, 18, 1, 1, 0, 11, 17, 19, 0, 1, 0, 16, 11,
+                STRUCT, OFFSET, 0, GAUGE_NAME, 0, NAMED, 2, PUB, MM, IDENTIFIER, GAUGE_NAME, PRIV,
+                ID, BORROWED, TUPLE, 0,
             ],
         ),
         rebuilt(
-            &[27, 0, 0, 16, 0, 23, 0, 0],
-            &[1, 0, 15, 0],
-            &[27, 0, 0, 16, 0, 23, 15, 0, 15, 0],
+            &[
+                STRUCT, EMPTY, 1, GAUGE_NAME, 1, OFFSET, MM, 1, GAUGE_NAME, 2, U8, BORROWED, U8,
+                NAMELESS, 1, PUB, U8,
+            ],
+            &[1, U8, U16],
+            &[
+                STRUCT, EMPTY, 1, GAUGE_NAME, 1, OFFSET, MM, 1, GAUGE_NAME, 2, U16, BORROWED, U16,
+                NAMELESS, 1, PUB, U16,
+            ],
         ),
-        rebuilt(&[28, 0, 1, 2, 16, 0], &[1, 0, 2], &[28, 0, 1, 2, 16, 0]),
+        rebuilt(
+            &[
+                ENUM, EMPTY, 0, GAUGE_NAME, 1, OFFSET, 1, U8, 2, EMPTY, MM, NAMELESS, 1, PUB, U8,
+                OFFSET, ID, NAMED, 1, PUB, GAUGE_NAME, U8,
+            ],
+            &[1, U8, BOOL],
+            &[
+                ENUM, EMPTY, 0, GAUGE_NAME, 1, OFFSET, 1, BOOL, 2, EMPTY, MM, NAMELESS, 1, PUB,
+                BOOL, OFFSET, ID, NAMED, 1, PUB, GAUGE_NAME, BOOL,
+            ],
+        ),
+        rebuilt(
+            &[TYPE, EMPTY, 0, GAUGE_NAME, 0, SYNONYM, U8, U8],
+            &[1, U8, BORROWED, U8],
+            &[
+                TYPE, EMPTY, 0, GAUGE_NAME, 0, SYNONYM, BORROWED, U8, BORROWED, U8,
+            ],
+        ),
+        rebuilt(
+            &[USE, PUB, CRATE, 2, GAUGE_NAME, EMPTY],
+            &[1, U8, U32],
+            &[USE, PUB, CRATE, 2, GAUGE_NAME, EMPTY],
+        ),
     ]
 }
 
@@ -248,22 +275,31 @@ fn peaks_of_declarations() -> Vec<WordCase> {
     // The word after a replacement counts again.
     let shrinking = rebuilt(
         &GAUGE,
-        &[1, 15, 0, 0],
-        &[25, 17, 0, 16, 0, 0, 2, 0, 18, 7, 1, 19, 0],
+        &[1, BORROWED, U8, U8],
+        &[
+            STRUCT, OFFSET, 0, GAUGE_NAME, 0, NAMED, 2, PUB, MM, I32, PRIV, ID, U8,
+        ],
     );
     cases.extend(with_least_room(&shrinking, 14));
     let growing = rebuilt(
         &GAUGE,
-        &[2, 7, 19, 3, 1, 1, 1, 15, 0, 0],
-        &[25, 17, 0, 16, 0, 0, 2, 0, 18, 19, 3, 1, 1, 1, 1, 19, 0],
+        &[2, I32, TUPLE, 3, U16, U16, U16, BORROWED, U8, U8],
+        &[
+            STRUCT, OFFSET, 0, GAUGE_NAME, 0, NAMED, 2, PUB, MM, TUPLE, 3, U16, U16, U16, PRIV, ID,
+            U8,
+        ],
     );
     cases.extend(with_least_room(&growing, 18));
     // Each type has a depth of its own.
-    let deep = [&[27, 0, 0, 16, 1, 17, 1, 0][..], &borrows_then(63, &[0])].concat();
-    for (buffer, number) in [(74, 5), (71, 8)] {
+    let deep = [
+        &[TYPE, EMPTY, 0, GAUGE_NAME, 1, OFFSET, 1, U8][..],
+        &borrows_then(DEPTH_LIMIT - 1, &[U8]),
+    ]
+    .concat();
+    for (buffer, number) in [(deep.len() + 2, 5), (deep.len() - 1, 8)] {
         cases.push(WordCase {
             buffer,
-            ..refused(&deep, &[1, 0, 15, 0], number)
+            ..refused(&deep, &[1, U8, BORROWED, U8], number)
         });
     }
     cases
@@ -275,19 +311,28 @@ pub fn initializations() -> Vec<WordCase> {
     cases.extend(wrapped_initializations());
     cases.extend(unchanged_initializations());
     // Of the refusals, 8 comes before 5.
-    let deepest = joined(&[&OBJECT_OF, &[22, 0], &borrows_then(61, &[0])]);
-    for (buffer, number) in [(79, 5), (78, 8), (0, 8)] {
+    let deepest = joined(&[
+        &OBJECT_OF,
+        &[ARRAY, NO_SIZE],
+        &borrows_then(DEPTH_LIMIT - 3, &[U8]),
+    ]);
+    let enough = deepest.len() + MAYBE_UNINIT_OF.len();
+    for (buffer, number) in [(enough, 5), (enough - 1, 8), (0, 8)] {
         cases.push(WordCase {
             buffer,
             ..refused(&deepest, &[], number)
         });
     }
-    let shallower = joined(&[&OBJECT_OF, &[22, 0], &borrows_then(60, &[0])]);
+    let shallower = joined(&[
+        &OBJECT_OF,
+        &[ARRAY, NO_SIZE],
+        &borrows_then(DEPTH_LIMIT - 4, &[U8]),
+    ]);
     let one_deeper = joined(&[
         &OBJECT_OF,
-        &[22, 0],
+        &[ARRAY, NO_SIZE],
         &MAYBE_UNINIT_OF,
-        &borrows_then(60, &[0]),
+        &borrows_then(DEPTH_LIMIT - 4, &[U8]),
     ]);
     cases.push(rebuilt(&shallower, &[], &one_deeper));
     cases.push(WordCase {
@@ -296,7 +341,7 @@ pub fn initializations() -> Vec<WordCase> {
     });
     cases.push(refused(&[], &[], 3));
     cases.push(refused(&[0, 0], &[], 6));
-    cases.push(refused(&[26], &[], 4));
+    cases.push(refused(&[ENUM], &[], 4));
     cases
 }
 

@@ -4,8 +4,10 @@ use std::ops::Range;
 
 use super::{
     borrows_then, joined, rebuilt, refused, with_least_room, WordCase, ARRAY2_OF, GAUGE,
-    MAYBE_UNINIT_OF, OBJECT_OF, PTR_OF,
+    GAUGE_NAME, ID, MAYBE_UNINIT_OF, MM, OBJECT_OF, OFFSET, PTR_OF,
 };
+use crate::limits::DEPTH_LIMIT;
+use crate::words::{fields::*, head::*, kind, kind::*, name::*, root::*, visibility::*};
 
 /// Visits of types.
 pub fn type_visits() -> Vec<WordCase> {
@@ -28,8 +30,8 @@ pub fn type_visits() -> Vec<WordCase> {
         visits(&[19, 2, 23, 0, 15, 1, 11], &[0, 2, 3, 6]),
         visits(&[23, 23, 0, 1, 2], &[0, 1, 2]),
         refused(&[], &[], 3),
-        refused(&[25], &[], 4),
-        refused(&borrows_then(64, &[]), &[], 5),
+        refused(&[kind::END], &[], 4),
+        refused(&borrows_then(DEPTH_LIMIT, &[]), &[], 5),
         refused(&[0, 0], &[], 6),
     ];
     let list = visits(&[19, 3, 0, 15, 1, 2], &[0, 2, 3, 4, 5]);
@@ -41,21 +43,30 @@ pub fn type_visits() -> Vec<WordCase> {
 /// Visits of declarations.
 pub fn declaration_visits() -> Vec<WordCase> {
     let visits = |words: &[u32], wanted: &[u32]| rebuilt(words, &[], wanted);
-    let parameters = [25, 0, 1, 16, 1, 17, 18, 1, 16, 2, 0, 15, 0, 1, 1, 0, 0];
+    let parameters = [
+        STRUCT, EMPTY, 1, GAUGE_NAME, 1, OFFSET, MM, 1, GAUGE_NAME, 2, U8, BORROWED, U8, NAMELESS,
+        1, PUB, U8,
+    ];
     let mut cases = vec![
         visits(&GAUGE, &[]), // marked case (h)
         visits(&parameters, &[10, 11, 12]),
         visits(
             &[
-                26, 0, 0, 16, 1, 17, 1, 0, 2, 0, 18, 1, 1, 0, 0, 17, 19, 0, 1, 0, 16, 15, 0,
+                ENUM, EMPTY, 0, GAUGE_NAME, 1, OFFSET, 1, U8, 2, EMPTY, MM, NAMELESS, 1, PUB, U8,
+                OFFSET, ID, NAMED, 1, PUB, GAUGE_NAME, BORROWED, U8,
             ],
             &[7, 14, 21, 22],
         ),
-        visits(&[26, 0, 0, 16, 0, 0], &[]),
-        visits(&[27, 0, 0, 16, 1, 17, 1, 0, 23, 15, 0, 11], &[7, 8, 9, 10]),
-        visits(&[28, 0, 0, 2, 16, 17], &[]),
+        visits(&[ENUM, EMPTY, 0, GAUGE_NAME, 0, 0], &[]),
+        visits(
+            &[
+                TYPE, EMPTY, 0, GAUGE_NAME, 1, OFFSET, 1, U8, SYNONYM, BORROWED, U8, BOOL,
+            ],
+            &[7, 8, 9, 10],
+        ),
+        visits(&[USE, PUB, GLOBAL, 2, GAUGE_NAME, OFFSET], &[]),
         refused(&[0], &[], 4),
-        refused(&[28, 0, 0, 0, 0], &[], 6),
+        refused(&[USE, PUB, GLOBAL, 0, 0], &[], 6),
         refused(&GAUGE[..13], &[], 3),
     ];
     cases.extend(with_least_room(&visits(&parameters, &[10, 11, 12]), 3));
@@ -92,7 +103,7 @@ pub fn shapes() -> Vec<ShapeCase> {
 }
 
 fn plain_shapes() -> Vec<ShapeCase> {
-    let mut cases: Vec<ShapeCase> = (0..10)
+    let mut cases: Vec<ShapeCase> = (U8..=I128)
         .map(|head| shaped(&[head], &[ENDS, "IsAutoSize", "CanReadWithoutClone"]))
         .collect();
     cases.extend([

@@ -1,6 +1,7 @@
 //! Made-up declarations.
 
 use super::{Names, Place, Random, Shape, Writer};
+use crate::words::{fields, head::*, kind::*, name, root::*, visibility};
 use crate::EncodingBuf;
 
 /// A random declaration. Its docs are best chosen from a table of [`Names::random_with_docs`].
@@ -51,28 +52,30 @@ pub fn random_doc(random: &mut Random, most: usize) -> Vec<u8> {
 
 /// The types that a field named self is looked at for, and their near relations.
 const SELF_TYPES: [&[u32]; 22] = [
-    &[13, 2, 0],
-    &[13, 2, 0],
-    &[23, 0, 13, 2, 0],
-    &[23, 13, 2, 0, 0],
-    &[23, 13, 2, 0, 13, 2, 0],
-    &[24, 3, 13, 2, 0],
-    &[24, 0, 24, 1, 13, 2, 0],
-    &[23, 19, 2, 0, 1, 24, 2, 23, 11, 13, 2, 0],
-    &[24, 0, 23, 13, 2, 0, 11],
-    &[15, 13, 2, 0],
-    &[15, 13, 2, 0],
-    &[16, 13, 2, 0],
-    &[16, 13, 2, 0],
-    &[15, 24, 0, 13, 2, 0],
-    &[24, 0, 15, 13, 2, 0],
-    &[16, 23, 0, 13, 2, 0],
-    &[23, 0, 16, 13, 2, 0],
-    &[15, 15, 13, 2, 0],
-    &[15, 16, 13, 2, 0],
-    &[14, 0, 13, 2, 0],
-    &[13, 2, 1, 15],
-    &[13, 1, 0],
+    &[FROM_PATH, SELF_TYPE, 0],
+    &[FROM_PATH, SELF_TYPE, 0],
+    &[SYNONYM, U8, FROM_PATH, SELF_TYPE, 0],
+    &[SYNONYM, FROM_PATH, SELF_TYPE, 0, U8],
+    &[SYNONYM, FROM_PATH, SELF_TYPE, 0, FROM_PATH, SELF_TYPE, 0],
+    &[META_DATA, 3, FROM_PATH, SELF_TYPE, 0],
+    &[META_DATA, 0, META_DATA, 1, FROM_PATH, SELF_TYPE, 0],
+    &[
+        SYNONYM, TUPLE, 2, U8, U16, META_DATA, 2, SYNONYM, BOOL, FROM_PATH, SELF_TYPE, 0,
+    ],
+    &[META_DATA, 0, SYNONYM, FROM_PATH, SELF_TYPE, 0, BOOL],
+    &[BORROWED, FROM_PATH, SELF_TYPE, 0],
+    &[BORROWED, FROM_PATH, SELF_TYPE, 0],
+    &[BORROWED_MUT, FROM_PATH, SELF_TYPE, 0],
+    &[BORROWED_MUT, FROM_PATH, SELF_TYPE, 0],
+    &[BORROWED, META_DATA, 0, FROM_PATH, SELF_TYPE, 0],
+    &[META_DATA, 0, BORROWED, FROM_PATH, SELF_TYPE, 0],
+    &[BORROWED_MUT, SYNONYM, U8, FROM_PATH, SELF_TYPE, 0],
+    &[SYNONYM, U8, BORROWED_MUT, FROM_PATH, SELF_TYPE, 0],
+    &[BORROWED, BORROWED, FROM_PATH, SELF_TYPE, 0],
+    &[BORROWED, BORROWED_MUT, FROM_PATH, SELF_TYPE, 0],
+    &[APP, 0, FROM_PATH, SELF_TYPE, 0],
+    &[FROM_PATH, SELF_TYPE, 1, name::SELF],
+    &[FROM_PATH, CRATE, 0],
 ];
 
 impl Names {
@@ -119,9 +122,10 @@ impl Names {
 
 impl Writer<'_> {
     fn put_declaration(&mut self) {
-        let head = self.random.pick(&[25, 25, 25, 25, 26, 26, 26, 27, 28]);
+        let heads = [STRUCT, STRUCT, STRUCT, STRUCT, ENUM, ENUM, ENUM, TYPE, USE];
+        let head = self.random.pick(&heads);
         self.words.push(head);
-        if head == 28 {
+        if head == USE {
             self.put_visibility();
             return self.put_path();
         }
@@ -130,8 +134,8 @@ impl Writer<'_> {
         self.put_name();
         self.put_parameters();
         match head {
-            25 => self.put_fields(),
-            26 => self.put_cases(),
+            STRUCT => self.put_fields(),
+            ENUM => self.put_cases(),
             _ => self.put_type(self.shape.depth, Place::Free),
         }
     }
@@ -148,13 +152,13 @@ impl Writer<'_> {
     }
 
     fn put_visibility(&mut self) {
-        let visibility = self.random.below(2) as u32;
+        let visibility = self.random.below(visibility::END as usize) as u32;
         self.words.push(visibility);
     }
 
     fn put_doc(&mut self) {
         let doc = match self.random.below(10) {
-            0..=2 => 0,
+            0..=2 => name::EMPTY,
             3..=7 if !self.names.docs.is_empty() => self.random.pick(&self.names.docs),
             _ => self.random.below(self.names.count() as usize) as u32,
         };
@@ -189,7 +193,12 @@ impl Writer<'_> {
 
     fn put_fields(&mut self) {
         let nameless = self.random.percent(35);
-        self.words.push(nameless.into());
+        let kind = if nameless {
+            fields::NAMELESS
+        } else {
+            fields::NAMED
+        };
+        self.words.push(kind);
         for _ in 0..self.item_count(self.shape.children) {
             self.put_visibility();
             if nameless {
@@ -218,11 +227,11 @@ impl Writer<'_> {
         let numbers = self.names.numbers_of(b"_");
         let underscore = self.random.pick(&numbers);
         let wrapper: &[u32] = match self.random.below(5) {
-            0 => &[24, 0],
-            1 => &[23, 0],
+            0 => &[META_DATA, 0],
+            1 => &[SYNONYM, U8],
             _ => &[],
         };
         self.words.extend(wrapper);
-        self.words.extend([12, underscore]);
+        self.words.extend([IDENTIFIER, underscore]);
     }
 }

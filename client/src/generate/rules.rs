@@ -1,7 +1,9 @@
 //! Made-up lists of rules for trees that are there already.
 
 use super::{damage, random_shaped_type, random_type, Names, Random, Shape};
+use crate::limits::{DEPTH_LIMIT, RULE_LIMIT};
 use crate::reference::{rebuilt_type, types_of_declaration, types_of_type};
+use crate::words::{kind, NO_SIZE};
 use crate::{Encoding, EncodingBuf, Refusal};
 
 /// Rules for a type or a declaration with these names: their froms are mostly types of the tree or
@@ -20,8 +22,8 @@ pub fn random_rules(random: &mut Random, names: &Names, tree: &EncodingBuf) -> V
     let count = match maker.random.below(20) {
         0..=1 => 0,
         2..=16 => 1 + maker.random.below(4),
-        17..=18 => 5 + maker.random.below(28),
-        _ => 31 + maker.random.below(3),
+        17..=18 => 5 + maker.random.below(RULE_LIMIT - 4),
+        _ => RULE_LIMIT - 1 + maker.random.below(3),
     };
     for _ in 0..count {
         maker.add_rule();
@@ -67,7 +69,7 @@ impl Maker<'_> {
         let from = self.from();
         let to = self.to();
         self.rules.push(Rule { from, to });
-        if self.rebuilt(&[0]) == Err(Refusal::RepeatedRule) && self.random.percent(98) {
+        if self.rebuilt(&[kind::U8]) == Err(Refusal::RepeatedRule) && self.random.percent(98) {
             self.rules.pop();
         }
     }
@@ -107,20 +109,20 @@ impl Maker<'_> {
 
     fn to(&mut self) -> Vec<u32> {
         match self.random.below(20) {
-            0..=4 => vec![self.random.below(12) as u32],
+            0..=4 => vec![self.random.plain_kind()],
             5..=9 => self.small(),
             10..=12 => self.small_of_stock(),
             13..=14 if !self.rules.is_empty() => {
                 let index = self.random.below(self.rules.len());
-                [&[15], &self.rules[index].from[..]].concat()
+                [&[kind::BORROWED], &self.rules[index].from[..]].concat()
             }
             15..=17 => {
                 let count = self.random.below(50);
-                [&[19, count as u32], &vec![1; count][..]].concat()
+                [&[kind::TUPLE, count as u32], &vec![kind::U16; count][..]].concat()
             }
             _ => {
-                let mut deep = vec![15; self.random.below(64)];
-                deep.push(self.random.below(12) as u32);
+                let mut deep = vec![kind::BORROWED; self.random.below(DEPTH_LIMIT)];
+                deep.push(self.random.plain_kind());
                 deep
             }
         }
@@ -162,13 +164,13 @@ pub fn respelled(random: &mut Random, names: &Names, words: &[u32]) -> Vec<u32> 
     let mut at = 0;
     while at < words.len() {
         let name_words = match words[at] {
-            12 => at + 1..at + 2,
-            13 => at + 3..at + 3 + words[at + 2] as usize,
-            22 if words[at + 1] > 0 => {
+            kind::IDENTIFIER => at + 1..at + 2,
+            kind::FROM_PATH => at + 3..at + 3 + words[at + 2] as usize,
+            kind::ARRAY if words[at + 1] != NO_SIZE => {
                 words[at + 1] = 1 + names.respelled(random, words[at + 1] - 1);
                 at + 2..at + 2
             }
-            14 | 19 | 20 | 22 | 24 => at + 2..at + 2,
+            kind::APP | kind::TUPLE | kind::FN | kind::ARRAY | kind::META_DATA => at + 2..at + 2,
             _ => at + 1..at + 1,
         };
         at = name_words.end;

@@ -1,6 +1,7 @@
 //! Made-up types of the shapes that answers and parts look for, and of shapes that just miss them.
 
 use super::{Names, Place, Random, Shape, Writer};
+use crate::words::{flag, kind, root};
 use crate::EncodingBuf;
 
 /// Names that shapes look for. The fixed ones can be had as pairs too.
@@ -77,6 +78,16 @@ static KNOWN: [Known; 16] = [
 const MAYBE_UNINIT: usize = 4;
 const ARRAYS: [usize; 2] = [10, 11];
 
+/// What stands before one type, most often a plain borrow.
+const PREFIXES: [u32; 6] = [
+    kind::BORROWED,
+    kind::BORROWED,
+    kind::BORROWED,
+    kind::BORROWED_MUT,
+    kind::IMPL,
+    kind::DYN,
+];
+
 /// A random type, rich in shapes that are asked for.
 pub fn random_shaped_type(random: &mut Random, names: &Names, depth: usize) -> EncodingBuf {
     let mut writer = Writer {
@@ -150,7 +161,7 @@ impl Writer<'_> {
             0..=9 => self.put_metadata(depth, wanted),
             10..=19 => self.put_synonym(depth, wanted),
             20..=29 => {
-                let head = self.random.pick(&[15, 15, 15, 16, 17, 18]);
+                let head = self.random.pick(&PREFIXES);
                 self.words.push(head);
                 self.put_shaped(depth - 1, Wanted::Any);
             }
@@ -161,14 +172,14 @@ impl Writer<'_> {
     }
 
     fn put_metadata(&mut self, depth: usize, wanted: Wanted) {
-        let flags = self.random.below(4) as u32;
-        self.words.extend([24, flags]);
+        let flags = self.random.flags();
+        self.words.extend([kind::META_DATA, flags]);
         self.put_shaped(depth - 1, wanted);
     }
 
     /// Display or base is what is wanted, or both are.
     fn put_synonym(&mut self, depth: usize, wanted: Wanted) {
-        self.words.push(23);
+        self.words.push(kind::SYNONYM);
         let both = match self.random.below(3) {
             0 => [wanted, Wanted::Any],
             1 => [Wanted::Any, wanted],
@@ -187,7 +198,7 @@ impl Writer<'_> {
             }
             Wanted::Uninit => self.put_known(depth, &KNOWN[MAYBE_UNINIT]),
             Wanted::Dyn => {
-                self.words.push(18);
+                self.words.push(kind::DYN);
                 self.put_shaped(depth - 1, Wanted::Any);
             }
             Wanted::Array if self.random.percent(40) => {
@@ -195,7 +206,7 @@ impl Writer<'_> {
                 self.put_known(depth, &KNOWN[which]);
             }
             Wanted::Array => {
-                self.words.push(22);
+                self.words.push(kind::ARRAY);
                 self.put_size();
                 self.put_shaped(depth - 1, Wanted::Uninit);
             }
@@ -209,10 +220,10 @@ impl Writer<'_> {
         } else {
             known.arguments
         };
-        self.words.extend([14, count as u32]);
+        self.words.extend([kind::APP, count as u32]);
         match self.random.below(25) {
-            0 => self.words.extend([24, 1]),
-            1 => self.words.extend([23, 0]),
+            0 => self.words.extend([kind::META_DATA, flag::COPY_SEMANTICS]),
+            1 => self.words.extend([kind::SYNONYM, kind::U8]),
             _ => {}
         }
         self.put_known_path(known.names);
@@ -229,10 +240,10 @@ impl Writer<'_> {
             .iter()
             .map(|name| self.names.number_of(self.random, name))
             .collect();
-        let mut root = 0;
+        let mut root = root::GLOBAL;
         let any = self.random.below(self.names.count() as usize) as u32;
         match self.random.below(40) {
-            0 => root = 1 + self.random.below(2) as u32,
+            0 => root = self.random.pick(&[root::CRATE, root::SELF_TYPE]),
             1 => numbers.push(any),
             2 => numbers.insert(0, any),
             3 => {
@@ -244,7 +255,8 @@ impl Writer<'_> {
             }
             _ => {}
         }
-        self.words.extend([13, root, numbers.len() as u32]);
+        self.words
+            .extend([kind::FROM_PATH, root, numbers.len() as u32]);
         self.words.extend(numbers);
     }
 }

@@ -6,6 +6,7 @@ use crate::tree::{
     Attribute, Declaration, Enum, EnumCase, Field, Fields, Name, NamelessField, Path, Root, Struct,
     Type, TypeParameter, TypeSynonym, Use, Visibility,
 };
+use crate::words::{fields, head, visibility};
 use crate::{Encoding, Refusal};
 
 /// The indent of one level.
@@ -29,10 +30,10 @@ pub fn read_declaration(encoding: &Encoding<'_>) -> Result<Declaration, Refusal>
 impl Reader<'_> {
     fn read_declaration(&mut self) -> Result<Declaration, Refusal> {
         match self.word()? {
-            25 => self.read_struct().map(Declaration::Struct),
-            26 => self.read_enum().map(Declaration::Enum),
-            27 => self.read_type_synonym().map(Declaration::TypeSynonym),
-            28 => self.read_use().map(Declaration::Use),
+            head::STRUCT => self.read_struct().map(Declaration::Struct),
+            head::ENUM => self.read_enum().map(Declaration::Enum),
+            head::TYPE => self.read_type_synonym().map(Declaration::TypeSynonym),
+            head::USE => self.read_use().map(Declaration::Use),
             _ => Err(Refusal::UnknownWord),
         }
     }
@@ -120,8 +121,8 @@ impl Reader<'_> {
 
     fn fields(&mut self) -> Result<Fields, Refusal> {
         match self.word()? {
-            0 => self.many(Reader::field).map(Fields::Named),
-            1 => self.many(Reader::nameless_field).map(Fields::Nameless),
+            fields::NAMED => self.many(Reader::field).map(Fields::Named),
+            fields::NAMELESS => self.many(Reader::nameless_field).map(Fields::Nameless),
             _ => Err(Refusal::UnknownWord),
         }
     }
@@ -143,8 +144,8 @@ impl Reader<'_> {
 
     fn visibility(&mut self) -> Result<Visibility, Refusal> {
         match self.word()? {
-            0 => Ok(Visibility::Pub),
-            1 => Ok(Visibility::Priv),
+            visibility::PUB => Ok(Visibility::Pub),
+            visibility::PRIV => Ok(Visibility::Priv),
             _ => Err(Refusal::UnknownWord),
         }
     }
@@ -371,6 +372,9 @@ fn deeper(indent: &[u8]) -> Vec<u8> {
 #[cfg(test)]
 mod tests {
     use super::*;
+    use crate::cases::GAUGE;
+    use crate::limits::{DEPTH_LIMIT, LEVEL_LIMIT};
+    use crate::words::{fields::*, head::*, kind, kind::*, name::*, pair, root::*, visibility::*};
     use Refusal::{BadLevel, BufferTooShort, EndsEarly, LeftOver, TooDeep, UnknownWord};
 
     /// The pairs and the text of the papers' example: `Gauge`, a sentence, `mm`, `id`.
@@ -380,6 +384,11 @@ mod tests {
     /// Names 16 `A`, 17 `B`, 18 `self`, 19 `_`, 20 empty.
     const LETTER_PAIRS: [u32; 10] = [0, 1, 1, 1, 2, 4, 6, 1, 7, 0];
     const LETTERS: &[u8] = b"ABself_";
+    const A: u32 = pair(0);
+    const B: u32 = pair(1);
+    const SELF_PAIR: u32 = pair(2);
+    const UNDER_PAIR: u32 = pair(3);
+    const EMPTY_PAIR: u32 = pair(4);
 
     fn at_level(words: &[u32], level: u32) -> Result<String, Refusal> {
         let encoding = Encoding {
@@ -403,7 +412,7 @@ mod tests {
 
     /// The one field of a struct, between the braces.
     fn named_field(visibility: u32, name: u32, of: &[u32]) -> String {
-        let words = [&[25, 0, 0, 16, 0, 0, 1, visibility, name], of].concat();
+        let words = [&[STRUCT, EMPTY, 0, A, 0, NAMED, 1, visibility, name], of].concat();
         let text = text(&words);
         let inner = text.strip_prefix("pub struct A {\n    ").unwrap();
         inner.strip_suffix("\n}").unwrap().to_string()
@@ -412,7 +421,7 @@ mod tests {
     #[test]
     fn the_whole_example() {
         let encoding = Encoding {
-            words: &[25, 17, 0, 16, 0, 0, 2, 0, 18, 7, 1, 19, 15, 0],
+            words: &GAUGE,
             pairs: &PAIRS,
             text: TEXT,
         };
@@ -444,15 +453,19 @@ mod tests {
     #[test]
     fn nameless_fields() {
         assert_eq!(
-            text(&[26, 0, 0, 16, 0, 1, 0, 17, 1, 2, 0, 0, 1, 1]),
+            text(&[ENUM, EMPTY, 0, A, 0, 1, EMPTY, B, NAMELESS, 2, PUB, U8, PRIV, U16]),
             "pub enum A {\n    B(pub u8,\n        u16)\n}"
         );
         assert_eq!(
-            text(&[25, 0, 0, 16, 0, 1, 2, 0, 0, 1, 1]),
+            text(&[STRUCT, EMPTY, 0, A, 0, NAMELESS, 2, PUB, U8, PRIV, U16]),
             "pub struct A(pub u8, u16);"
         );
         assert_eq!(
-            at_level(&[26, 0, 0, 16, 0, 1, 0, 17, 1, 2, 0, 0, 1, 1], 1).unwrap(),
+            at_level(
+                &[ENUM, EMPTY, 0, A, 0, 1, EMPTY, B, NAMELESS, 2, PUB, U8, PRIV, U16],
+                1
+            )
+            .unwrap(),
             "pub enum A {\n        B(pub u8,\n            u16)\n    }"
         );
     }
@@ -460,15 +473,18 @@ mod tests {
     /// TRAPS 2.
     #[test]
     fn empty_ones() {
-        assert_eq!(text(&[26, 0, 0, 16, 0, 0]), "pub enum A {\n}");
+        assert_eq!(text(&[ENUM, EMPTY, 0, A, 0, 0]), "pub enum A {\n}");
         assert_eq!(
-            at_level(&[26, 0, 0, 16, 0, 0], 2).unwrap(),
+            at_level(&[ENUM, EMPTY, 0, A, 0, 0], 2).unwrap(),
             "pub enum A {\n        }"
         );
-        assert_eq!(text(&[25, 0, 0, 16, 0, 0, 0]), "pub struct A {}");
-        assert_eq!(text(&[25, 0, 0, 16, 0, 1, 0]), "pub struct A();");
+        assert_eq!(text(&[STRUCT, EMPTY, 0, A, 0, NAMED, 0]), "pub struct A {}");
         assert_eq!(
-            text(&[26, 0, 0, 16, 0, 2, 0, 17, 0, 0, 0, 16, 1, 0]),
+            text(&[STRUCT, EMPTY, 0, A, 0, NAMELESS, 0]),
+            "pub struct A();"
+        );
+        assert_eq!(
+            text(&[ENUM, EMPTY, 0, A, 0, 2, EMPTY, B, NAMED, 0, EMPTY, A, NAMELESS, 0]),
             "pub enum A {\n    B {},\n    A()\n}"
         );
     }
@@ -476,12 +492,16 @@ mod tests {
     /// TRAPS 3.
     #[test]
     fn separators() {
+        let two_cases = [
+            ENUM, EMPTY, 0, A, 0, 2, B, B, NAMED, 2, PUB, A, U8, PRIV, B, U16, A, A, NAMELESS, 1,
+            PRIV, BOOL,
+        ];
         assert_eq!(
-            text(&[26, 0, 0, 16, 0, 2, 17, 17, 0, 2, 0, 16, 0, 1, 17, 1, 16, 16, 1, 1, 1, 11]),
+            text(&two_cases),
             "pub enum A {\n    /// B\n    B {\n        pub A: u8,\n        B: u16\n    },\n    /// A\n    A(bool)\n}"
         );
         assert_eq!(
-            text(&[25, 0, 0, 16, 0, 0, 2, 0, 16, 0, 1, 17, 1]),
+            text(&[STRUCT, EMPTY, 0, A, 0, NAMED, 2, PUB, A, U8, PRIV, B, U16]),
             "pub struct A {\n    pub A: u8,\n    B: u16\n}"
         );
     }
@@ -490,15 +510,15 @@ mod tests {
     #[test]
     fn indents() {
         assert_eq!(
-            at_level(&[25, 17, 1, 16, 2, 17, 16, 17, 0, 1, 0], 1).unwrap(),
+            at_level(&[STRUCT, B, 1, A, 2, B, A, B, 0, NAMELESS, 0], 1).unwrap(),
             "/// B\n    #[A(B, A)]\n    pub struct B();"
         );
         assert_eq!(
-            at_level(&[27, 17, 2, 16, 0, 17, 1, 16, 16, 0, 0], 2).unwrap(),
+            at_level(&[TYPE, B, 2, A, 0, B, 1, A, A, 0, U8], 2).unwrap(),
             "/// B\n        #[A]\n        #[B(A)]\n        pub type A = u8;"
         );
         assert_eq!(
-            at_level(&[26, 17, 0, 16, 0, 1, 16, 17, 0, 1, 1, 16, 0], 1).unwrap(),
+            at_level(&[ENUM, B, 0, A, 0, 1, A, B, NAMED, 1, PRIV, A, U8], 1).unwrap(),
             "/// B\n    pub enum A {\n        /// A\n        B {\n            A: u8\n        }\n    }"
         );
     }
@@ -506,34 +526,54 @@ mod tests {
     /// TRAPS 5.
     #[test]
     fn fields_named_self() {
-        for name in [15, 18] {
+        for name in [SELF, SELF_PAIR] {
             for (of, text) in [
-                (&[13, 2, 0][..], "self"),
-                (&[23, 0, 13, 2, 0], "self"),
-                (&[23, 13, 2, 0, 0], "self: Self"),
-                (&[24, 3, 13, 2, 0], "self"),
-                (&[23, 0, 24, 0, 23, 1, 13, 2, 0], "self"),
-                (&[15, 13, 2, 0], "&self"),
-                (&[16, 13, 2, 0], "&mut self"),
-                (&[15, 24, 0, 13, 2, 0], "self: &Self"),
-                (&[24, 0, 15, 13, 2, 0], "self: &Self"),
-                (&[16, 23, 0, 13, 2, 0], "self: &mut u8"),
-                (&[15, 15, 13, 2, 0], "self: &&Self"),
-                (&[14, 0, 13, 2, 0], "self: Self"),
-                (&[13, 2, 1, 16], "self: Self::A"),
-                (&[13, 1, 0], "self: crate"),
-                (&[13, 0, 0], "self: "),
-                (&[0], "self: u8"),
+                (&[FROM_PATH, SELF_TYPE, 0][..], "self"),
+                (&[SYNONYM, U8, FROM_PATH, SELF_TYPE, 0], "self"),
+                (&[SYNONYM, FROM_PATH, SELF_TYPE, 0, U8], "self: Self"),
+                (&[META_DATA, 3, FROM_PATH, SELF_TYPE, 0], "self"),
+                (
+                    &[
+                        SYNONYM, U8, META_DATA, 0, SYNONYM, U16, FROM_PATH, SELF_TYPE, 0,
+                    ],
+                    "self",
+                ),
+                (&[BORROWED, FROM_PATH, SELF_TYPE, 0], "&self"),
+                (&[BORROWED_MUT, FROM_PATH, SELF_TYPE, 0], "&mut self"),
+                (
+                    &[BORROWED, META_DATA, 0, FROM_PATH, SELF_TYPE, 0],
+                    "self: &Self",
+                ),
+                (
+                    &[META_DATA, 0, BORROWED, FROM_PATH, SELF_TYPE, 0],
+                    "self: &Self",
+                ),
+                (
+                    &[BORROWED_MUT, SYNONYM, U8, FROM_PATH, SELF_TYPE, 0],
+                    "self: &mut u8",
+                ),
+                (
+                    &[BORROWED, BORROWED, FROM_PATH, SELF_TYPE, 0],
+                    "self: &&Self",
+                ),
+                (&[APP, 0, FROM_PATH, SELF_TYPE, 0], "self: Self"),
+                (&[FROM_PATH, SELF_TYPE, 1, A], "self: Self::A"),
+                (&[FROM_PATH, CRATE, 0], "self: crate"),
+                (&[FROM_PATH, GLOBAL, 0], "self: "),
+                (&[U8], "self: u8"),
             ] {
-                assert_eq!(named_field(1, name, of), text, "{of:?}");
-                assert_eq!(named_field(0, name, of), format!("pub {text}"), "{of:?}");
+                assert_eq!(named_field(PRIV, name, of), text, "{of:?}");
+                assert_eq!(named_field(PUB, name, of), format!("pub {text}"), "{of:?}");
             }
         }
-        assert_eq!(named_field(1, 16, &[13, 2, 0]), "A: Self");
-        assert_eq!(named_field(1, 16, &[15, 13, 2, 0]), "A: &Self");
+        assert_eq!(named_field(PRIV, A, &[FROM_PATH, SELF_TYPE, 0]), "A: Self");
+        assert_eq!(
+            named_field(PRIV, A, &[BORROWED, FROM_PATH, SELF_TYPE, 0]),
+            "A: &Self"
+        );
         // A nameless field has no `Formal`.
         assert_eq!(
-            text(&[25, 0, 0, 16, 0, 1, 1, 0, 13, 2, 0]),
+            text(&[STRUCT, EMPTY, 0, A, 0, NAMELESS, 1, PUB, FROM_PATH, SELF_TYPE, 0]),
             "pub struct A(pub Self);"
         );
     }
@@ -541,20 +581,32 @@ mod tests {
     /// TRAPS 6.
     #[test]
     fn fields_of_type_underscore() {
-        for underscore in [14, 19] {
-            assert_eq!(named_field(1, 16, &[12, underscore]), "A");
-            assert_eq!(named_field(0, 16, &[12, underscore]), "pub A");
-            assert_eq!(named_field(1, 15, &[12, underscore]), "self");
-            assert_eq!(named_field(1, 16, &[24, 0, 12, underscore]), "A: _");
-            assert_eq!(named_field(1, 16, &[23, 12, underscore, 0]), "A: _");
-            assert_eq!(named_field(1, 16, &[23, 0, 12, underscore]), "A: u8");
-            assert_eq!(named_field(1, 16, &[13, 0, 1, underscore]), "A: ::_");
+        for underscore in [UNDERSCORE, UNDER_PAIR] {
+            assert_eq!(named_field(PRIV, A, &[IDENTIFIER, underscore]), "A");
+            assert_eq!(named_field(PUB, A, &[IDENTIFIER, underscore]), "pub A");
+            assert_eq!(named_field(PRIV, SELF, &[IDENTIFIER, underscore]), "self");
             assert_eq!(
-                text(&[25, 0, 0, 16, 0, 1, 1, 1, 12, underscore]),
+                named_field(PRIV, A, &[META_DATA, 0, IDENTIFIER, underscore]),
+                "A: _"
+            );
+            assert_eq!(
+                named_field(PRIV, A, &[SYNONYM, IDENTIFIER, underscore, U8]),
+                "A: _"
+            );
+            assert_eq!(
+                named_field(PRIV, A, &[SYNONYM, U8, IDENTIFIER, underscore]),
+                "A: u8"
+            );
+            assert_eq!(
+                named_field(PRIV, A, &[FROM_PATH, GLOBAL, 1, underscore]),
+                "A: ::_"
+            );
+            assert_eq!(
+                text(&[STRUCT, EMPTY, 0, A, 0, NAMELESS, 1, PRIV, IDENTIFIER, underscore]),
                 "pub struct A(_);"
             );
             assert_eq!(
-                text(&[27, 0, 0, 16, 1, 17, 1, 12, underscore, 12, underscore]),
+                text(&[TYPE, EMPTY, 0, A, 1, B, 1, IDENTIFIER, underscore, IDENTIFIER, underscore]),
                 "pub type A<B: _> = _;"
             );
         }
@@ -563,10 +615,16 @@ mod tests {
     /// TRAPS 7.
     #[test]
     fn docs_that_are_none_or_fixed() {
-        assert_eq!(text(&[25, 20, 0, 16, 0, 0, 0]), "pub struct A {}");
-        assert_eq!(text(&[25, 15, 0, 16, 0, 0, 0]), "/// self\npub struct A {}");
         assert_eq!(
-            text(&[26, 20, 0, 16, 0, 1, 20, 17, 1, 0]),
+            text(&[STRUCT, EMPTY_PAIR, 0, A, 0, NAMED, 0]),
+            "pub struct A {}"
+        );
+        assert_eq!(
+            text(&[STRUCT, SELF, 0, A, 0, NAMED, 0]),
+            "/// self\npub struct A {}"
+        );
+        assert_eq!(
+            text(&[ENUM, EMPTY_PAIR, 0, A, 0, 1, EMPTY_PAIR, B, NAMELESS, 0]),
             "pub enum A {\n    B()\n}"
         );
     }
@@ -574,34 +632,39 @@ mod tests {
     /// TRAPS 8.
     #[test]
     fn uses() {
-        assert_eq!(text(&[28, 1, 0, 0]), "use ;");
-        assert_eq!(text(&[28, 0, 0, 0]), "pub use ;");
-        assert_eq!(text(&[28, 1, 2, 2, 16, 0]), "use Self::A::;");
-        assert_eq!(text(&[28, 0, 0, 3, 1, 2, 3]), "pub use ::std::rc::Rc;");
-        assert_eq!(text(&[28, 1, 1, 1, 16]), "use crate::A;");
+        assert_eq!(text(&[USE, PRIV, GLOBAL, 0]), "use ;");
+        assert_eq!(text(&[USE, PUB, GLOBAL, 0]), "pub use ;");
+        assert_eq!(text(&[USE, PRIV, SELF_TYPE, 2, A, EMPTY]), "use Self::A::;");
         assert_eq!(
-            at_level(&[28, 0, 1, 1, 16], 16).unwrap(),
+            text(&[USE, PUB, GLOBAL, 3, STD, RC_MODULE, RC]),
+            "pub use ::std::rc::Rc;"
+        );
+        assert_eq!(text(&[USE, PRIV, CRATE, 1, A]), "use crate::A;");
+        assert_eq!(
+            at_level(&[USE, PUB, CRATE, 1, A], LEVEL_LIMIT).unwrap(),
             "pub use crate::A;"
         );
     }
 
     #[test]
     fn parameters() {
+        let front = [STRUCT, EMPTY, 0, A, 2, B, 0, A, 3];
+        let constraints = [U8, BORROWED, U16, INTERSECTION, U32, U64];
         assert_eq!(
-            text(&[25, 0, 0, 16, 2, 17, 0, 16, 3, 0, 15, 1, 21, 2, 3, 1, 0]),
+            text(&[&front[..], &constraints, &[NAMELESS, 0]].concat()),
             "pub struct A<B, A: u8 + &u16 + u32 + u64>();"
         );
         assert_eq!(
-            text(&[27, 0, 0, 16, 1, 0, 1, 13, 0, 0, 1]),
+            text(&[TYPE, EMPTY, 0, A, 1, EMPTY, 1, FROM_PATH, GLOBAL, 0, U16]),
             "pub type A<: > = u16;"
         );
-        assert_eq!(text(&[26, 0, 0, 16, 1, 17, 0, 0]), "pub enum A<B> {\n}");
+        assert_eq!(text(&[ENUM, EMPTY, 0, A, 1, B, 0, 0]), "pub enum A<B> {\n}");
     }
 
     #[test]
     fn attributes() {
         assert_eq!(
-            text(&[25, 0, 3, 16, 0, 17, 1, 0, 0, 2, 1, 2, 16, 0, 0, 0]),
+            text(&[STRUCT, EMPTY, 3, A, 0, B, 1, EMPTY, EMPTY, 2, STD, RC_MODULE, A, 0, NAMED, 0]),
             "#[A]\n#[B()]\n#[(std, rc)]\npub struct A {}"
         );
     }
@@ -610,59 +673,65 @@ mod tests {
     fn refusals_front_to_back() {
         let most = u32::MAX;
         assert_eq!(refusal(&[]), Some(EndsEarly));
-        for head in (0..25).chain([29, 30, most]) {
+        for head in (0..STRUCT).chain([head::END, head::END + 1, most]) {
             assert_eq!(refusal(&[head]), Some(UnknownWord), "{head}");
         }
         // Every front part of whole declarations ends early, and one word more is left over.
         let whole: [&[u32]; 6] = [
-            &[25, 17, 1, 16, 1, 16, 16, 1, 16, 1, 0, 0, 1, 0, 16, 0],
-            &[25, 17, 0, 16, 0, 1, 2, 0, 0, 1, 15, 1],
-            &[26, 17, 0, 16, 0, 2, 16, 17, 0, 0, 0, 16, 1, 1, 1, 11],
-            &[27, 0, 0, 16, 0, 19, 2, 0, 1],
-            &[28, 1, 0, 0],
-            &[28, 0, 1, 2, 16, 17],
+            &[STRUCT, B, 1, A, 1, A, A, 1, A, 1, U8, NAMED, 1, PUB, A, U8],
+            &[
+                STRUCT, B, 0, A, 0, NAMELESS, 2, PUB, U8, PRIV, BORROWED, U16,
+            ],
+            &[
+                ENUM, B, 0, A, 0, 2, A, B, NAMED, 0, EMPTY, A, NAMELESS, 1, PRIV, BOOL,
+            ],
+            &[TYPE, EMPTY, 0, A, 0, TUPLE, 2, U8, U16],
+            &[USE, PRIV, GLOBAL, 0],
+            &[USE, PUB, CRATE, 2, A, B],
         ];
         for words in whole {
             assert_eq!(refusal(words), None);
             for length in 0..words.len() {
                 assert_eq!(refusal(&words[..length]), Some(EndsEarly), "{words:?}");
             }
-            for word in [0, 25, most] {
+            for word in [0, kind::END, most] {
                 let longer = [words, &[word]].concat();
                 assert_eq!(refusal(&longer), Some(LeftOver), "{words:?}");
             }
         }
         for words in [
-            &[25, 21][..],
-            &[25, 0, 1, 21],
-            &[25, 0, 1, 16, 1, 21],
-            &[25, 0, 0, 21],
-            &[25, 0, 0, 16, 1, 21],
-            &[25, 0, 0, 16, 1, 16, 1, 25],
-            &[25, 0, 0, 16, 0, 2],
-            &[25, 0, 0, 16, 0, most],
-            &[25, 0, 0, 16, 0, 0, 1, 2],
-            &[25, 0, 0, 16, 0, 0, 1, 0, 21],
-            &[25, 0, 0, 16, 0, 0, 1, 0, 16, 25],
-            &[25, 0, 0, 16, 0, 1, 1, 2],
-            &[26, 0, 0, 16, 0, 1, 21],
-            &[26, 0, 0, 16, 0, 1, 0, 21],
-            &[26, 0, 0, 16, 0, 1, 0, 16, 2],
-            &[27, 0, 0, 16, 0, 26],
-            &[28, 2],
-            &[28, 0, 3],
-            &[28, 0, 0, 1, 21],
+            &[STRUCT, pair(5)][..],
+            &[STRUCT, EMPTY, 1, pair(5)],
+            &[STRUCT, EMPTY, 1, A, 1, pair(5)],
+            &[STRUCT, EMPTY, 0, pair(5)],
+            &[STRUCT, EMPTY, 0, A, 1, pair(5)],
+            &[STRUCT, EMPTY, 0, A, 1, A, 1, kind::END],
+            &[STRUCT, EMPTY, 0, A, 0, 2],
+            &[STRUCT, EMPTY, 0, A, 0, most],
+            &[STRUCT, EMPTY, 0, A, 0, NAMED, 1, 2],
+            &[STRUCT, EMPTY, 0, A, 0, NAMED, 1, PUB, pair(5)],
+            &[STRUCT, EMPTY, 0, A, 0, NAMED, 1, PUB, A, kind::END],
+            &[STRUCT, EMPTY, 0, A, 0, NAMELESS, 1, 2],
+            &[ENUM, EMPTY, 0, A, 0, 1, pair(5)],
+            &[ENUM, EMPTY, 0, A, 0, 1, EMPTY, pair(5)],
+            &[ENUM, EMPTY, 0, A, 0, 1, EMPTY, A, 2],
+            &[TYPE, EMPTY, 0, A, 0, ENUM],
+            &[USE, 2],
+            &[USE, PUB, 3],
+            &[USE, PUB, GLOBAL, 1, pair(5)],
             // A count beyond all words ends where the words do, or before.
-            &[25, 0, most, 16, 0, 99],
-            &[26, 0, 0, 16, 0, most, 0, 16, 1, 0, 99],
+            &[STRUCT, EMPTY, most, A, 0, 99],
+            &[ENUM, EMPTY, 0, A, 0, most, EMPTY, A, NAMELESS, 0, 99],
         ] {
             assert_eq!(refusal(words), Some(UnknownWord), "{words:?}");
         }
         for words in [
-            &[25, 0, most, 16, 0][..],
-            &[25, 0, 0, 16, most],
-            &[25, 0, 0, 16, 0, 0, most, 0, 16, 0],
-            &[26, 0, 0, 16, 0, most, 0, 16, 1, most, 0, 0],
+            &[STRUCT, EMPTY, most, A, 0][..],
+            &[STRUCT, EMPTY, 0, A, most],
+            &[STRUCT, EMPTY, 0, A, 0, NAMED, most, PUB, A, U8],
+            &[
+                ENUM, EMPTY, 0, A, 0, most, EMPTY, A, NAMELESS, most, PUB, U8,
+            ],
         ] {
             assert_eq!(refusal(words), Some(EndsEarly), "{words:?}");
         }
@@ -670,35 +739,36 @@ mod tests {
 
     #[test]
     fn depth_begins_anew_in_each_type() {
-        let deep = |count: usize, rest: &[u32]| [&vec![15; count][..], rest].concat();
-        let field = |of: &[u32]| [&[25, 0, 0, 16, 0, 1, 1, 0], of].concat();
-        let constraint = |of: &[u32]| [&[27, 0, 0, 16, 1, 16, 1], of, &[0]].concat();
-        assert_eq!(refusal(&field(&deep(63, &[0]))), None);
-        assert_eq!(refusal(&field(&deep(64, &[0]))), Some(TooDeep));
-        assert_eq!(refusal(&field(&deep(64, &[]))), Some(TooDeep));
-        assert_eq!(refusal(&field(&deep(63, &[]))), Some(EndsEarly));
-        assert_eq!(refusal(&constraint(&deep(63, &[0]))), None);
-        assert_eq!(refusal(&constraint(&deep(64, &[]))), Some(TooDeep));
+        let inside = DEPTH_LIMIT - 1;
+        let deep = |count: usize, rest: &[u32]| [&vec![BORROWED; count][..], rest].concat();
+        let field = |of: &[u32]| [&[STRUCT, EMPTY, 0, A, 0, NAMELESS, 1, PUB], of].concat();
+        let constraint = |of: &[u32]| [&[TYPE, EMPTY, 0, A, 1, A, 1], of, &[U8]].concat();
+        assert_eq!(refusal(&field(&deep(inside, &[U8]))), None);
+        assert_eq!(refusal(&field(&deep(inside + 1, &[U8]))), Some(TooDeep));
+        assert_eq!(refusal(&field(&deep(inside + 1, &[]))), Some(TooDeep));
+        assert_eq!(refusal(&field(&deep(inside, &[]))), Some(EndsEarly));
+        assert_eq!(refusal(&constraint(&deep(inside, &[U8]))), None);
+        assert_eq!(refusal(&constraint(&deep(inside + 1, &[]))), Some(TooDeep));
         let two = [
-            &[25, 0, 0, 16, 0, 1, 2, 0][..],
-            &deep(63, &[0]),
-            &[1],
-            &deep(63, &[0]),
+            &[STRUCT, EMPTY, 0, A, 0, NAMELESS, 2, PUB][..],
+            &deep(inside, &[U8]),
+            &[PRIV],
+            &deep(inside, &[U8]),
         ];
         assert_eq!(refusal(&two.concat()), None);
     }
 
     #[test]
     fn levels() {
-        let words = [26, 0, 0, 16, 0, 0];
-        for level in 0..=16 {
+        let words = [ENUM, EMPTY, 0, A, 0, 0];
+        for level in 0..=LEVEL_LIMIT {
             let indent = " ".repeat(4 * level as usize);
             assert_eq!(
                 at_level(&words, level).unwrap(),
                 format!("pub enum A {{\n{indent}}}")
             );
         }
-        for level in [17, 18, u32::MAX] {
+        for level in [LEVEL_LIMIT + 1, LEVEL_LIMIT + 2, u32::MAX] {
             assert_eq!(at_level(&words, level), Err(BadLevel));
             assert_eq!(at_level(&[], level), Err(BadLevel));
         }

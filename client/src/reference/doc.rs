@@ -88,6 +88,7 @@ pub fn append_docstring_prefix(doc: &[u8], indent: &[u8], text: &mut Vec<u8>) {
 #[cfg(test)]
 mod tests {
     use super::*;
+    use crate::limits::{LEVEL_LIMIT, TEXT_LIMIT};
 
     fn converted(doc: &str) -> String {
         String::from_utf8(convert_docstring(doc.as_bytes(), b"")).unwrap()
@@ -229,13 +230,13 @@ mod tests {
 
     #[test]
     fn the_longest_docs() {
-        let indent = [b' '; 64];
-        let newlines = convert_docstring(&[b'\n'; 16_384], &indent);
-        assert_eq!(newlines.len(), 16_384 * (1 + 64 + 4));
-        let spaces = convert_docstring(&[b' '; 16_384], &indent);
-        assert_eq!(spaces.len(), 16_384);
+        let indent = [b' '; 4 * LEVEL_LIMIT as usize];
+        let newlines = convert_docstring(&[b'\n'; TEXT_LIMIT], &indent);
+        assert_eq!(newlines.len(), TEXT_LIMIT * (1 + indent.len() + 4));
+        let spaces = convert_docstring(&[b' '; TEXT_LIMIT], &indent);
+        assert_eq!(spaces.len(), TEXT_LIMIT);
         assert!(spaces.starts_with(b"|    "));
-        let fence = convert_docstring(&[b'`'; 16_384], &indent);
-        assert_eq!(fence.len(), 16_389);
+        let fence = convert_docstring(&[b'`'; TEXT_LIMIT], &indent);
+        assert_eq!(fence.len(), TEXT_LIMIT + 5);
     }
 }

@@ -1,10 +1,8 @@
 //! Whole files: what the program `printdecl` prints.
 
-use super::{read_declaration, PAIR_LIMIT, TEXT_LIMIT, WORD_LIMIT};
+use super::read_declaration;
+use crate::limits::{PAIR_LIMIT, PRINT_LIMIT, TEXT_LIMIT, WORD_LIMIT};
 use crate::{Encoding, Refusal};
-
-/// The longest text that the program has room for. The newline after it is not counted.
-pub const PRINT_LIMIT: usize = 65_536;
 
 const HEADER_LENGTH: usize = 12;
 
@@ -56,6 +54,8 @@ fn numbers(bytes: &[u8]) -> impl Iterator<Item = u32> + '_ {
 #[cfg(test)]
 mod tests {
     use super::*;
+    use crate::cases::GAUGE;
+    use crate::words::{fields::*, head::*, kind::*, name::*, pair, visibility::*};
 
     fn file(header: [u32; 3], numbers: &[u32], text: &[u8]) -> Vec<u8> {
         let mut file = Vec::new();
@@ -67,10 +67,8 @@ mod tests {
     }
 
     fn gauge() -> Vec<u8> {
-        let numbers = [
-            0, 5, 5, 13, 18, 2, 20, 2, // pairs
-            25, 17, 0, 16, 0, 0, 2, 0, 18, 7, 1, 19, 15, 0, // words
-        ];
+        let pairs = [0, 5, 5, 13, 18, 2, 20, 2];
+        let numbers = [&pairs[..], &GAUGE].concat();
         file([4, 14, 22], &numbers, b"GaugeOffset in mm.mmid")
     }
 
@@ -93,20 +91,22 @@ mod tests {
         // A header of nothing: no word is there.
         assert_eq!(refused(&[0; 12]), "refused 3\n");
         assert_eq!(refused(&[0xFF; 12]), "refused 1\n");
+        let limits = [PAIR_LIMIT, WORD_LIMIT, TEXT_LIMIT].map(|limit| limit as u32);
+        let [pairs, words, text] = limits;
         for header in [
-            [1_025, 0, 0],
-            [0, 8_193, 0],
-            [0, 0, 16_385],
+            [pairs + 1, 0, 0],
+            [0, words + 1, 0],
+            [0, 0, text + 1],
             [u32::MAX, 0, 0],
         ] {
             assert_eq!(refused(&file(header, &[], b"")), "refused 1\n");
         }
-        assert_eq!(
-            refused(&file([1_024, 8_192, 16_384], &[], b"")),
-            "refused 9\n"
-        );
+        assert_eq!(refused(&file(limits, &[], b"")), "refused 9\n");
         // Sums that pass 2^32 and come out right by wrapping.
-        assert_eq!(refused(&file([1 << 29, 1, 0], &[25], b"")), "refused 1\n");
+        assert_eq!(
+            refused(&file([1 << 29, 1, 0], &[STRUCT], b"")),
+            "refused 1\n"
+        );
         let mut longer = gauge();
         longer.push(b'!');
         assert_eq!(refused(&longer), "refused 9\n");
@@ -124,9 +124,8 @@ mod tests {
     fn struct_of_length(length: usize) -> Vec<u8> {
         let (name, extra) = ((length - 20) / 4, (length - 20) % 4);
         let pairs = [0, name as u32, name as u32, extra as u32];
-        let words = [
-            25, 0, 0, 17, 0, 1, 4, 1, 12, 16, 1, 12, 16, 1, 12, 16, 1, 12, 16,
-        ];
+        let front = [STRUCT, EMPTY, 0, pair(1), 0, NAMELESS, 4];
+        let words = [&front[..], &[PRIV, IDENTIFIER, pair(0)].repeat(4)].concat();
         let text = [vec![b'n'; name], vec![b'e'; extra]].concat();
         file(
             [2, words.len() as u32, text.len() as u32],
@@ -137,13 +136,13 @@ mod tests {
 
     #[test]
     fn the_longest_text() {
-        for length in [65_535, 65_536] {
+        for length in [PRINT_LIMIT - 1, PRINT_LIMIT] {
             let printed = printdecl(&struct_of_length(length));
             assert_eq!(printed.len(), length + 1);
             assert!(printed.starts_with(b"pub struct "));
             assert!(printed.ends_with(b"n);\n"));
         }
-        for length in [65_537, 65_538] {
+        for length in [PRINT_LIMIT + 1, PRINT_LIMIT + 2] {
             assert_eq!(
                 printdecl(&struct_of_length(length)),
                 b"refused 8\n".to_vec()

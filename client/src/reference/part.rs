@@ -131,6 +131,7 @@ impl Type {
 mod tests {
     use super::*;
     use crate::cases;
+    use crate::words::kind;
 
     /// All eleven parts of each type.
     #[test]
@@ -163,7 +164,12 @@ mod tests {
     #[test]
     fn refusals() {
         for part in &PARTS {
-            for (words, number) in [(&[][..], 3), (&[25], 4), (&[0, 0], 6), (&[12, 36], 4)] {
+            for (words, number) in [
+                (&[][..], 3),
+                (&[kind::END], 4),
+                (&[0, 0], 6),
+                (&[12, 36], 4),
+            ] {
                 let answer = part.answer(&cases::encoded(words).as_encoding());
                 assert_eq!(answer.map_err(Refusal::number), Err(number));
             }

@@ -7,11 +7,11 @@
 use std::rc::Rc;
 
 use super::places::types_of;
-use super::{read_declaration, read_type, read_whole, table_names, FIXED_NAMES, WORD_LIMIT};
+use super::{read_declaration, read_type, read_whole, table_names};
+use crate::limits::{FIXED_NAMES, RULE_LIMIT, WORD_LIMIT};
 use crate::tree::Type;
+use crate::words::{kind, name, root, NO_SIZE};
 use crate::{Encoding, Refusal};
-
-const RULE_LIMIT: u32 = 32;
 
 pub fn type_rebuild(
     encoding: &Encoding<'_>,
@@ -193,14 +193,14 @@ impl Node {
     fn read(words: &[u32]) -> Rc<Node> {
         let count_at = |at: usize| words[at] as usize;
         let (own, children) = match words[0] {
-            0..=11 => (1, 0),
-            12 => (2, 0),
-            13 => (3 + count_at(2), 0),
-            14 | 20 => (2, count_at(1) + 1),
-            15..=18 => (1, 1),
-            19 => (2, count_at(1)),
-            21 | 23 => (1, 2),
-            22 | 24 => (2, 1),
+            kind::U8..=kind::BOOL => (1, 0),
+            kind::IDENTIFIER => (2, 0),
+            kind::FROM_PATH => (3 + count_at(2), 0),
+            kind::APP | kind::FN => (2, count_at(1) + 1),
+            kind::BORROWED..=kind::DYN => (1, 1),
+            kind::TUPLE => (2, count_at(1)),
+            kind::INTERSECTION | kind::SYNONYM => (1, 2),
+            kind::ARRAY | kind::META_DATA => (2, 1),
             other => unreachable!("{other} is no head of a type"),
         };
         let mut at = own;
@@ -268,8 +268,11 @@ impl Node {
 
     fn has_same_own_words(&self, other: &Node, names: &NameTable<'_>) -> bool {
         match (&self.own[..], &other.own[..]) {
-            (&[12, a], &[12, b]) => names.are_same(a, b),
-            ([13, root_a, _, names_a @ ..], [13, root_b, _, names_b @ ..]) => {
+            (&[kind::IDENTIFIER, a], &[kind::IDENTIFIER, b]) => names.are_same(a, b),
+            (
+                [kind::FROM_PATH, root_a, _, names_a @ ..],
+                [kind::FROM_PATH, root_b, _, names_b @ ..],
+            ) => {
                 root_a == root_b
                     && names_a.len() == names_b.len()
                     && names_a
@@ -278,7 +281,9 @@ impl Node {
                         .all(|(&a, &b)| names.are_same(a, b))
             }
             // No size is the same only as no size.
-            (&[22, a], &[22, b]) if a > 0 && b > 0 => names.are_same(a - 1, b - 1),
+            (&[kind::ARRAY, a], &[kind::ARRAY, b]) if a != NO_SIZE && b != NO_SIZE => {
+                names.are_same(a - 1, b - 1)
+            }
             // Heads, counts and flags.
             (a, b) => a == b,
         }
@@ -317,7 +322,7 @@ impl<'a> Rules<'a> {
     fn read(encoding: &Encoding<'a>, words: &[u32]) -> Result<Rules<'a>, Refusal> {
         let types = read_whole(&with_words(encoding, words), |reader| {
             let count = reader.word()?;
-            if count > RULE_LIMIT {
+            if count as usize > RULE_LIMIT {
                 return Err(Refusal::UnknownWord);
             }
             reader.types(2 * count, 1)
@@ -367,9 +372,12 @@ pub fn type_at_initialization(encoding: &Encoding<'_>, out: &mut [u32]) -> Resul
 
 /// The words of `TypeAtInitialization`, however many; new names are fixed ones.
 pub fn initialization_words(encoding: &Encoding<'_>) -> Result<Vec<u32>, Refusal> {
-    const OBJECT_OF: &[u32] = &[14, 1, 13, 0, 2, 10, 11];
-    const PTR_OF: &[u32] = &[14, 1, 13, 0, 2, 10, 12];
-    const MAYBE_UNINIT_OF: &[u32] = &[14, 1, 13, 0, 3, 1, 8, 9];
+    use kind::{APP, FROM_PATH};
+    use name::{DAFNY_RUNTIME, MAYBE_UNINIT, MEM, OBJECT, PTR, STD};
+    use root::GLOBAL;
+    const OBJECT_OF: &[u32] = &[APP, 1, FROM_PATH, GLOBAL, 2, DAFNY_RUNTIME, OBJECT];
+    const PTR_OF: &[u32] = &[APP, 1, FROM_PATH, GLOBAL, 2, DAFNY_RUNTIME, PTR];
+    const MAYBE_UNINIT_OF: &[u32] = &[APP, 1, FROM_PATH, GLOBAL, 3, STD, MEM, MAYBE_UNINIT];
     let tree = read_type(encoding)?;
     let words_of = |part: &Type| {
         let words = tree.words_of(part).expect("a type of the tree");
@@ -379,12 +387,16 @@ pub fn initialization_words(encoding: &Encoding<'_>) -> Result<Vec<u32>, Refusal
     let outside = if tree.is_object() { OBJECT_OF } else { PTR_OF };
     Ok(match tree.array_to_initialize() {
         None => encoding.words.to_vec(),
-        Some(ToInitialize::Array { element }) => {
-            [outside, &[22, 0], MAYBE_UNINIT_OF, words_of(element)].concat()
-        }
+        Some(ToInitialize::Array { element }) => [
+            outside,
+            &[kind::ARRAY, NO_SIZE],
+            MAYBE_UNINIT_OF,
+            words_of(element),
+        ]
+        .concat(),
         Some(ToInitialize::MultiArray { base, element }) => [
             outside,
-            &[14, 1],
+            &[APP, 1],
             words_of(base),
             MAYBE_UNINIT_OF,
             words_of(element),
@@ -483,39 +495,47 @@ mod tests {
     #[test]
     fn no_more_than_8192_words() {
         let sum_of = |count: u32| {
-            let mut words = vec![19, count];
-            words.resize(count as usize + 2, 0);
+            let mut words = vec![kind::TUPLE, count];
+            words.resize(count as usize + 2, kind::U8);
             words
         };
-        for (count, wanted) in [(8_188, Ok(8_191)), (8_189, Ok(8_192)), (8_190, Err(8))] {
+        let limit = WORD_LIMIT as u32;
+        for (count, wanted) in [
+            (limit - 4, Ok(WORD_LIMIT - 1)),
+            (limit - 3, Ok(WORD_LIMIT)),
+            (limit - 2, Err(8)),
+        ] {
             let mut words = sum_of(count);
-            words[2] = 11;
+            words[2] = kind::BOOL;
             let mut out = vec![7; 9_000];
-            let answer = type_rebuild(&bare(&words), &[1, 11, 15, 11], &mut out);
+            let rules = [1, kind::BOOL, kind::BORROWED, kind::BOOL];
+            let answer = type_rebuild(&bare(&words), &rules, &mut out);
             assert_eq!(answer.map_err(Refusal::number), wanted);
             let left = if wanted.is_ok() { 7 } else { 0 };
-            assert!(out[8_192..].iter().all(|&word| word == left));
+            assert!(out[WORD_LIMIT..].iter().all(|&word| word == left));
         }
-        for (count, wanted) in [(8_173, Ok(8_192)), (8_174, Err(8))] {
-            let words = cases::joined(&[&cases::OBJECT_OF, &[22, 0], &sum_of(count)]);
+        for (count, wanted) in [(limit - 19, Ok(WORD_LIMIT)), (limit - 18, Err(8))] {
+            let array = [kind::ARRAY, NO_SIZE];
+            let words = cases::joined(&[&cases::OBJECT_OF, &array, &sum_of(count)]);
             let mut out = vec![7; 9_000];
             let answer = type_at_initialization(&bare(&words), &mut out);
             assert_eq!(answer.map_err(Refusal::number), wanted);
             let left = if wanted.is_ok() { 7 } else { 0 };
-            assert!(out[8_192..].iter().all(|&word| word == left));
+            assert!(out[WORD_LIMIT..].iter().all(|&word| word == left));
         }
     }
 
     /// A tree that would grow to millions of words is refused at once.
     #[test]
     fn growth_is_cheap() {
-        let mut words = vec![19, 8_190];
-        words.resize(8_192, 0);
-        let mut rules = vec![1, 0, 19, 8_188];
-        rules.resize(8_192, 1);
+        let limit = WORD_LIMIT as u32;
+        let mut words = vec![kind::TUPLE, limit - 2];
+        words.resize(WORD_LIMIT, kind::U8);
+        let mut rules = vec![1, kind::U8, kind::TUPLE, limit - 4];
+        rules.resize(WORD_LIMIT, kind::U16);
         let encoding = bare(&words);
         let rebuilt = rebuilt_type(&encoding, &rules).unwrap();
-        assert_eq!(rebuilt.length, 2 + 8_190 * 8_190);
+        assert_eq!(rebuilt.length, 2 + (WORD_LIMIT - 2) * (WORD_LIMIT - 2));
         assert_eq!(rebuilt.peak, rebuilt.length);
         let mut out = [7; 20];
         let answer = type_rebuild(&encoding, &rules, &mut out);

@@ -227,6 +227,7 @@ impl Type {
 mod tests {
     use super::*;
     use crate::cases;
+    use crate::words::kind;
 
     /// All fifteen answers for each type.
     #[test]
@@ -255,7 +256,12 @@ mod tests {
     #[test]
     fn refusals() {
         for shape in &SHAPES {
-            for (words, number) in [(&[][..], 3), (&[25], 4), (&[0, 0], 6), (&[12, 36], 4)] {
+            for (words, number) in [
+                (&[][..], 3),
+                (&[kind::END], 4),
+                (&[0, 0], 6),
+                (&[12, 36], 4),
+            ] {
                 let answer = shape.answer(&cases::encoded(words).as_encoding());
                 assert_eq!(answer.map_err(Refusal::number), Err(number));
             }

@@ -1,11 +1,13 @@
 //! Checks of the words where their text is of no interest.
 
-use super::{next, Words, DEPTH_LIMIT, FIXED_COUNT, MORE_THAN_WORDS};
+use super::{next, Words, MORE_THAN_WORDS};
+use crate::limits::DEPTH_LIMIT;
+use crate::words::{fields, flag, head, kind, root, visibility, FIRST_PAIR};
 use crate::Refusal;
 
 /// How many names there are, the fixed ones included.
 pub(super) fn name_count(pairs: &[u32]) -> u32 {
-    FIXED_COUNT + (pairs.len() / 2) as u32
+    FIRST_PAIR + (pairs.len() / 2) as u32
 }
 
 /// How many children the types around the innermost open one still wait for; lent, as with
@@ -26,7 +28,7 @@ pub(super) fn check_below(word: u32, bound: u32) -> Checked {
 }
 
 fn check_path(rest: &mut Words<'_>, names: u32) -> Checked {
-    check_below(next(rest)?, 3)?;
+    check_below(next(rest)?, root::END)?;
     for _ in 0..next(rest)? {
         check_below(next(rest)?, names)?;
     }
@@ -78,26 +80,26 @@ pub(super) fn check_type_inside<const DEPTH: usize>(
 #[inline(always)]
 fn check_own_words(rest: &mut Words<'_>, names: u32) -> Result<u32, Refusal> {
     Ok(match next(rest)? {
-        0..=11 => 0,
-        12 => {
+        kind::U8..=kind::BOOL => 0,
+        kind::IDENTIFIER => {
             check_below(next(rest)?, names)?;
             0
         }
-        13 => {
+        kind::FROM_PATH => {
             check_path(rest, names)?;
             0
         }
-        14 | 20 => next(rest)?.min(MORE_THAN_WORDS) + 1,
-        15..=18 => 1,
-        19 => next(rest)?.min(MORE_THAN_WORDS),
-        21 | 23 => 2,
-        22 => {
+        kind::APP | kind::FN => next(rest)?.min(MORE_THAN_WORDS) + 1,
+        kind::BORROWED..=kind::DYN => 1,
+        kind::TUPLE => next(rest)?.min(MORE_THAN_WORDS),
+        kind::INTERSECTION | kind::SYNONYM => 2,
+        kind::ARRAY => {
             // No size, or the number of a name plus 1.
             check_below(next(rest)?, names + 1)?;
             1
         }
-        24 => {
-            check_below(next(rest)?, 4)?;
+        kind::META_DATA => {
+            check_below(next(rest)?, flag::END)?;
             1
         }
         _ => return Err(Refusal::UnknownWord),
@@ -142,11 +144,11 @@ impl<F: FnMut(usize, bool) -> Result<usize, Refusal>> DeclarationWalk<'_, F> {
 
     pub fn declaration(&mut self) -> Checked {
         match self.next()? {
-            25 => {
+            head::STRUCT => {
                 self.front()?;
                 self.fields(true)
             }
-            26 => {
+            head::ENUM => {
                 self.front()?;
                 for _ in 0..self.next()? {
                     self.name()?;
@@ -155,12 +157,12 @@ impl<F: FnMut(usize, bool) -> Result<usize, Refusal>> DeclarationWalk<'_, F> {
                 }
                 Ok(())
             }
-            27 => {
+            head::TYPE => {
                 self.front()?;
                 self.type_(false)
             }
-            28 => {
-                self.next_below(2)?;
+            head::USE => {
+                self.next_below(visibility::END)?;
                 let mut rest = self.words[self.at..].iter();
                 check_path(&mut rest, self.names)?;
                 self.at = self.words.len() - rest.len();
@@ -190,9 +192,9 @@ impl<F: FnMut(usize, bool) -> Result<usize, Refusal>> DeclarationWalk<'_, F> {
     }
 
     fn fields(&mut self, of_struct: bool) -> Checked {
-        let nameless = self.next_below(2)? == 1;
+        let nameless = self.next_below(fields::END)? == fields::NAMELESS;
         for _ in 0..self.next()? {
-            self.next_below(2)?;
+            self.next_below(visibility::END)?;
             if !nameless {
                 self.name()?;
             }

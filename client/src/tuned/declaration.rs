@@ -3,8 +3,9 @@
 use super::doc::measure_doc;
 use super::{
     check_no_rest, check_tables, measure, measure_path, name_length, next, skip_type, Outer, Words,
-    Writer, FIXED, FIXED_COUNT, NO_TYPES, PLAIN,
+    Writer, FIXED, NO_TYPES, PLAIN,
 };
+use crate::words::{fields, head, kind, name, root, visibility, FIRST_PAIR};
 use crate::{Encoding, Refusal};
 
 /// The spaces of one level.
@@ -16,9 +17,6 @@ static NEWLINE: [u8; 80] = {
     bytes[0] = b'\n';
     bytes
 };
-
-const UNDERSCORE: u32 = 14;
-const SELF: u32 = 15;
 
 pub fn declaration_text(
     encoding: &Encoding<'_>,
@@ -58,23 +56,23 @@ impl<'a> Names<'a> {
     /// The bytes of a name whose number was checked.
     #[inline]
     pub fn bytes(self, number: u32) -> &'a [u8] {
-        if number < FIXED_COUNT {
+        if number < FIRST_PAIR {
             let fixed = &FIXED[number as usize];
             return &fixed.bytes[..usize::from(fixed.length)];
         }
-        let pair = 2 * (number - FIXED_COUNT) as usize;
+        let pair = 2 * (number - FIRST_PAIR) as usize;
         let (offset, length) = (self.pairs[pair] as usize, self.pairs[pair + 1] as usize);
         &self.text[offset..offset + length]
     }
 
     #[inline]
     fn is_self(self, number: u32) -> bool {
-        number == SELF || (number >= FIXED_COUNT && self.bytes(number) == b"self")
+        number == name::SELF || (number >= FIRST_PAIR && self.bytes(number) == b"self")
     }
 
     #[inline]
     fn is_underscore(self, number: u32) -> bool {
-        number == UNDERSCORE || (number >= FIXED_COUNT && self.bytes(number) == b"_")
+        number == name::UNDERSCORE || (number >= FIRST_PAIR && self.bytes(number) == b"_")
     }
 }
 
@@ -96,11 +94,17 @@ enum FieldForm {
 fn field_form(name: u32, words: &[u32], names: Names<'_>) -> FieldForm {
     // The heads come first: a look at them is cheaper than one at the name.
     match *words {
-        [12, type_name, ..] if names.is_underscore(type_name) => FieldForm::NameAlone,
-        [13, 2, 0, ..] if names.is_self(name) => FieldForm::NameAlone,
-        [15, 13, 2, 0, ..] if names.is_self(name) => FieldForm::Borrowed,
-        [16, 13, 2, 0, ..] if names.is_self(name) => FieldForm::BorrowedMut,
-        [23 | 24, ..] if names.is_self(name) && expands_to_self(words) => FieldForm::NameAlone,
+        [kind::IDENTIFIER, type_name, ..] if names.is_underscore(type_name) => FieldForm::NameAlone,
+        [kind::FROM_PATH, root::SELF_TYPE, 0, ..] if names.is_self(name) => FieldForm::NameAlone,
+        [kind::BORROWED, kind::FROM_PATH, root::SELF_TYPE, 0, ..] if names.is_self(name) => {
+            FieldForm::Borrowed
+        }
+        [kind::BORROWED_MUT, kind::FROM_PATH, root::SELF_TYPE, 0, ..] if names.is_self(name) => {
+            FieldForm::BorrowedMut
+        }
+        [kind::SYNONYM | kind::META_DATA, ..] if names.is_self(name) && expands_to_self(words) => {
+            FieldForm::NameAlone
+        }
         _ => FieldForm::Typed,
     }
 }
@@ -110,9 +114,9 @@ fn expands_to_self(words: &[u32]) -> bool {
     let mut at = 0;
     loop {
         match words[at..] {
-            [23, ..] => at = skip_type(words, at + 1),
-            [24, ..] => at += 2,
-            [13, 2, 0, ..] => return true,
+            [kind::SYNONYM, ..] => at = skip_type(words, at + 1),
+            [kind::META_DATA, ..] => at += 2,
+            [kind::FROM_PATH, root::SELF_TYPE, 0, ..] => return true,
             _ => return false,
         }
     }
@@ -135,22 +139,22 @@ impl Measuring<'_> {
 
     fn declaration(&mut self, indent: usize) -> Checked {
         match self.next()? {
-            25 => {
+            head::STRUCT => {
                 self.length += "pub struct ".len();
                 self.front(indent)?;
                 self.fields(indent, ", ".len(), ";".len())
             }
-            26 => {
+            head::ENUM => {
                 self.length += "pub enum ".len();
                 self.front(indent)?;
                 self.cases(indent)
             }
-            27 => {
+            head::TYPE => {
                 self.length += "pub type ".len() + " = ;".len();
                 self.front(indent)?;
                 self.type_()
             }
-            28 => {
+            head::USE => {
                 self.length += "use ;".len();
                 self.visibility()?;
                 self.length += measure_path(&mut self.rest, self.names.pairs)? as usize;
@@ -185,11 +189,11 @@ impl Measuring<'_> {
     fn measure_type(&mut self) -> Result<usize, Refusal> {
         // Most types are leaves, and need no call.
         match *self.rest.as_slice() {
-            [head @ 0..=11, ref rest @ ..] => {
+            [head @ kind::U8..=kind::BOOL, ref rest @ ..] => {
                 self.rest = rest.iter();
                 Ok(usize::from(PLAIN[head as usize].length))
             }
-            [12, name, ref rest @ ..] => {
+            [kind::IDENTIFIER, name, ref rest @ ..] => {
                 self.rest = rest.iter();
                 Ok(name_length(self.names.pairs, name)? as usize)
             }
@@ -249,7 +253,7 @@ impl Measuring<'_> {
     /// after them.
     fn fields(&mut self, indent: usize, separator: usize, after: usize) -> Checked {
         match self.next()? {
-            0 => {
+            fields::NAMED => {
                 let count = self.next()?;
                 self.length += " {}".len();
                 // A newline before each field and one after the last, and a comma after each but
@@ -264,7 +268,7 @@ impl Measuring<'_> {
                 }
                 Ok(())
             }
-            1 => {
+            fields::NAMELESS => {
                 self.length += "()".len() + after;
                 for i in 0..self.next()? {
                     if i > 0 {
@@ -282,8 +286,8 @@ impl Measuring<'_> {
     #[inline]
     fn visibility(&mut self) -> Checked {
         match self.next()? {
-            0 => self.length += "pub ".len(),
-            1 => {}
+            visibility::PUB => self.length += "pub ".len(),
+            visibility::PRIV => {}
             _ => return Err(Refusal::UnknownWord),
         }
         Ok(())
@@ -310,15 +314,15 @@ impl Measuring<'_> {
 impl Writer<'_> {
     fn put_declaration(&mut self, indent: usize) {
         match self.words[0] {
-            25 => {
+            head::STRUCT => {
                 let (at, end) = self.put_declaration_front(indent, b"pub struct ");
                 self.put_fields(at, end, indent, true);
             }
-            26 => {
+            head::ENUM => {
                 let (at, end) = self.put_declaration_front(indent, b"pub enum ");
                 self.put_cases(at, end, indent);
             }
-            27 => {
+            head::TYPE => {
                 let (at, mut end) = self.put_declaration_front(indent, b"pub type ");
                 end = self.put(end, b" = ");
                 (_, end) = self.put_type(at, end);
@@ -448,7 +452,7 @@ impl Writer<'_> {
         let (kind, count) = (self.words[at], self.words[at + 1]);
         let mut at = at + 2;
         let inner = indent + STEP;
-        if kind == 0 {
+        if kind == fields::NAMED {
             end = self.put(end, b" {");
             for i in 0..count {
                 if i > 0 {
@@ -485,7 +489,7 @@ impl Writer<'_> {
 
     #[inline(always)]
     fn put_visibility(&mut self, at: usize, end: usize) -> usize {
-        if self.words[at] == 0 {
+        if self.words[at] == visibility::PUB {
             self.put(end, b"pub ")
         } else {
             end

@@ -6,9 +6,14 @@
 
 use super::check::{check_type_inside, check_whole_type, name_count};
 use super::declaration::Names;
-use super::rebuild::{cleared, copied, WORD_LIMIT};
-use super::walks::{Checked, DAFNY_RUNTIME, OBJECT, PTR};
-use super::{check_no_rest, check_tables, DEPTH_LIMIT, FIXED_COUNT};
+use super::rebuild::{cleared, copied};
+use super::walks::Checked;
+use super::{check_no_rest, check_tables};
+use crate::limits::{DEPTH_LIMIT, WORD_LIMIT};
+use crate::words::kind::{APP, ARRAY, FROM_PATH};
+use crate::words::name::{DAFNY_RUNTIME, MAYBE_UNINIT, MEM, OBJECT, PTR, STD};
+use crate::words::root::GLOBAL;
+use crate::words::{FIRST_PAIR, NO_SIZE};
 use crate::{Encoding, Refusal};
 
 pub fn type_at_initialization(encoding: &Encoding<'_>, out: &mut [u32]) -> Result<usize, Refusal> {
@@ -27,15 +32,20 @@ pub fn type_at_initialization(encoding: &Encoding<'_>, out: &mut [u32]) -> Resul
     let too_deep = is_deepest && is_too_deep(element, name_count);
     match array {
         Array::Plain { .. } => {
+            #[rustfmt::skip]
             let front = [
-                14, 1, 13, 0, 2, 10, outside, 22, 0, 14, 1, 13, 0, 3, 1, 8, 9,
+                APP, 1, FROM_PATH, GLOBAL, 2, DAFNY_RUNTIME, outside,
+                ARRAY, NO_SIZE,
+                APP, 1, FROM_PATH, GLOBAL, 3, STD, MEM, MAYBE_UNINIT,
             ];
             deliver(&front, element, too_deep, out)
         }
         Array::Multi { module, name, .. } => {
+            #[rustfmt::skip]
             let front = [
-                14, 1, 13, 0, 2, 10, outside, 14, 1, 13, 0, 2, module, name, 14, 1, 13, 0, 3, 1, 8,
-                9,
+                APP, 1, FROM_PATH, GLOBAL, 2, DAFNY_RUNTIME, outside,
+                APP, 1, FROM_PATH, GLOBAL, 2, module, name,
+                APP, 1, FROM_PATH, GLOBAL, 3, STD, MEM, MAYBE_UNINIT,
             ];
             deliver(&front, element, too_deep, out)
         }
@@ -118,12 +128,12 @@ impl Checked<'_> {
     }
 
     fn array(self, at: usize) -> Option<Array> {
-        if let [22, 0, ..] = self.words[at..] {
+        if let [ARRAY, NO_SIZE, ..] = self.words[at..] {
             return Some(Array::Plain { element: at + 2 });
         }
         let at = self.expanded(at);
         match self.words[at..] {
-            [14, 1, 13, 0, 2, module, name, ..]
+            [APP, 1, FROM_PATH, GLOBAL, 2, module, name, ..]
                 if self.is_name(module, DAFNY_RUNTIME) && self.begins_with_array(name) =>
             {
                 Some(Array::Multi {
@@ -138,6 +148,6 @@ impl Checked<'_> {
 
     /// No fixed name does.
     fn begins_with_array(self, number: u32) -> bool {
-        number >= FIXED_COUNT && self.names.bytes(number).starts_with(b"Array")
+        number >= FIRST_PAIR && self.names.bytes(number).starts_with(b"Array")
     }
 }

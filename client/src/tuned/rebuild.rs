@@ -9,12 +9,12 @@ use super::check::{
     check_declaration, check_type, check_whole_type, name_count, DeclarationWalk, NONE_LEFT,
 };
 use super::declaration::Names;
-use super::{check_no_rest, check_tables, next, DEPTH_LIMIT};
+use super::{check_no_rest, check_tables, next};
+use crate::limits::{DEPTH_LIMIT, RULE_LIMIT, WORD_LIMIT};
+use crate::words::{kind, NO_SIZE};
 use crate::{Encoding, Refusal};
 
-pub(super) const WORD_LIMIT: usize = 8_192;
-const RULE_LIMIT: usize = 32;
-const HEADS: usize = 25;
+const HEADS: usize = kind::END as usize;
 
 pub fn type_rebuild(
     encoding: &Encoding<'_>,
@@ -180,9 +180,10 @@ fn is_same(a: &[u32], b: &[u32], names: Names<'_>) -> bool {
             return false;
         }
         at += match head {
-            0..=11 | 15..=18 | 21 | 23 => 1,
-            12 if same_name(a[at + 1], b[at + 1]) => 2,
-            13 if a[at + 1..at + 3] == b[at + 1..at + 3] => {
+            kind::U8..=kind::BOOL | kind::BORROWED..=kind::DYN => 1,
+            kind::INTERSECTION | kind::SYNONYM => 1,
+            kind::IDENTIFIER if same_name(a[at + 1], b[at + 1]) => 2,
+            kind::FROM_PATH if a[at + 1..at + 3] == b[at + 1..at + 3] => {
                 let names = at + 3..at + 3 + a[at + 2] as usize;
                 let mut both = a[names.clone()].iter().zip(&b[names.clone()]);
                 if !both.all(|(&a, &b)| same_name(a, b)) {
@@ -190,8 +191,8 @@ fn is_same(a: &[u32], b: &[u32], names: Names<'_>) -> bool {
                 }
                 3 + names.len()
             }
-            14 | 19 | 20 | 24 if a[at + 1] == b[at + 1] => 2,
-            22 if is_same_size(a[at + 1], b[at + 1], same_name) => 2,
+            kind::APP | kind::TUPLE | kind::FN | kind::META_DATA if a[at + 1] == b[at + 1] => 2,
+            kind::ARRAY if is_same_size(a[at + 1], b[at + 1], same_name) => 2,
             _ => return false,
         };
     }
@@ -199,7 +200,7 @@ fn is_same(a: &[u32], b: &[u32], names: Names<'_>) -> bool {
 }
 
 fn is_same_size(a: u32, b: u32, same_name: impl Fn(u32, u32) -> bool) -> bool {
-    a == b || (a > 0 && b > 0 && same_name(a - 1, b - 1))
+    a == b || (a != NO_SIZE && b != NO_SIZE && same_name(a - 1, b - 1))
 }
 
 /// A type whose children are being rebuilt.
@@ -376,14 +377,14 @@ impl<'a> Rebuilding<'a> {
 #[inline(always)]
 pub(super) fn own_words_and_children(words: &[u32]) -> (usize, u32) {
     match words[0] {
-        0..=11 => (1, 0),
-        12 => (2, 0),
-        13 => (3 + words[2] as usize, 0),
-        14 | 20 => (2, words[1] + 1),
-        15..=18 => (1, 1),
-        19 => (2, words[1]),
-        21 | 23 => (1, 2),
-        _ => (2, 1), // 22, 24
+        kind::U8..=kind::BOOL => (1, 0),
+        kind::IDENTIFIER => (2, 0),
+        kind::FROM_PATH => (3 + words[2] as usize, 0),
+        kind::APP | kind::FN => (2, words[1] + 1),
+        kind::BORROWED..=kind::DYN => (1, 1),
+        kind::TUPLE => (2, words[1]),
+        kind::INTERSECTION | kind::SYNONYM => (1, 2),
+        _ => (2, 1), // arrays and metadata
     }
 }
 
@@ -437,8 +438,13 @@ mod tests {
     }
 
     fn shape(random: &mut Random, round: usize) -> Shape {
+        let depth = if round.is_multiple_of(4) {
+            DEPTH_LIMIT - 2
+        } else {
+            5
+        };
         Shape {
-            depth: if round.is_multiple_of(4) { 62 } else { 5 } + random.below(4),
+            depth: depth + random.below(4),
             chain: round.is_multiple_of(4),
             children: 4,
             words: 150,

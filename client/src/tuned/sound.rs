@@ -6,7 +6,9 @@
 
 use super::check::{check_below, check_type_inside, check_whole_type, name_count, NONE_LEFT};
 use super::declaration::Names;
-use super::{check_no_rest, check_tables, next, Words, FIXED_COUNT, MORE_THAN_WORDS};
+use super::{check_no_rest, check_tables, next, Words, MORE_THAN_WORDS};
+use crate::limits::PAIR_LIMIT;
+use crate::words::{flag, kind, name, root, FIRST_PAIR};
 use crate::{Encoding, Refusal};
 
 pub fn type_is_sound(encoding: &Encoding<'_>) -> Result<bool, Refusal> {
@@ -51,9 +53,9 @@ fn ensure(sound: bool) -> Judged<()> {
 }
 
 /// A bit for each pair.
-type PairSet = [u64; 1_024 / 64];
+type PairSet = [u64; PAIR_LIMIT / 64];
 
-const NONE_SO_FAR: PairSet = [0; 1_024 / 64];
+const NONE_SO_FAR: PairSet = [0; PAIR_LIMIT / 64];
 
 /// Added to the number of children that are left: a result follows them, or a base.
 const THEN_RESULT: u32 = 1 << 16;
@@ -109,43 +111,44 @@ impl Judge<'_> {
     #[inline(always)]
     fn own_words(&mut self) -> Judged<u32> {
         Ok(match next(&mut self.rest)? {
-            0..=11 => 0,
-            12 => {
+            kind::U8..=kind::BOOL => 0,
+            kind::IDENTIFIER => {
                 self.name()?;
                 0
             }
-            13 => {
+            kind::FROM_PATH => {
                 self.path()?;
                 0
             }
-            14 => {
+            kind::APP => {
                 let count = next(&mut self.rest)?.min(MORE_THAN_WORDS);
-                ensure(count > 0 && matches!(self.shown_head(), Some(12 | 13)))?;
+                let is_named = |head| matches!(head, Some(kind::IDENTIFIER | kind::FROM_PATH));
+                ensure(count > 0 && is_named(self.shown_head()))?;
                 count + 1
             }
-            15..=18 => {
+            kind::BORROWED..=kind::DYN => {
                 self.no_intersection()?;
                 1
             }
-            19 => next(&mut self.rest)?.min(MORE_THAN_WORDS),
-            20 => match next(&mut self.rest)?.min(MORE_THAN_WORDS) {
+            kind::TUPLE => next(&mut self.rest)?.min(MORE_THAN_WORDS),
+            kind::FN => match next(&mut self.rest)?.min(MORE_THAN_WORDS) {
                 0 => {
                     self.no_intersection()?;
                     1
                 }
                 count => count + THEN_RESULT,
             },
-            21 => {
+            kind::INTERSECTION => {
                 self.no_intersection()?;
                 2
             }
-            22 => {
+            kind::ARRAY => {
                 self.size()?;
                 1
             }
-            23 => 1 + THEN_BASE,
-            24 => {
-                check_below(next(&mut self.rest)?, 4)?;
+            kind::SYNONYM => 1 + THEN_BASE,
+            kind::META_DATA => {
+                check_below(next(&mut self.rest)?, flag::END)?;
                 1
             }
             _ => return Err(Refusal::UnknownWord.into()),
@@ -160,7 +163,7 @@ impl Judge<'_> {
         let mut ahead = self.rest.as_slice();
         loop {
             ahead = match ahead {
-                [23, display @ ..] | [24, _, display @ ..] => display,
+                [kind::SYNONYM, display @ ..] | [kind::META_DATA, _, display @ ..] => display,
                 _ => return ahead.first().copied(),
             }
         }
@@ -168,14 +171,14 @@ impl Judge<'_> {
 
     #[inline(always)]
     fn no_intersection(&self) -> Judged<()> {
-        ensure(self.shown_head() != Some(21))
+        ensure(self.shown_head() != Some(kind::INTERSECTION))
     }
 
     fn path(&mut self) -> Judged<()> {
         let root = next(&mut self.rest)?;
-        check_below(root, 3)?;
+        check_below(root, root::END)?;
         let count = next(&mut self.rest)?;
-        ensure(root != 0 || count > 0)?;
+        ensure(root != root::GLOBAL || count > 0)?;
         for _ in 0..count {
             self.name()?;
         }
@@ -185,15 +188,15 @@ impl Judge<'_> {
     #[inline(always)]
     fn name(&mut self) -> Judged<()> {
         let number = next(&mut self.rest)?;
-        if number < FIXED_COUNT {
-            return ensure(number > 0); // of the fixed names only the empty one is not sound
+        if number < FIRST_PAIR {
+            return ensure(number != name::EMPTY); // the only fixed name that is not sound
         }
-        if has(&self.sound_names, number - FIXED_COUNT) {
+        if has(&self.sound_names, number - FIRST_PAIR) {
             return Ok(());
         }
         check_below(number, self.name_count)?;
         ensure(is_sound_name(self.bytes(number)))?;
-        add(&mut self.sound_names, number - FIXED_COUNT);
+        add(&mut self.sound_names, number - FIRST_PAIR);
         Ok(())
     }
 
@@ -201,16 +204,16 @@ impl Judge<'_> {
     #[inline(always)]
     fn size(&mut self) -> Judged<()> {
         let size = next(&mut self.rest)?;
-        if size <= FIXED_COUNT {
-            return ensure(size != 1);
+        if size <= FIRST_PAIR {
+            return ensure(size != name::EMPTY + 1);
         }
         let number = size - 1;
-        if has(&self.sound_sizes, number - FIXED_COUNT) {
+        if has(&self.sound_sizes, number - FIRST_PAIR) {
             return Ok(());
         }
         check_below(number, self.name_count)?;
         ensure(is_sound_size(self.bytes(number)))?;
-        add(&mut self.sound_sizes, number - FIXED_COUNT);
+        add(&mut self.sound_sizes, number - FIRST_PAIR);
         Ok(())
     }
 
@@ -218,7 +221,7 @@ impl Judge<'_> {
     #[inline(always)]
     fn bytes(&self, number: u32) -> Bytes<'_> {
         let Names { pairs, text } = self.names;
-        let pair = 2 * (number - FIXED_COUNT) as usize;
+        let pair = 2 * (number - FIRST_PAIR) as usize;
         Bytes {
             from: &text[pairs[pair] as usize..],
             length: pairs[pair + 1] as usize,
@@ -381,7 +384,7 @@ mod tests {
         let random = &mut Random::new(76);
         let mut answers = [0; 2];
         for round in 0..2_000 {
-            let names = Table::random(random, 1_024);
+            let names = Table::random(random, PAIR_LIMIT);
             let shape = Shape {
                 depth: 4 + round % 7,
                 chain: false,

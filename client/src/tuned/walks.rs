@@ -4,7 +4,8 @@ use std::ops::Range;
 
 use super::check::{check_declaration, check_whole_type, name_count, DeclarationWalk};
 use super::declaration::Names;
-use super::{check_tables, skip_type, FIXED_COUNT};
+use super::{check_tables, skip_type};
+use crate::words::{flag, kind, name, root, FIRST_PAIR};
 use crate::{Encoding, Refusal};
 
 pub fn type_visit(encoding: &Encoding<'_>, out: &mut [u32]) -> Result<usize, Refusal> {
@@ -79,7 +80,7 @@ fn visit_types(
 ) -> usize {
     while types_left > 0 {
         visit(at);
-        if words[at] == 23 {
+        if words[at] == kind::SYNONYM {
             at = visit_types(words, at + 1, 1, visit);
             at = skip_type(words, at);
             types_left -= 1;
@@ -99,11 +100,6 @@ pub(super) struct Checked<'a> {
     pub names: Names<'a>,
 }
 
-const STD: u32 = 1;
-pub(super) const DAFNY_RUNTIME: u32 = 10;
-pub(super) const OBJECT: u32 = 11;
-pub(super) const PTR: u32 = 12;
-
 impl<'a> Checked<'a> {
     fn new(encoding: &Encoding<'a>) -> Result<Checked<'a>, Refusal> {
         check_tables(encoding, 0)?;
@@ -118,14 +114,14 @@ impl<'a> Checked<'a> {
     #[inline]
     pub fn is_name(self, number: u32, fixed: u32) -> bool {
         number == fixed
-            || (number >= FIXED_COUNT && self.names.bytes(number) == self.names.bytes(fixed))
+            || (number >= FIRST_PAIR && self.names.bytes(number) == self.names.bytes(fixed))
     }
 
     /// Whether the type at `at` is `::dafny_runtime::name` of one argument.
     pub fn is_runtime_type(self, at: usize, name: u32) -> bool {
         match self.words[at..] {
-            [14, 1, 13, 0, 2, module, of, ..] => {
-                self.is_name(of, name) && self.is_name(module, DAFNY_RUNTIME)
+            [kind::APP, 1, kind::FROM_PATH, root::GLOBAL, 2, module, of, ..] => {
+                self.is_name(of, name) && self.is_name(module, name::DAFNY_RUNTIME)
             }
             _ => false,
         }
@@ -135,8 +131,8 @@ impl<'a> Checked<'a> {
     pub fn expanded(self, mut at: usize) -> usize {
         loop {
             match self.words[at] {
-                23 => at = skip_type(self.words, at + 1),
-                24 => at += 2,
+                kind::SYNONYM => at = skip_type(self.words, at + 1),
+                kind::META_DATA => at += 2,
                 _ => return at,
             }
         }
@@ -146,9 +142,11 @@ impl<'a> Checked<'a> {
 pub fn is_rc(encoding: &Encoding<'_>) -> Result<bool, Refusal> {
     let checked = Checked::new(encoding)?;
     Ok(match *checked.words {
-        [14, 1, 13, 0, 3, std, module, name, ..] => {
+        [kind::APP, 1, kind::FROM_PATH, root::GLOBAL, 3, std, module, name, ..] => {
             let is = |number, fixed| checked.is_name(number, fixed);
-            is(std, STD) && (is(module, 2) && is(name, 3) || is(module, 4) && is(name, 5))
+            is(std, name::STD)
+                && (is(module, name::RC_MODULE) && is(name, name::RC)
+                    || is(module, name::SYNC) && is(name, name::ARC))
         }
         _ => false,
     })
@@ -159,10 +157,11 @@ pub fn can_read_without_clone(encoding: &Encoding<'_>) -> Result<bool, Refusal> 
     let mut at = 0;
     loop {
         match checked.words[at..] {
-            [0..=11, ..] | [24, 1 | 3, ..] => return Ok(true),
-            [23, ..] => at = skip_type(checked.words, at + 1),
-            [24, ..] => at += 2,
-            _ => return Ok(checked.is_runtime_type(at, PTR)),
+            [kind::U8..=kind::BOOL, ..] => return Ok(true),
+            [kind::META_DATA, flag::COPY_SEMANTICS | flag::ALL, ..] => return Ok(true),
+            [kind::SYNONYM, ..] => at = skip_type(checked.words, at + 1),
+            [kind::META_DATA, ..] => at += 2,
+            _ => return Ok(checked.is_runtime_type(at, name::PTR)),
         }
     }
 }
@@ -170,7 +169,7 @@ pub fn can_read_without_clone(encoding: &Encoding<'_>) -> Result<bool, Refusal> 
 pub fn is_object_or_pointer(encoding: &Encoding<'_>) -> Result<bool, Refusal> {
     let checked = Checked::new(encoding)?;
     let at = checked.expanded(0);
-    Ok(checked.is_runtime_type(at, PTR) || checked.is_runtime_type(at, OBJECT))
+    Ok(checked.is_runtime_type(at, name::PTR) || checked.is_runtime_type(at, name::OBJECT))
 }
 
 pub fn expand(encoding: &Encoding<'_>) -> Result<Range<usize>, Refusal> {
@@ -182,7 +181,7 @@ pub fn expand(encoding: &Encoding<'_>) -> Result<Range<usize>, Refusal> {
 pub fn object_or_pointer_underlying(encoding: &Encoding<'_>) -> Result<Range<usize>, Refusal> {
     let checked = Checked::new(encoding)?;
     let at = checked.expanded(0);
-    if !checked.is_runtime_type(at, PTR) && !checked.is_runtime_type(at, OBJECT) {
+    if !checked.is_runtime_type(at, name::PTR) && !checked.is_runtime_type(at, name::OBJECT) {
         return Err(Refusal::NoSuchPart);
     }
     let argument = at + 7;

@@ -4,6 +4,7 @@
 #![allow(dead_code)]
 
 use tillercoral::generate::{Random, Shape};
+use tillercoral::limits::DEPTH_LIMIT;
 use tillercoral::{Encoding, Refusal};
 
 pub type TextCall = fn(&Encoding<'_>, u32, &mut [u8]) -> Result<usize, Refusal>;
@@ -135,7 +136,7 @@ pub fn shape(round: usize, random: &mut Random) -> Shape {
             careless,
         },
         3 => Shape {
-            depth: 60 + random.below(8), // 65 and more are refused
+            depth: DEPTH_LIMIT - 4 + random.below(8), // 65 and more are refused
             chain: true,
             children: 2,
             words: 1_000,

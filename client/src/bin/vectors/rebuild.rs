@@ -10,7 +10,11 @@ use tillercoral::generate::{
     damage, damage_rules, random_declaration, random_rules, random_shaped_type, random_type,
     respelled, Names, Random, Shape,
 };
+use tillercoral::limits::{DEPTH_LIMIT, RULE_LIMIT, WORD_LIMIT};
 use tillercoral::reference::{self, Rebuilt};
+use tillercoral::words::{
+    fields::NAMELESS, head::STRUCT, head::USE, kind::*, name::*, root::GLOBAL, visibility::PUB,
+};
 use tillercoral::{Encoding, EncodingBuf, Refusal};
 
 use super::{bare, Vectors, MOST_BUFFER, MOST_WORDS};
@@ -89,17 +93,18 @@ fn by_hand(vectors: &mut Vectors, call: u32, case: &WordCase) {
 
 /// 1 before 2 before the tree before the rules before 10 before 8.
 fn order(vectors: &mut Vectors) {
-    let long = vec![0; 8_193];
+    let long = vec![0; WORD_LIMIT + 1];
+    let too_many = &[RULE_LIMIT as u32 + 1];
     for (words, pairs, rules) in [
         (&[][..], &[9][..], &long[..]),
-        (&[], &[9], &[33]),
-        (&[], &[], &[33]),
-        (&[99], &[], &[33]),
-        (&[28, 0, 0, 0, 0], &[], &[33]),
-        (&[28, 0, 0, 0], &[], &[33]),
-        (&[28, 0, 0, 0], &[], &[2, 0, 1, 0, 1, 0]),
-        (&[28, 0, 0, 0], &[], &[2, 0, 1, 0, 1]),
-        (&[28, 0, 0, 0], &[], &[2, 0, 1, 1, 0]),
+        (&[], &[9], too_many),
+        (&[], &[], too_many),
+        (&[99], &[], too_many),
+        (&[USE, PUB, GLOBAL, 0, 0], &[], too_many),
+        (&[USE, PUB, GLOBAL, 0], &[], too_many),
+        (&[USE, PUB, GLOBAL, 0], &[], &[2, 0, 1, 0, 1, 0]),
+        (&[USE, PUB, GLOBAL, 0], &[], &[2, 0, 1, 0, 1]),
+        (&[USE, PUB, GLOBAL, 0], &[], &[2, 0, 1, 1, 0]),
     ] {
         let text = &[];
         let encoding = Encoding { words, pairs, text };
@@ -114,31 +119,38 @@ fn order(vectors: &mut Vectors) {
 
 fn limits(vectors: &mut Vectors) {
     // The longest list of rules, used and not used.
-    let mut longest = vec![1, 0, 19, 8_188];
-    longest.resize(8_192, 1);
-    vectors.rebuild(TYPE, &bare(&[15, 1]), &longest, 4);
-    vectors.rebuild(TYPE, &bare(&[15, 0]), &longest, 4);
+    let mut longest = vec![1, U8, TUPLE, WORD_LIMIT as u32 - 4];
+    longest.resize(WORD_LIMIT, U16);
+    vectors.rebuild(TYPE, &bare(&[BORROWED, U16]), &longest, 4);
+    vectors.rebuild(TYPE, &bare(&[BORROWED, U8]), &longest, 4);
     // A type of 8,192 words becomes one word, for which there is no room before.
-    let mut words = vec![19, 8_190];
-    words.resize(8_192, 11);
-    vectors.rebuild(TYPE, &bare(&words), &[1, 11, 15, 11], 16);
+    let mut words = vec![TUPLE, WORD_LIMIT as u32 - 2];
+    words.resize(WORD_LIMIT, BOOL);
+    vectors.rebuild(TYPE, &bare(&words), &[1, BOOL, BORROWED, BOOL], 16);
     vectors.initialization(&bare(&words), 16);
     words.truncate(4_096);
     words[1] = 4_094;
-    vectors.rebuild(TYPE, &bare(&words), &[1, 11, 10], MOST_BUFFER);
+    vectors.rebuild(TYPE, &bare(&words), &[1, BOOL, USIZE], MOST_BUFFER);
     // 32 rules, and 33.
-    for count in [32, 33] {
+    for count in [RULE_LIMIT as u32, RULE_LIMIT as u32 + 1] {
         let mut rules = vec![count];
-        rules.extend((0..count).flat_map(|number| [24, number / 12, number % 12, 15, number % 12]));
-        let words = [19, 3, 24, 0, 5, 24, 2, 7, 24, 2, 8];
+        for number in 0..count {
+            let (flags, plain) = (number / 12, number % 12);
+            rules.extend([META_DATA, flags, plain, BORROWED, plain]);
+        }
+        let words = [
+            TUPLE, 3, META_DATA, 0, I8, META_DATA, 2, I32, META_DATA, 2, I64,
+        ];
         vectors.rebuild(TYPE, &bare(&words), &rules, 14);
     }
     // Depths.
-    for depth in [61, 62, 63] {
-        let words = borrows_then(depth, &[0]);
-        vectors.rebuild(TYPE, &bare(&words), &[1, 0, 15, 15, 0], 68);
-        let field = [&[25, 0, 0, 1, 0, 1, 1, 0], &words[..]].concat();
-        vectors.rebuild(DECLARATION, &bare(&field), &[1, 0, 19, 1, 0], 80);
+    for depth in DEPTH_LIMIT - 3..DEPTH_LIMIT {
+        let words = borrows_then(depth, &[U8]);
+        let rules = [1, U8, BORROWED, BORROWED, U8];
+        vectors.rebuild(TYPE, &bare(&words), &rules, 68);
+        let front = [STRUCT, EMPTY, 0, STD, 0, NAMELESS, 1, PUB];
+        let field = [&front, &words[..]].concat();
+        vectors.rebuild(DECLARATION, &bare(&field), &[1, U8, TUPLE, 1, U8], 80);
     }
 }
 
@@ -164,7 +176,7 @@ fn generated_types(vectors: &mut Vectors) {
         let names = Names::random_for_shapes(random);
         let sample = random_shaped_type(random, &names, 4);
         let from = respelled(random, &names, &sample.words);
-        let rules = [&[1], &from[..], &[11]].concat();
+        let rules = [&[1], &from[..], &[BOOL]].concat();
         vectors.rebuild_around(TYPE, &sample, &rules, true);
     }
 }

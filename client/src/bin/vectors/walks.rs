@@ -6,14 +6,16 @@
 //! `refused N`. For call 12: a line `part START LENGTH` and a line of the part's words, as decimals
 //! with a space between each two; or a line `refused N` and an empty line.
 
-use tillercoral::cases;
+use tillercoral::cases::{self, borrows_then};
 use tillercoral::generate::{
     damage, random_declaration, random_shaped_type, random_type, Names, Random, Shape,
 };
+use tillercoral::limits::{DEPTH_LIMIT, TEXT_LIMIT, WORD_LIMIT};
 use tillercoral::reference::{self, PARTS, SHAPES};
+use tillercoral::words::kind::{self, BOOL, SYNONYM, TUPLE, U8};
 use tillercoral::{Encoding, EncodingBuf};
 
-use super::{bare, borrows_then, decimals, refused, Vectors};
+use super::{bare, decimals, refused, Vectors};
 
 impl Vectors {
     fn type_visit(&mut self, encoding: &Encoding<'_>, buffer: usize) {
@@ -106,14 +108,14 @@ fn parts_by_hand(vectors: &mut Vectors) {
 
 /// Each refusal before the tree and in it, in turn of all calls.
 fn refusals(vectors: &mut Vectors) {
-    let long_text = vec![b'x'; 16_385];
-    let deep = borrows_then(64, &[]);
+    let long_text = vec![b'x'; TEXT_LIMIT + 1];
+    let deep = borrows_then(DEPTH_LIMIT, &[]);
     let samples: [(&[u32], &[u32], &[u8]); 8] = [
         (&[], &[9], &long_text),
         (&[], &[9], b""),
         (&[], &[], b""),
         (&[99], &[], b""),
-        (&[25], &[], b""),
+        (&[kind::END], &[], b""),
         (&deep, &[], b""),
         (&[0, 0], &[], b""),
         (&[12, 16], &[], b""),
@@ -131,12 +133,12 @@ fn refusals(vectors: &mut Vectors) {
 }
 
 fn long_types(vectors: &mut Vectors) {
-    let mut words = vec![23, 0, 19, 8_188];
-    words.resize(8_192, 11);
+    let mut words = vec![SYNONYM, U8, TUPLE, WORD_LIMIT as u32 - 4];
+    words.resize(WORD_LIMIT, BOOL);
     vectors.type_visit(&bare(&words), 4);
     vectors.part(1, &bare(&words));
-    let mut list = vec![19, 1_000];
-    list.resize(1_002, 11);
+    let mut list = vec![TUPLE, 1_000];
+    list.resize(1_002, BOOL);
     vectors.type_visit(&bare(&list), 1_001);
     vectors.type_visit(&bare(&list), 1_000);
 }
