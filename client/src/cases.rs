@@ -1,5 +1,5 @@
-//! Small cases with answers worked out by hand from the papers: their marked cases, and what is
-//! easily got wrong. The reference and the library are held to the same ones.
+//! Small cases with answers worked out by hand: the marked cases, which `docs/TRACE.md` lists, and
+//! what is easily got wrong. The reference and the library are held to the same ones.
 
 use crate::generate::Names;
 use crate::EncodingBuf;
@@ -10,8 +10,8 @@ pub use walks::{declaration_visits, parts, shapes, type_visits, PartCase, ShapeC
 mod rebuild;
 mod walks;
 
-/// The names that the cases use: the papers' own four as 16 to 19, then those that shapes look at,
-/// bytes of fixed names among them.
+/// The names that the cases use: the four of `examples/gauge` as 16 to 19, then those that shapes
+/// look at, bytes of fixed names among them.
 pub fn names() -> Names {
     Names::of(&[
         b"Gauge",         // 16
@@ -49,7 +49,7 @@ pub fn borrows_then(count: usize, rest: &[u32]) -> Vec<u32> {
     words
 }
 
-/// The struct of the papers' example.
+/// The struct of `examples/gauge`.
 pub const GAUGE: [u32; 14] = [25, 17, 0, 16, 0, 0, 2, 0, 18, 7, 1, 19, 15, 0];
 
 /// A call that writes words.

@@ -243,7 +243,7 @@ fn all_vectors() -> Vectors {
     vectors
 }
 
-/// The table of the papers' marked cases: `Gauge`, a sentence, `mm`, `id` as names 16 to 19.
+/// The table of `examples/gauge`: `Gauge`, a sentence, `mm`, `id` as names 16 to 19.
 const GAUGE_PAIRS: [u32; 8] = [0, 5, 5, 13, 18, 2, 20, 2];
 const GAUGE_TEXT: &[u8] = b"GaugeOffset in mm.mmid";
 
@@ -744,7 +744,7 @@ fn generated(vectors: &mut Vectors) {
 
 // Declarations.
 
-/// The papers' example.
+/// The struct of `examples/gauge`.
 const GAUGE_WORDS: [u32; 14] = [25, 17, 0, 16, 0, 0, 2, 0, 18, 7, 1, 19, 15, 0];
 
 /// Names 16 `A`, 17 `B`, 18 `self`, 19 `_`, 20 empty.
