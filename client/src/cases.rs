@@ -1,5 +1,5 @@
-//! Small cases with answers worked out by hand from the papers: their marked cases, and what is
-//! easily got wrong. The reference and the library are held to the same ones.
+//! Small cases with answers worked out by hand: the marked cases, which `docs/TRACE.md` lists, and
+//! what is easily got wrong. The reference and the library are held to the same ones.
 
 use crate::generate::Names;
 use crate::words::{fields::*, head::*, kind::*, name::*, pair, root::*, visibility::*};
@@ -11,8 +11,8 @@ pub use walks::{declaration_visits, parts, shapes, type_visits, PartCase, ShapeC
 mod rebuild;
 mod walks;
 
-/// The names that the cases use: the papers' own four as 16 to 19, then those that shapes look at,
-/// bytes of fixed names among them.
+/// The names that the cases use: the four of `examples/gauge` as 16 to 19, then those that shapes
+/// look at, bytes of fixed names among them.
 pub fn names() -> Names {
     Names::of(&[
         b"Gauge",         // 16
@@ -50,13 +50,13 @@ pub fn borrows_then(count: usize, rest: &[u32]) -> Vec<u32> {
     words
 }
 
-/// The papers' own names: `Gauge`, `Offset in mm.`, `mm` and `id`.
+/// The names of `examples/gauge`: `Gauge`, `Offset in mm.`, `mm` and `id`.
 pub const GAUGE_NAME: u32 = pair(0);
 pub const OFFSET: u32 = pair(1);
 pub const MM: u32 = pair(2);
 pub const ID: u32 = pair(3);
 
-/// The struct of the papers' example.
+/// The struct of `examples/gauge`.
 pub const GAUGE: [u32; 14] = [
     STRUCT, OFFSET, 0, GAUGE_NAME, 0, NAMED, 2, PUB, MM, I32, PRIV, ID, BORROWED, U8,
 ];

@@ -189,7 +189,7 @@ impl<'a> Encoding<'a> {
 ///
 /// Each encodes the tree first. A tree that no encoding has room for is refused with
 /// [`Refusal::Overlong`] or [`Refusal::TooDeep`], whichever the encoder meets first, and before a
-/// bad level is: the library, which is given words, tests in the order of its own documents.
+/// bad level is: the library, which is given words, tests in the order of `docs/API.md`.
 impl Type {
     /// The text, as the library prints it.
     ///

@@ -1,6 +1,7 @@
-//! A second implementation of the calls, written from the papers alone, to compare the library
-//! with. It shares no code with the library and aims at being plainly right: words become an owned
-//! tree, the tree becomes text as the Dafny bodies say, and only then is the buffer looked at.
+//! A second implementation of the calls, to compare the library with. It is written from the rules
+//! that `docs/API.md` repeats and from the Dafny bodies alone, not from the library's definitions.
+//! It shares no code with the library and aims at being plainly right: words become an owned tree,
+//! the tree becomes text as the Dafny bodies say, and only then is the buffer looked at.
 
 use crate::limits::{DEPTH_LIMIT, FIXED_NAMES, LEVEL_LIMIT, PAIR_LIMIT, TEXT_LIMIT, WORD_LIMIT};
 use crate::words::{flag, kind, root, NO_SIZE};
@@ -494,7 +495,7 @@ fn is_word_byte(byte: &u8) -> bool {
 mod tests {
     use super::*;
 
-    /// The pairs and the text of the papers' marked cases: `Gauge`, a sentence, `mm`, `id`.
+    /// The pairs and the text of `examples/gauge`: `Gauge`, a sentence, `mm`, `id`.
     const PAIRS: [u32; 8] = [0, 5, 5, 13, 18, 2, 20, 2];
     const TEXT: &[u8] = b"GaugeOffset in mm.mmid";
 

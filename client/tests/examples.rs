@@ -74,7 +74,7 @@ fn each_file_prints_its_text() {
     }
 }
 
-/// The example of the papers, by its numbers.
+/// The example `gauge`, by its numbers; `docs/API.md` has the same ones.
 #[test]
 fn gauge_is_the_papers_own() {
     assert_eq!(

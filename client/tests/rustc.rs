@@ -138,7 +138,7 @@ pub mod nmea {
 }
 ";
 
-/// The texts of the examples in a module each, the papers' own configured out or not.
+/// The texts of the examples in a module each, `gauge` configured out or not.
 fn examples(with_gauge: bool) -> String {
     let folder = FilePath::new(env!("CARGO_MANIFEST_DIR")).join("../examples");
     let mut source = String::from(STUBS);
@@ -160,7 +160,7 @@ fn examples(with_gauge: bool) -> String {
 }
 
 /// The examples, which another test compares with what the library prints, are compiled for real.
-/// Only the papers' own is not: its field `&u8` has no lifetime.
+/// Only `gauge` is not: its field `&u8` has no lifetime.
 #[test]
 fn examples_compile() {
     let folder = Folder::new("examples");

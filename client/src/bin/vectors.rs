@@ -250,7 +250,7 @@ fn all_vectors() -> Vectors {
     vectors
 }
 
-/// The table of the papers' marked cases: `Gauge`, a sentence, `mm`, `id` as names 16 to 19.
+/// The table of `examples/gauge`: `Gauge`, a sentence, `mm`, `id` as names 16 to 19.
 const GAUGE_PAIRS: [u32; 8] = [0, 5, 5, 13, 18, 2, 20, 2];
 const GAUGE_TEXT: &[u8] = b"GaugeOffset in mm.mmid";
 

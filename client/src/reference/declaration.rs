@@ -377,7 +377,7 @@ mod tests {
     use crate::words::{fields::*, head::*, kind, kind::*, name::*, pair, root::*, visibility::*};
     use Refusal::{BadLevel, BufferTooShort, EndsEarly, LeftOver, TooDeep, UnknownWord};
 
-    /// The pairs and the text of the papers' example: `Gauge`, a sentence, `mm`, `id`.
+    /// The pairs and the text of `examples/gauge`: `Gauge`, a sentence, `mm`, `id`.
     const PAIRS: [u32; 8] = [0, 5, 5, 13, 18, 2, 20, 2];
     const TEXT: &[u8] = b"GaugeOffset in mm.mmid";
 

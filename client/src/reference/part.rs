@@ -29,7 +29,7 @@ const fn part(name: &'static str, of: fn(&Type) -> Option<&Type>) -> Part {
     Part { name, of }
 }
 
-/// All of them, in the order in which the papers name them.
+/// All of them, in the order of `docs/API.md`.
 pub static PARTS: [Part; 11] = [
     part("RemoveSynonyms", |tree| Some(tree.remove_synonyms())),
     part("Expand", |tree| Some(tree.expand())),

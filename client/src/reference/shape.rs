@@ -21,7 +21,7 @@ const fn shape(name: &'static str, holds: fn(&Type) -> bool) -> Shape {
     Shape { name, holds }
 }
 
-/// All of them, in the order in which the papers name them.
+/// All of them, in the order of `docs/API.md`.
 pub static SHAPES: [Shape; 15] = [
     shape(
         "EndsWithNameThatCanAcceptGenerics",

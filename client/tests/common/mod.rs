@@ -90,7 +90,7 @@ pub fn buffer_lengths(wanted: &Result<Vec<u8>, Refusal>) -> Vec<usize> {
     }
 }
 
-/// The pairs and the text of the papers' marked cases: `Gauge`, a sentence, `mm`, `id`.
+/// The pairs and the text of `examples/gauge`: `Gauge`, a sentence, `mm`, `id`.
 pub const GAUGE_PAIRS: [u32; 8] = [0, 5, 5, 13, 18, 2, 20, 2];
 pub const GAUGE_TEXT: &[u8] = b"GaugeOffset in mm.mmid";
 
