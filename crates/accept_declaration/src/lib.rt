@@ -13,7 +13,13 @@ use encoding::PathScan;
 use encoding::Refusal;
 use encoding::Scan;
 use encoding::WordScan;
-use encoding::words::{ENUM, FIELD_KINDS, NAMED, STRUCT, TYPE_SYNONYM, USE, VISIBILITIES};
+use encoding::words::ENUM;
+use encoding::words::FIELD_KINDS;
+use encoding::words::NAMED;
+use encoding::words::STRUCT;
+use encoding::words::TYPE_SYNONYM;
+use encoding::words::USE;
+use encoding::words::VISIBILITIES;
 
 // `count` types.
 fn scan_types(words: &[u32], pairs: &[u32], text: &[u8], at: usize, count: u32) -> Scan
@@ -196,7 +202,11 @@ fn scan_heading(words: &[u32], pairs: &[u32], text: &[u8], at: usize) -> Scan
 {
     let bound = encoding::name_count(pairs);
     match encoding::scan_below(words, bound, at) {
-        WordScan::Word { value: _, next } => match declaration_walk::scan_attributes(words, bound, next) {
+        WordScan::Word { value: _, next } => match declaration_walk::scan_attributes(
+            words,
+            bound,
+            next,
+        ) {
             Scan::At(end) => scan_signature(words, pairs, text, end),
             Scan::Refused(r) => Scan::Refused(r),
         },

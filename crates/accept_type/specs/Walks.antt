@@ -9,21 +9,21 @@ use Rattle.encoding.specs.HeadWords.{kids}
 use Rattle.text_measure.specs.declared.Pass.{Pass}
 use Rattle.text_measure.specs.declared.Step.{Step as PassStep}
 use Rattle.text_measure.specs.declared.Step.the-variants.{On as PassOn, Ended as PassEnded, Halt as PassHalt}
-use Rattle.text_measure.specs.Lengths.{Counted}
+use Rattle.text_measure.specs.Lengths.{CutDown}
 use Rattle.accept_type.specs.declared.OwnScan.{OwnScan}
 use Rattle.accept_type.specs.declared.OwnScan.the-variants.{Leaf, Node, NoNode}
-use Rattle.accept_type.specs.declared.Walk.{Walk}
+use Rattle.accept_type.specs.declared.TypeWalk.{TypeWalk}
 use Rattle.accept_type.specs.declared.Step.{Step}
 use Rattle.accept_type.specs.declared.Step.the-variants.{On, Ended, Halt}
 
 -- the answer says what the reading of a head says; how many types follow may be cut down
 pub data Scanned (x : Reading Head) : OwnScan → Type 0 where
   leaf : {h : Head} {n : ℕ} → x ≡ got h n → kids h ≡ 0 → Scanned x (Leaf n)
-  node : {h : Head} {n k : ℕ} → x ≡ got h n → Counted k (kids h) → 0 < k → k ≤ 2 ^ 15 → Scanned x (Node n k)
+  node : {h : Head} {n k : ℕ} → x ≡ got h n → CutDown k (kids h) → 0 < k → k ≤ 2 ^ 15 → Scanned x (Node n k)
   none : {r : Refusal} → x ≡ stop r → Scanned x (NoNode r)
 
 -- a walk is a pass in which nothing shows
-abbrev pub passOf : Walk → Pass
+abbrev pub passOf : TypeWalk → Pass
 passOf w = record {
   place = w .place;
   bytes = 0;

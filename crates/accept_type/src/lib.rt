@@ -43,7 +43,7 @@ enum OwnScan {
 }
 
 // A pass that has come to `place`: `due` types are still to be read at the innermost of `depth` open levels. Levels are kept as `measure` keeps them.
-struct Walk {
+struct TypeWalk {
     place: usize,
     depth: usize,
     due: u64,
@@ -51,7 +51,7 @@ struct Walk {
 
 // What a step comes to: a further walk, the end, or a refusal.
 enum Step {
-    On(Walk),
+    On(TypeWalk),
     Ended(usize),
     Halt(Refusal),
 }
@@ -186,13 +186,13 @@ fn scan_own(words: &[u32], bound: usize, at: usize) -> OwnScan
 }
 
 // The walk behind the innermost level: the one around it is taken up.
-fn leave(levels: &[u16; MAX_DEPTH], walk: Walk) -> Walk
+fn leave(levels: &[u16; MAX_DEPTH], walk: TypeWalk) -> TypeWalk
     requires { ⌜ (0 < walk .depth) × (walk .depth ≤ maxDepth) ⌝ }
     ensures { λ r. ⌜ (passOf r ≡ leaving (passLevels (now (levels .entry))) (passOf walk)) × (r .due < 2 ^ 15) ⌝ }
 {
     let above = walk.depth - 1;
     let level = levels[above];
-    Walk {
+    TypeWalk {
         place: walk.place,
         depth: above,
         due: text_measure::level_due(level),
@@ -200,7 +200,7 @@ fn leave(levels: &[u16; MAX_DEPTH], walk: Walk) -> Walk
 }
 
 // The walk behind all levels that have ended.
-fn settle(levels: &[u16; MAX_DEPTH], walk: Walk) -> Walk
+fn settle(levels: &[u16; MAX_DEPTH], walk: TypeWalk) -> TypeWalk
     requires { ⌜ (walk .depth ≤ maxDepth) × (walk .due ≤ 2 ^ 15) ⌝ }
     ensures { λ r. ⌜ Outward (passLevels (now (levels .entry))) (passOf walk) (passOf r) × (r .due ≡ 0 → r .depth ≡ 0) ⌝ }
 {
@@ -215,13 +215,13 @@ fn settle(levels: &[u16; MAX_DEPTH], walk: Walk) -> Walk
 }
 
 // The walk behind a head that ends at `next`, one level down.
-fn enter(levels: &mut [u16; MAX_DEPTH], walk: Walk, next: usize, kids: u64) -> Walk
+fn enter(levels: &mut [u16; MAX_DEPTH], walk: TypeWalk, next: usize, kids: u64) -> TypeWalk
     requires { ⌜ (0 < walk .due) × (walk .due ≤ 2 ^ 15) × (walk .depth < maxDepth) ⌝ }
     ensures { λ r. ⌜ (passOf r ≡ under (passOf walk) next kids 0 0) × (passLevels (now (levels .exit)) ≡ pushed (passLevels (now (levels .entry))) (passOf walk)) ⌝ }
 {
     let depth = walk.depth;
     levels[depth] = (2 * (walk.due - 1)) as u16;
-    Walk {
+    TypeWalk {
         place: next,
         depth: depth + 1,
         due: kids,
@@ -229,11 +229,11 @@ fn enter(levels: &mut [u16; MAX_DEPTH], walk: Walk, next: usize, kids: u64) -> W
 }
 
 // The walk behind a head that ends at `next` with no type behind it.
-fn past_leaf(walk: Walk, next: usize) -> Walk
+fn past_leaf(walk: TypeWalk, next: usize) -> TypeWalk
     requires { ⌜ 0 < walk .due ⌝ }
     ensures { λ r. ⌜ passOf r ≡ beside (passOf walk) next 0 ⌝ }
 {
-    Walk {
+    TypeWalk {
         place: next,
         depth: walk.depth,
         due: walk.due - 1,
@@ -250,7 +250,7 @@ fn advance(
     text: &[u8],
     bound: usize,
     levels: &mut [u16; MAX_DEPTH],
-    walk: Walk,
+    walk: TypeWalk,
 ) -> Step
     requires { ⌜ (bound ≡ nameCount (now pairs)) × Good (now pairs) (now text) × (length (now words) ≤ maxWords)
         × Kept (now words) (passLevels (now levels)) (passOf walk) ⌝ }
@@ -286,7 +286,7 @@ pub fn accept_type(words: &[u32], pairs: &[u32], text: &[u8], at: usize, inside:
     }
     let bound = encoding::name_count(pairs);
     let mut levels = [0u16; MAX_DEPTH];
-    let mut walk = Walk {
+    let mut walk = TypeWalk {
         place: at,
         depth: inside,
         due: 1,

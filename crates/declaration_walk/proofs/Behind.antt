@@ -10,7 +10,7 @@ use Rattle.encoding.specs.Forms.{present}
 use Rattle.encoding.specs.Declarations.{readDeclaration}
 use Rattle.encoding.proofs.Tables.{impossible}
 use Rattle.tree_words.specs.Tokens.{renamedToken}
-use Rattle.declaration_walk.specs.Pieces.{Piece, owned, pieces}
+use Rattle.declaration_walk.specs.Pieces.{Piece, ownPieces, pieces}
 use Rattle.declaration_walk.specs.Walks.{ahead, leftOf, Opening, readOpening, opened}
 use Rattle.declaration_walk.proofs.Openings.{declaration-pieces}
 use Rattle.declaration_walk.proofs.Passes.{bind-at}
@@ -29,7 +29,7 @@ behind-got ps (stop r) e = impossible (cc)
 module _ {N : Type 0} (bound : ℕ) (ws : List ℕ) (nm : ℕ → N) (ty : ℕ → Reading (Ty N)) where
   -- what is left behind the opening of a declaration
   pub whole-left : (at : ℕ) {d : Declaration N} {e : ℕ} {o : Opening} {n : ℕ} → readDeclaration present bound ws nm ty at ≡ got d e → readOpening present bound ws at ≡ got o n
-      → Behind (owned (map (renamedToken nm) (o .tokens))) (pieces present d) (leftOf present bound ws nm ty (opened o n)) e
+      → Behind (ownPieces (map (renamedToken nm) (o .tokens))) (pieces present d) (leftOf present bound ws nm ty (opened o n)) e
   unfolding mapReading
   whole-left at {d} {e} {o} {n} h k =
       behind-got _ (leftOf present bound ws nm ty (opened o n)) (sym (bind-at (readOpening present bound ws at) _ k) ∙ sym (declaration-pieces bound ws nm ty at) ∙ ap (mapReading (pieces present)) h)

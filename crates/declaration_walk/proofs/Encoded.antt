@@ -24,7 +24,7 @@ use Rattle.tree_words.specs.Encode.{Token, word, name, tokenWord, pathTokens, t
 use Rattle.tree_words.specs.Numbered.{treeAt}
 use Rattle.tree_words.specs.Runs.{Run}
 use Rattle.tree_words.proofs.Spans.{Stands, path-stands, type-stands}
-use Rattle.declaration_walk.specs.Pieces.{Piece, own, visibilityWord, runs, attributesTokens, titleTokens, useTokens, owned, counted, typePiece, parameterPieces, fieldPieces, namelessPieces, fieldsPieces, casePieces, heading, front, rest, pieces, pieceTokens, declarationTokens, encodeDeclaration}
+use Rattle.declaration_walk.specs.Pieces.{Piece, own, visibilityWord, runs, attributesTokens, titleTokens, useTokens, ownPieces, counted, typePiece, parameterPieces, fieldPieces, namelessPieces, fieldsPieces, casePieces, heading, front, rest, pieces, pieceTokens, declarationTokens, encodeDeclaration}
 use Rattle.declaration_walk.proofs.Steps.{below-word, visibility-word}
 use Rattle.declaration_walk.proofs.Openings.{titleThen, title-assoc}
 use Rattle.declaration_walk.proofs.OpeningRuns.{Spelt, spelt-inside, spelt-then, spelt-word, spelt-as, counted-spells, name-spells, attributes-spell}
@@ -51,7 +51,7 @@ spell-own : (k : Token ℕ) (ps : List (Piece ℕ)) → spell (own k ∷ ps) ≡
 unfolding spell runs pieceTokens
 spell-own k ps = refl
 
-spell-owned : (ks : List (Token ℕ)) → spell (owned ks) ≡ map tokenWord ks
+spell-owned : (ks : List (Token ℕ)) → spell (ownPieces ks) ≡ map tokenWord ks
 unfolding spell runs pieceTokens
 spell-owned [] = refl
 spell-owned (k ∷ ks) = ap (_∷_ (tokenWord k)) (spell-owned ks)
@@ -75,11 +75,11 @@ heading-words : (k d : ℕ) (l : List (Attribute ℕ)) (x : ℕ) (ps : List (Typ
 unfolding heading titleTokens counted tokenWord
 heading-words k d l x ps =
     let a = map tokenWord (attributesTokens l) in
-    let b : spell (owned (titleTokens k d l x (length ps))) ≡ k ∷ d ∷ (a ++ (x ∷ length ps ∷ [])) = spell-owned (titleTokens k d l x (length ps)) ∙ ap (λ (i : List ℕ). k ∷ d ∷ i) (map-append tokenWord (attributesTokens l) (name x ∷ word (length ps) ∷ [])) in
+    let b : spell (ownPieces (titleTokens k d l x (length ps))) ≡ k ∷ d ∷ (a ++ (x ∷ length ps ∷ [])) = spell-owned (titleTokens k d l x (length ps)) ∙ ap (λ (i : List ℕ). k ∷ d ∷ i) (map-append tokenWord (attributesTokens l) (name x ∷ word (length ps) ∷ [])) in
     ap (λ i. k ∷ d ∷ (a ++ (x ∷ i))) (spell-own (word (length ps)) (runs (parameterPieces plain Constraint) ps))
     ∙ ap (λ i. k ∷ d ∷ i) (sym (append-assoc a (x ∷ length ps ∷ []) (spell (runs (parameterPieces plain Constraint) ps))))
     ∙ ap (λ i. i ++ spell (runs (parameterPieces plain Constraint) ps)) (sym b)
-    ∙ sym (spell-append (owned (titleTokens k d l x (length ps))) (runs (parameterPieces plain Constraint) ps))
+    ∙ sym (spell-append (ownPieces (titleTokens k d l x (length ps))) (runs (parameterPieces plain Constraint) ps))
 
 declaration-words : (d : Declaration ℕ) → encodeDeclaration present d ≡ spell (front present d) ++ spell (rest d)
 unfolding encodeDeclaration declarationTokens spell pieces
@@ -87,7 +87,7 @@ declaration-words d = spell-append (front present d) (rest d)
 
 use-words : (u : Use ℕ) → encodeDeclaration present (UseDecl u) ≡ map tokenWord (useTokens (present .useHead) u)
 unfolding front rest spell runs
-use-words u = declaration-words (UseDecl u) ∙ append-nil (spell (owned (useTokens (present .useHead) u))) ∙ spell-owned (useTokens (present .useHead) u)
+use-words u = declaration-words (UseDecl u) ∙ append-nil (spell (ownPieces (useTokens (present .useHead) u))) ∙ spell-owned (useTokens (present .useHead) u)
 
 -- ---- readings
 

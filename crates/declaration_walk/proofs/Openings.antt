@@ -29,7 +29,7 @@ use Rattle.declaration_walk.specs.declared.After.the-variants.{FieldList
 use Rattle.declaration_walk.specs.declared.Role.{Role}
 use Rattle.declaration_walk.specs.declared.Role.the-variants.{Constraint, StructField, CaseField, Aliased}
 use Rattle.declaration_walk.specs.declared.Walk.{Walk}
-use Rattle.declaration_walk.specs.Pieces.{Piece, runs, owned, attributeTokens, attributesTokens, titleTokens, useTokens, parameterPieces, fieldsPieces, casePieces, counted, typePiece, heading, front, rest, pieces}
+use Rattle.declaration_walk.specs.Pieces.{Piece, runs, ownPieces, attributeTokens, attributesTokens, titleTokens, useTokens, parameterPieces, fieldsPieces, casePieces, counted, typePiece, heading, front, rest, pieces}
 use Rattle.declaration_walk.specs.Mapped.{mapAttribute}
 use Rattle.declaration_walk.specs.Walks.{ahead, _&_, many, bodyOf, leftOf, readEntry, Opening, readOneAttribute, readAttributes, readTitle, readUsing, openingAfter, readOpening, opened}
 use Rattle.declaration_walk.proofs.Ahead.{ahead-twice, and-last, and-same, many-none, list-length}
@@ -121,7 +121,7 @@ module _ {N : Type 0} (bound : ℕ) (ws : List ℕ) (nm : ℕ → N) (ty : ℕ �
 
   -- behind an opening
   abbrev pub behind : Opening → ℕ → Reading (List (Piece N))
-  behind o n = ahead (owned (map (renamedToken nm) (o .tokens))) (leftOf present bound ws nm ty (opened o n))
+  behind o n = ahead (ownPieces (map (renamedToken nm) (o .tokens))) (leftOf present bound ws nm ty (opened o n))
 
   opened-rest : (o : Opening) (n : ℕ) → leftOf present bound ws nm ty (opened o n)
       ≡ many (readParameter present bound ws nm ty) (parameterPieces plain Constraint) (o .parameters) n & bodyOf present bound ws nm ty done (o .after)
@@ -139,12 +139,12 @@ module _ {N : Type 0} (bound : ℕ) (ws : List ℕ) (nm : ℕ → N) (ty : ℕ �
   module _ {B : Type 0} (g : B → List (Piece N)) (k : ℕ) (after : After) (last : N → List (Attribute N) → N → List (TypeParamDecl N) → ℕ → Reading B)
       (h : (d : N) (l : List (Attribute N)) (x : N) (ps : List (TypeParamDecl N)) (s : ℕ) → mapReading g (last d l x ps s) ≡ ahead (heading present k d l x ps) (bodyOf present bound ws nm ty done after s)) where
     title-parameters : (d : N) (l : List (Attribute N)) (x : N) (n : ℕ) (y : Reading (List (TypeParamDecl N))) → ((ps : List (TypeParamDecl N)) (v : ℕ) → y ≡ got ps v → length ps ≡ n)
-        → mapReading g (y >>= λ ps v. last d l x ps v) ≡ ahead (owned (titleTokens k d l x n)) (mapReading (runs (parameterPieces plain Constraint)) y & bodyOf present bound ws nm ty done after)
+        → mapReading g (y >>= λ ps v. last d l x ps v) ≡ ahead (ownPieces (titleTokens k d l x n)) (mapReading (runs (parameterPieces plain Constraint)) y & bodyOf present bound ws nm ty done after)
     unfolding mapReading _&_ ahead heading
     title-parameters d l x n (got ps v) e =
         h d l x ps v
-        ∙ ap (λ i. ahead (owned (titleTokens k d l x i) ++ runs (parameterPieces plain Constraint) ps) (bodyOf present bound ws nm ty done after v)) (e ps v refl)
-        ∙ sym (ahead-twice (owned (titleTokens k d l x n)) (runs (parameterPieces plain Constraint) ps) (bodyOf present bound ws nm ty done after v))
+        ∙ ap (λ i. ahead (ownPieces (titleTokens k d l x i) ++ runs (parameterPieces plain Constraint) ps) (bodyOf present bound ws nm ty done after v)) (e ps v refl)
+        ∙ sym (ahead-twice (ownPieces (titleTokens k d l x n)) (runs (parameterPieces plain Constraint) ps) (bodyOf present bound ws nm ty done after v))
     title-parameters d l x n (stop r) e = refl
 
     -- the opening of a title, read up to its number of parameters
@@ -292,7 +292,7 @@ module _ {N : Type 0} (bound : ℕ) (ws : List ℕ) (nm : ℕ → N) (ty : ℕ �
 
   -- a declaration's pieces: the own words of its opening, and what is left to the walk behind it
   pub declaration-pieces : (at : ℕ) → mapReading (pieces present) (readDeclaration present bound ws nm ty at)
-      ≡ (readOpening present bound ws at >>= λ o n. ahead (owned (map (renamedToken nm) (o .tokens))) (leftOf present bound ws nm ty (opened o n)))
+      ≡ (readOpening present bound ws at >>= λ o n. ahead (ownPieces (map (renamedToken nm) (o .tokens))) (leftOf present bound ws nm ty (opened o n)))
   unfolding readDeclaration declarationAfter readOpening openingAfter mapReading
   declaration-pieces at = go (readWord ws at)
     where

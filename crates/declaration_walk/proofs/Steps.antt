@@ -13,7 +13,6 @@ use Rattle.encoding.specs.declared.Refusal.{Refusal}
 use Rattle.encoding.specs.Refusals.{pick}
 use Rattle.encoding.specs.Reading.{Reading, got, stop, _>>=_, readWord, readBelow}
 use Rattle.encoding.specs.Scans.{mapReading}
-
 use Rattle.encoding.specs.Declarations.{readList, readCounted, visibilityOf, readVisibility, readName, readParameter, readFormal, readField, readNamelessField, readFields, readCase}
 use Rattle.encoding.proofs.Tables.{impossible}
 use Rattle.encoding.proofs.Types.{bind-got}
@@ -29,7 +28,7 @@ use Rattle.declaration_walk.specs.declared.Role.{Role}
 use Rattle.declaration_walk.specs.declared.Role.the-variants.{Constraint, StructField, CaseField, Aliased}
 use Rattle.declaration_walk.specs.declared.Walk.{Walk}
 use Rattle.declaration_walk.specs.declared.Next.the-variants.{OwnWords, TypeDue, Ended, Halted}
-use Rattle.declaration_walk.specs.Pieces.{Piece, own, type, visibilityWord, runs, owned, typePiece, counted, parameterPieces, fieldPieces, namelessPieces, fieldsPieces, casePieces}
+use Rattle.declaration_walk.specs.Pieces.{Piece, own, type, visibilityWord, runs, ownPieces, typePiece, counted, parameterPieces, fieldPieces, namelessPieces, fieldsPieces, casePieces}
 use Rattle.declaration_walk.specs.Walks.{ahead, _&_, many, someFields, bodyOf, leftOf, readEntry, readTwo, moved, pastType, pastAlias, inParameter, inFields, inCases, inField, inCase, FieldNext, fieldType, Stepped, type-due, parameter, no-parameter, fields, no-fields, cases, no-cases, alias, field, no-field, nameless, no-nameless, case, no-case, end}
 use Rattle.declaration_walk.proofs.Scans.{Pair, NoPair, at-first, at-second, entry, no-entry, two, no-two}
 use Rattle.declaration_walk.proofs.Ahead.{ahead-and, and-none, and-last, and-same, and-stop, many-none, item-more, many-stop, type-and, many-one, list-length}
@@ -379,7 +378,7 @@ module _ {N : Type 0} (bound : ℕ) (ws : List ℕ) (nm : ℕ → N) (ty : ℕ �
   -- the own words between two places, and the pieces that they are
   pub record OwnStep (w w′ : Walk) : Type 0 where
     pub tokens : List (Token ℕ)
-    pub reads : leftOf present bound ws nm ty w ≡ ahead (owned (map (renamedToken nm) tokens)) (leftOf present bound ws nm ty w′)
+    pub reads : leftOf present bound ws nm ty w ≡ ahead (ownPieces (map (renamedToken nm) tokens)) (leftOf present bound ws nm ty w′)
     pub run : Run ws (w .place) (map tokenWord tokens)
     pub end : w′ .place ≡ w .place + length tokens
     pub further : w .place < w′ .place

@@ -10,7 +10,7 @@ use Rattle.tree_words.specs.Encode.{Token, word, name}
 use Rattle.tree_words.specs.Renamed.{renamedPath}
 use Rattle.declaration_walk.specs.declared.Role.{Role}
 use Rattle.declaration_walk.specs.declared.Role.the-variants.{Constraint, StructField, CaseField, Aliased}
-use Rattle.declaration_walk.specs.Pieces.{Piece, own, runs, owned, titleTokens, useTokens, counted, typePiece, parameterPieces, fieldPieces, namelessPieces, fieldsPieces, casePieces, heading, front, rest, pieces}
+use Rattle.declaration_walk.specs.Pieces.{Piece, own, runs, ownPieces, titleTokens, useTokens, counted, typePiece, parameterPieces, fieldPieces, namelessPieces, fieldsPieces, casePieces, heading, front, rest, pieces}
 use Rattle.declaration_walk.specs.Mapped.{mapAttribute, mapParameter, mapField, mapNameless, mapFields, mapCase, mapDeclaration, withTypes, pieceWith}
 
 -- ---- names that are kept
@@ -40,7 +40,7 @@ module _ {N : Type 0} where
 -- ---- pieces
 
 module _ {N : Type 0} (r : Ty N → Ty N) where
-  with-owned : (ks : List (Token N)) → map (pieceWith r) (owned ks) ≡ owned ks
+  with-owned : (ks : List (Token N)) → map (pieceWith r) (ownPieces ks) ≡ ownPieces ks
   unfolding pieceWith
   with-owned [] = refl
   with-owned (k ∷ ks) = ap (_∷_ (own k)) (with-owned ks)
@@ -75,7 +75,7 @@ module _ {N : Type 0} (r : Ty N → Ty N) where
         let each = parameterPieces (form .entries) Constraint in
         rw (attributes-kept l, length-map ps (mapParameter same r), with-runs each (mapParameter same r) (with-parameter (form .entries) Constraint) ps)
         (ap (λ qs. qs ++ map (pieceWith r) (runs each ps)) (sym (with-owned (titleTokens k doc l x (length ps))))
-        ∙ sym (map-append (pieceWith r) (owned (titleTokens k doc l x (length ps))) (runs each ps)))
+        ∙ sym (map-append (pieceWith r) (ownPieces (titleTokens k doc l x (length ps))) (runs each ps)))
 
     pub with-pieces : (d : Declaration N) → pieces form (withTypes r d) ≡ map (pieceWith r) (pieces form d)
     unfolding pieces front rest mapDeclaration pieceWith
@@ -92,5 +92,5 @@ module _ {N : Type 0} (r : Ty N → Ty N) where
         rw (with-heading (form .synonymHead) (t .docString) (t .attributes) (t .name) (t .typeParams))
         (sym (map-append (pieceWith r) front (typePiece Aliased (t .tpe))))
     with-pieces (UseDecl u) =
-        ap (λ (p : Path N). owned (useTokens (form .useHead) (record { visibility = u .visibility; path = p })) ++ []) (path-kept (u .path))
-        ∙ rw (append-nil (owned (useTokens (form .useHead) u))) (sym (with-owned (useTokens (form .useHead) u)))
+        ap (λ (p : Path N). ownPieces (useTokens (form .useHead) (record { visibility = u .visibility; path = p })) ++ []) (path-kept (u .path))
+        ∙ rw (append-nil (ownPieces (useTokens (form .useHead) u))) (sym (with-owned (useTokens (form .useHead) u)))

@@ -41,8 +41,8 @@ module _ {N : Type 0} where
   unfoldable pub useTokens : ℕ → Use N → List (Token N)
   useTokens k u = word k ∷ word (visibilityWord (u .visibility)) ∷ pathTokens (u .path)
 
-  abbrev pub owned : List (Token N) → List (Piece N)
-  owned = map own
+  abbrev pub ownPieces : List (Token N) → List (Piece N)
+  ownPieces = map own
 
   -- n, then the pieces of each
   unfoldable pub counted : {A : Type 0} → (A → List (Piece N)) → List A → List (Piece N)
@@ -86,14 +86,14 @@ module _ {N : Type 0} where
 -- in a form
 module _ {N : Type 0} (form : Form) where
   unfoldable pub heading : ℕ → N → List (Attribute N) → N → List (TypeParamDecl N) → List (Piece N)
-  heading k doc attributes x ps = owned (titleTokens k doc attributes x (length ps)) ++ runs (parameterPieces (form .entries) Constraint) ps
+  heading k doc attributes x ps = ownPieces (titleTokens k doc attributes x (length ps)) ++ runs (parameterPieces (form .entries) Constraint) ps
 
   -- up to the parameters
   unfoldable pub front : Declaration N → List (Piece N)
   front (StructDecl s) = heading (form .structHead) (s .docString) (s .attributes) (s .name) (s .typeParams)
   front (EnumDecl e) = heading (form .enumHead) (e .docString) (e .attributes) (e .name) (e .typeParams)
   front (TypeDecl t) = heading (form .synonymHead) (t .docString) (t .attributes) (t .name) (t .typeParams)
-  front (UseDecl u) = owned (useTokens (form .useHead) u)
+  front (UseDecl u) = ownPieces (useTokens (form .useHead) u)
 
   unfoldable pub pieces : Declaration N → List (Piece N)
   pieces d = front d ++ rest d

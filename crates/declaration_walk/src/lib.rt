@@ -11,7 +11,13 @@ use encoding::PathScan;
 use encoding::Refusal;
 use encoding::Scan;
 use encoding::WordScan;
-use encoding::words::{ENUM, FIELD_KINDS, NAMED, STRUCT, TYPE_SYNONYM, USE, VISIBILITIES};
+use encoding::words::ENUM;
+use encoding::words::FIELD_KINDS;
+use encoding::words::NAMED;
+use encoding::words::STRUCT;
+use encoding::words::TYPE_SYNONYM;
+use encoding::words::USE;
+use encoding::words::VISIBILITIES;
 
 // What a type is in its declaration.
 pub enum Role {
@@ -325,16 +331,19 @@ pub fn next_piece(words: &[u32], bound: usize, walk: Walk) -> Next
     let after = walk.after;
     let role = walk.role;
     if walk.types != 0 {
-        return Next::TypeDue(role, Walk {
-            place: walk.place,
+        return Next::TypeDue(
             role,
-            types: walk.types - 1,
-            parameters: walk.parameters,
-            after,
-            kind: walk.kind,
-            fields: walk.fields,
-            cases: walk.cases,
-        });
+            Walk {
+                place: walk.place,
+                role,
+                types: walk.types - 1,
+                parameters: walk.parameters,
+                after,
+                kind: walk.kind,
+                fields: walk.fields,
+                cases: walk.cases,
+            },
+        );
     }
     if walk.parameters != 0 {
         return open_parameter(words, bound, walk);
@@ -342,16 +351,19 @@ pub fn next_piece(words: &[u32], bound: usize, walk: Walk) -> Next
     match after {
         After::FieldList(fields) => open_fields(words, bound, walk, fields),
         After::CaseList => open_cases(words, bound, walk),
-        After::OneType => Next::TypeDue(Role::Aliased, Walk {
-            place: walk.place,
-            role: Role::Aliased,
-            types: 0,
-            parameters: 0,
-            after: After::NoMore,
-            kind: 0,
-            fields: 0,
-            cases: 0,
-        }),
+        After::OneType => Next::TypeDue(
+            Role::Aliased,
+            Walk {
+                place: walk.place,
+                role: Role::Aliased,
+                types: 0,
+                parameters: 0,
+                after: After::NoMore,
+                kind: 0,
+                fields: 0,
+                cases: 0,
+            },
+        ),
         After::NoMore => next_member(words, bound, walk),
     }
 }

@@ -21,7 +21,7 @@ use Rattle.tree_words.proofs.Spans.{root-known, path-names, path-root}
 use Rattle.known_paths.specs.declared.Class.{Class}
 use Rattle.known_paths.specs.declared.Class.the-variants.{Counted, Boxed, Uninit, Placebo, ObjectClass, PtrClass, ArrayClass, Collection, MapClass}
 use Rattle.known_paths.specs.Asked.{InRuntime}
-use Rattle.known_paths.specs.Classes.{isSet, inClass, memberIn, pathLength}
+use Rattle.known_paths.specs.Classes.{isSet, inClass, memberIn, nameCountOf}
 use Rattle.known_paths.specs.Paths.{samePath, std, inStd, dafny_runtime, inRuntime, runtimeMember, RcPath, ArcPath, BoxPath, MaybeUninitPath, MaybePlaceboPath, ObjectPath, PtrPath}
 
 -- ---- equal paths
@@ -173,8 +173,8 @@ unfolding inClass memberIn PtrPath
 class-pointer p = member-same (ascii "Ptr") p
 
 -- the classes with two names in their paths are those of members of `dafny_runtime`
-pub class-member : (class : Class) → pathLength class ≡ 2 → (p : Path Bytes) → runtimeMember (memberIn class) p ≡ inClass class p
-unfolding inClass memberIn pathLength
+pub class-member : (class : Class) → nameCountOf class ≡ 2 → (p : Path Bytes) → runtimeMember (memberIn class) p ≡ inClass class p
+unfolding inClass memberIn nameCountOf
 class-member Counted o p = impossible (omega (arith, o))
 class-member Boxed o p = impossible (omega (arith, o))
 class-member Uninit o p = impossible (omega (arith, o))
@@ -187,8 +187,8 @@ class-member MapClass o p = refl
 
 -- a path of more or fewer names than a class asks for
 module _ (bound : ℕ) (ws : List ℕ) (name : ℕ → Bytes) (p : PathAt) (i : InsidePath bound ws p) where
-  pub class-count : (class : Class) → (p .count ≡ pathLength class → ⊥) → inClass class (pathOf ws name p) ≡ false
-  unfolding inClass pathLength RcPath ArcPath BoxPath MaybeUninitPath
+  pub class-count : (class : Class) → (p .count ≡ nameCountOf class → ⊥) → inClass class (pathOf ws name p) ≡ false
+  unfolding inClass nameCountOf RcPath ArcPath BoxPath MaybeUninitPath
   class-count Counted h = rw (std-count bound ws name p i (ascii "rc") (ascii "Rc") h) (std-count bound ws name p i (ascii "sync") (ascii "Arc") h)
   class-count Boxed h = std-count bound ws name p i (ascii "boxed") (ascii "Box") h
   class-count Uninit h = std-count bound ws name p i (ascii "mem") (ascii "MaybeUninit") h

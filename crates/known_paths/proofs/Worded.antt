@@ -14,7 +14,7 @@ use Rattle.accepted_types.proofs.Accepted.{type-here, PathThere, path-type}
 use Rattle.unwrap.specs.Asked.{Judges}
 use Rattle.unwrap.proofs.TypesIn.{apply-of}
 use Rattle.known_paths.specs.declared.Class.{Class}
-use Rattle.known_paths.specs.Classes.{inClass, arity, pathLength, isOf}
+use Rattle.known_paths.specs.Classes.{inClass, arity, nameCountOf, isOf}
 use Rattle.known_paths.proofs.Applying.{of-other, of-count, of-base, of-no-path, of-path}
 use Rattle.known_paths.proofs.Paths.{class-count}
 
@@ -38,7 +38,7 @@ module _ (ws pairs : List ℕ) (text : Bytes) (at : ℕ) (class : Class) where
     }
 
     -- the base is a path of more or fewer names
-    pub names-other : {m : ℕ} → m ≡ pathLength class → getD ws (at + 2) 0 ≡ 13 → (getD ws (at + 2 + 2) 0 ≡ m → ⊥) → Judges (isOf class) (typeAt ws pairs text at) false
+    pub names-other : {m : ℕ} → m ≡ nameCountOf class → getD ws (at + 2) 0 ≡ 13 → (getD ws (at + 2 + 2) 0 ≡ m → ⊥) → Judges (isOf class) (typeAt ws pairs text at) false
     names-other i h d = record {
       says = λ t n e.
           let a = apply-of ws pairs text at e k .1 in

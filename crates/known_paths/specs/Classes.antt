@@ -51,16 +51,16 @@ arity Collection = 1
 arity MapClass = 2
 
 -- how many names the paths of a class have
-unfoldable pub pathLength : Class → ℕ
-pathLength Counted = 3
-pathLength Boxed = 3
-pathLength Uninit = 3
-pathLength Placebo = 2
-pathLength ObjectClass = 2
-pathLength PtrClass = 2
-pathLength ArrayClass = 2
-pathLength Collection = 2
-pathLength MapClass = 2
+unfoldable pub nameCountOf : Class → ℕ
+nameCountOf Counted = 3
+nameCountOf Boxed = 3
+nameCountOf Uninit = 3
+nameCountOf Placebo = 2
+nameCountOf ObjectClass = 2
+nameCountOf PtrClass = 2
+nameCountOf ArrayClass = 2
+nameCountOf Collection = 2
+nameCountOf MapClass = 2
 
 -- an application of a path of the class to so many arguments
 unfoldable pub isOf : Class → Ty Bytes → Bool

@@ -14,7 +14,7 @@ ghost use Rattle.accepted_types.specs.Accepted.{Readable};
 ghost use Rattle.known_paths.specs.declared.Class.the-variants.{Counted};
 ghost use Rattle.unwrap.specs.Asked.{Judges};
 ghost use Rattle.known_paths.specs.Asked.{InRuntime, Finds, isFound};
-ghost use Rattle.known_paths.specs.Classes.{isSet, inClass, memberIn, arity, pathLength, isOf, first};
+ghost use Rattle.known_paths.specs.Classes.{isSet, inClass, memberIn, arity, nameCountOf, isOf, first};
 ghost use Rattle.known_paths.specs.Paths.{samePath, inStd, runtimeMember};
 use encoding::Head;
 use encoding::HeadScan;
@@ -219,20 +219,20 @@ fn is_in_class(words: &[u32], pairs: &[u32], text: &[u8], class: Class, path: Pa
 }
 
 // How many arguments an application has, and how many names its path has.
-struct Form {
+struct PathForm {
     arguments: u32,
     names: u32,
 }
 
-fn of_form(arguments: u32, names: u32) -> Form
+fn of_form(arguments: u32, names: u32) -> PathForm
     ensures { λ r. ⌜ (r .arguments ≡ arguments) × (r .names ≡ names) ⌝ }
 {
-    Form { arguments, names }
+    PathForm { arguments, names }
 }
 
 // The form of the applications of a class.
-fn form_of(class: Class) -> Form
-    ensures { λ r. ⌜ (r .arguments ≡ arity class) × (r .names ≡ pathLength class) ⌝ }
+fn form_of(class: Class) -> PathForm
+    ensures { λ r. ⌜ (r .arguments ≡ arity class) × (r .names ≡ nameCountOf class) ⌝ }
 {
     match class {
         Class::Counted => of_form(1, 3),

@@ -19,7 +19,7 @@ use Rattle.tree_words.specs.Numbered.{treeOf}
 use Rattle.rebuild_spec.specs.Same.{sameToken, sameTokens, sameType, sameBy}
 use Rattle.rebuild_spec.specs.Replace.{Replace, ruled}
 use Rattle.rebuild_spec.specs.Laying.{depth, peak}
-use Rattle.rebuild_spec.specs.Rules.{readRule, readRules, among as amongRules, repeated, checkAll, distinct, rulesOf, mappingOf}
+use Rattle.rebuild_spec.specs.Rules.{readRule, readRules, amongFroms as amongRules, repeated, checkAll, distinct, rulesOf, mappingOf}
 use Rattle.declaration_walk.specs.Pieces.{runs, attributesTokens, titleTokens, heading, front}
 use Rattle.text_calls.specs.Calls.{typeText}
 use Rattle.text_declaration_call.specs.Calls.{declarationText}

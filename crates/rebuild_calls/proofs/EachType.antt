@@ -19,7 +19,7 @@ use Rattle.tree_words.specs.Encode.{Token}
 use Rattle.tree_words.specs.Numbered.{treeAt}
 use Rattle.rebuild_spec.specs.Laying.{depth}
 use Rattle.rebuild_spec.proofs.Depths.{tree-deep}
-use Rattle.declaration_walk.specs.Pieces.{Piece, own, type, runs, owned, titleTokens, useTokens, counted, typePiece, parameterPieces, fieldPieces, namelessPieces, fieldsPieces, casePieces, heading, front, rest, pieces}
+use Rattle.declaration_walk.specs.Pieces.{Piece, own, type, runs, ownPieces, titleTokens, useTokens, counted, typePiece, parameterPieces, fieldPieces, namelessPieces, fieldsPieces, casePieces, heading, front, rest, pieces}
 use Rattle.declaration_walk.proofs.Openings.{titleThen}
 use Rattle.rebuild_declaration.specs.Laying.{deepestPiece}
 use Rattle.rebuild_declaration.specs.Calls.{declarationIn}
@@ -39,7 +39,7 @@ every-append P [] qs h k = k
 every-append P (own x ∷ ps) qs h k = every-append P ps qs h k
 every-append P (type a t ∷ ps) qs h k = (h .0, every-append P ps qs (h .1) k)
 
-every-owned : (P : Ty ℕ → Type 0) (ks : List (Token ℕ)) → Every P (owned ks)
+every-owned : (P : Ty ℕ → Type 0) (ks : List (Token ℕ)) → Every P (ownPieces ks)
 every-owned P [] = tt
 every-owned P (k ∷ ks) = every-owned P ks
 
@@ -129,7 +129,7 @@ module _ (ws pairs : List ℕ) (P : Ty ℕ → Type 0) (read : (p : ℕ) (t : Ty
       → Every P (heading present k d l x ps ++ qs)
   unfolding heading
   headed k d l x ps qs h i =
-      let o = owned (titleTokens k d l x (length ps)) in
+      let o = ownPieces (titleTokens k d l x (length ps)) in
       every-append P (o ++ runs (parameterPieces plain Constraint) ps) qs (every-append P o (runs (parameterPieces plain Constraint) ps) (every-owned P (titleTokens k d l x (length ps))) h) i
 
   structs : (p : ℕ) → Shows (λ s. Every P (pieces present (StructDecl s))) (readStruct present b ws nm ty p)
@@ -148,7 +148,7 @@ module _ (ws pairs : List ℕ) (P : Ty ℕ → Type 0) (read : (p : ℕ) (t : Ty
 
   uses : (u : Use ℕ) → Every P (pieces present (UseDecl u))
   unfolding pieces front rest
-  uses u = every-append P (owned (useTokens (present .useHead) u)) [] (every-owned P (useTokens (present .useHead) u)) tt
+  uses u = every-append P (ownPieces (useTokens (present .useHead) u)) [] (every-owned P (useTokens (present .useHead) u)) tt
 
   declarations : Shows (by (pieces present)) (declarationIn ws pairs)
   unfolding readDeclaration declarationAfter

@@ -17,7 +17,7 @@ use Rattle.tree_words.specs.Encode.{tokenWord, primitiveWord, flagsWord, rootWo
 use Rattle.rebuild_spec.specs.Same.{sameSize, sameToken, sameTokens, sameType, sameBy}
 use Rattle.rebuild_spec.specs.Replace.{Replace, ruled}
 use Rattle.rebuild_spec.specs.Laying.{depth, peak}
-use Rattle.rebuild_spec.specs.Rules.{readRule, readRules, among, repeated, distinct, checkAll, rulesOf, mappingOf}
+use Rattle.rebuild_spec.specs.Rules.{readRule, readRules, amongFroms, repeated, distinct, checkAll, rulesOf, mappingOf}
 use Rattle.declaration_walk.specs.Pieces.{visibilityWord, runs, attributeTokens, attributesTokens, titleTokens, useTokens, counted, parameterPieces, fieldPieces, namelessPieces, fieldsPieces, casePieces, heading, front, rest, pieces, pieceTokens, declarationTokens, encodeDeclaration}
 use Rattle.rebuild_type.specs.declared.RebuildAnswer.{RebuildAnswer}
 use Rattle.rebuild_type.specs.declared.RebuildAnswer.the-variants.{Length, Refused}
@@ -104,9 +104,9 @@ abbrev told : Example → RebuildAnswer × List ℕ
 told e = (e .3, e .4)
 
 pub all-examples : map asked examples ≡ map told examples
-unfolding examples ascii same _and_ unless readWord readBelow readNames whole overlong goodPairs checkTables fixedNames pairBytes nameBytes readPath pathHead headAfter readHead primitives rootOf pathOf sizeOf readTypes readNode readType readList MSels renamedPath renamedSize renamed tokenWord primitiveWord flagsWord rootWord names pathTokens count tokens words wordsAll encode sameSize sameToken sameTokens sameType sameBy Replace ruled depth peak readRule readRules among repeated distinct checkAll rulesOf mappingOf laidDown ruledBy typeRebuilt
+unfolding examples ascii same _and_ unless readWord readBelow readNames whole overlong goodPairs checkTables fixedNames pairBytes nameBytes readPath pathHead headAfter readHead primitives rootOf pathOf sizeOf readTypes readNode readType readList MSels renamedPath renamedSize renamed tokenWord primitiveWord flagsWord rootWord names pathTokens count tokens words wordsAll encode sameSize sameToken sameTokens sameType sameBy Replace ruled depth peak readRule readRules amongFroms repeated distinct checkAll rulesOf mappingOf laidDown ruledBy typeRebuilt
 all-examples = refl
 
 pub all-declarations : map declarationAsked declarationExamples ≡ map told declarationExamples
-unfolding declarationExamples ascii same _and_ unless readWord readBelow readNames whole overlong goodPairs checkTables fixedNames pairBytes nameBytes readPath pathHead headAfter readHead primitives rootOf pathOf sizeOf readTypes readNode readType readList MSels renamedPath renamedSize renamed tokenWord primitiveWord flagsWord rootWord names pathTokens count tokens words wordsAll encode sameSize sameToken sameTokens sameType sameBy Replace ruled depth peak readRule readRules among repeated distinct checkAll rulesOf mappingOf laidDown ruledBy readCounted visibilityOf readVisibility readName readAttribute readParameter readFormal readField readNamelessField readFields readCase readStruct readEnum readTypeSynonym readUse declarationAfter readDeclaration visibilityWord runs attributeTokens attributesTokens titleTokens useTokens counted parameterPieces fieldPieces namelessPieces fieldsPieces casePieces heading front rest pieces pieceTokens declarationTokens encodeDeclaration ReplaceTypeParams ReplaceFields ReplaceStruct ReplaceEnumCase ReplaceEnum ReplaceTypeDecl ReplaceUse ReplaceModDecl deepestPiece topPieces declarationRebuilt
+unfolding declarationExamples ascii same _and_ unless readWord readBelow readNames whole overlong goodPairs checkTables fixedNames pairBytes nameBytes readPath pathHead headAfter readHead primitives rootOf pathOf sizeOf readTypes readNode readType readList MSels renamedPath renamedSize renamed tokenWord primitiveWord flagsWord rootWord names pathTokens count tokens words wordsAll encode sameSize sameToken sameTokens sameType sameBy Replace ruled depth peak readRule readRules amongFroms repeated distinct checkAll rulesOf mappingOf laidDown ruledBy readCounted visibilityOf readVisibility readName readAttribute readParameter readFormal readField readNamelessField readFields readCase readStruct readEnum readTypeSynonym readUse declarationAfter readDeclaration visibilityWord runs attributeTokens attributesTokens titleTokens useTokens counted parameterPieces fieldPieces namelessPieces fieldsPieces casePieces heading front rest pieces pieceTokens declarationTokens encodeDeclaration ReplaceTypeParams ReplaceFields ReplaceStruct ReplaceEnumCase ReplaceEnum ReplaceTypeDecl ReplaceUse ReplaceModDecl deepestPiece topPieces declarationRebuilt
 all-declarations = refl

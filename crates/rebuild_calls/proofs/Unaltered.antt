@@ -33,7 +33,7 @@ use Rattle.rebuild_rules.proofs.Lists.{check-tables}
 use Rattle.rebuild_rules.proofs.Nowhere.{none-gives-way}
 use Rattle.rebuild_type.specs.declared.RebuildAnswer.{RebuildAnswer}
 use Rattle.rebuild_type.specs.Laid.{ruleList, mapping, Ruled}
-use Rattle.rebuild_type.specs.Calls.{Laid, laidDown, laidType, ruledBy, typeRebuilt}
+use Rattle.rebuild_type.specs.Calls.{RebuiltWords, laidDown, laidType, ruledBy, typeRebuilt}
 use Rattle.rebuild_type.specs.Attempts.{sameWords, Fills}
 use Rattle.rebuild_type.proofs.Calls.{both-given, copied-fills, run-whole}
 use Rattle.accept_declaration.specs.Ends.{heldAt}
@@ -64,7 +64,7 @@ none-listed (x ∷ y ∷ ys) l e = impossible (omega (arith, l))
 
 -- ---- types and declarations
 
-alike : {v w : List ℕ} {s t m n : ℕ} → v ≡ w → s ≡ t → m ≡ n → _≡_ {A = Laid} (record { words = v; top = s; deep = m }) (record { words = w; top = t; deep = n })
+alike : {v w : List ℕ} {s t m n : ℕ} → v ≡ w → s ≡ t → m ≡ n → _≡_ {A = RebuiltWords} (record { words = v; top = s; deep = m }) (record { words = w; top = t; deep = n })
 alike e f g = rw (e, f, g) refl
 
 module _ (m : Ty ℕ → Ty ℕ) where
@@ -116,14 +116,14 @@ module _ (ws pairs : List ℕ) (text : Bytes) where
   none-given q t r = refl
 
   -- a tree that stays so is given by the words
-  same-given : {A : Type 0} (lay : (Ty ℕ → Ty ℕ) → A → Laid) (deep : A → ℕ) (x : Reading A) {a : A} → (x ≡ got a (length ws) → lay (mappingOf pairs text []) a ≡ sameWords ws (deep a))
+  same-given : {A : Type 0} (add-words : (Ty ℕ → Ty ℕ) → A → RebuiltWords) (deep : A → ℕ) (x : Reading A) {a : A} → (x ≡ got a (length ws) → add-words (mappingOf pairs text []) a ≡ sameWords ws (deep a))
       → unless (checkTables ws pairs text) (whole (length ws) x) ≡ given a
-      → unless (checkAll ws (0 ∷ []) pairs text) (ruledBy (λ rs. lay (mappingOf pairs text rs)) (whole (length ws) x) (rulesOf (0 ∷ []) pairs text)) ≡ given (sameWords ws (deep a))
+      → unless (checkAll ws (0 ∷ []) pairs text) (ruledBy (λ rs. add-words (mappingOf pairs text rs)) (whole (length ws) x) (rulesOf (0 ∷ []) pairs text)) ≡ given (sameWords ws (deep a))
   unfolding unless
-  same-given lay deep x k e =
+  same-given add-words deep x k e =
       let p = given-whole (checkTables ws pairs text) (length ws) x e in
       rw (check-tables ws (0 ∷ []) pairs text (omega arith), p .0)
-      (both-given (λ rs. lay (mappingOf pairs text rs)) [] (length ws) x (rulesOf (0 ∷ []) pairs text) (p .1) refl (no-rules pairs text) ∙ ap given (k (p .1)))
+      (both-given (λ rs. add-words (mappingOf pairs text rs)) [] (length ws) x (rulesOf (0 ∷ []) pairs text) (p .1) refl (no-rules pairs text) ∙ ap given (k (p .1)))
 
   pub unaltered : {t : Ty ℕ} → treeOf ws pairs text ≡ given t → typeRebuilt ws pairs text (0 ∷ []) ≡ given (sameWords ws (depth t))
   unfolding treeOf typeRebuilt

@@ -26,7 +26,7 @@ use Rattle.rebuild_type.specs.declared.Rebuilt.{Rebuilt}
 use Rattle.rebuild_type.specs.declared.RebuildAnswer.{RebuildAnswer}
 use Rattle.rebuild_type.specs.declared.RebuildAnswer.the-variants.{Refused}
 use Rattle.rebuild_type.specs.Laid.{Rebuilds, ruleList, mapping}
-use Rattle.rebuild_type.specs.Calls.{Laid, laidDown, laidType, ruledBy}
+use Rattle.rebuild_type.specs.Calls.{RebuiltWords, laidDown, laidType, ruledBy}
 use Rattle.rebuild_type.specs.Attempts.{LaidRebuilds, Attempted, Fills}
 use Rattle.rebuild_type.proofs.Calls.{laid-mapped, mapped-reads, tree-stops, tree-over, rules-stop-it, whole-filled}
 use Rattle.rebuild_declaration.specs.Calls.{declarationIn, laidDeclaration}
@@ -44,7 +44,7 @@ abbrev treeIn : (what : Whole) → List ℕ → List ℕ → Reading (Tree what)
 treeIn AType ws pairs = treeAt ws pairs 0
 treeIn ADeclaration ws pairs = declarationIn ws pairs
 
-abbrev laidTree : (what : Whole) → (Ty ℕ → Ty ℕ) → Tree what → Laid
+abbrev laidTree : (what : Whole) → (Ty ℕ → Ty ℕ) → Tree what → RebuiltWords
 laidTree AType = laidType
 laidTree ADeclaration = laidDeclaration
 
@@ -87,7 +87,7 @@ held-tree ADeclaration ws pairs text = ap ended (declaration-spelled ws pairs te
 
 -- ---- the answer of an attempt
 
-pub limit-is : {i j : ℕ} {x : Reading Laid} {o o′ : List ℕ} {a : Attempt} → i ≡ j → Attempted i x o o′ a → Attempted j x o o′ a
+pub limit-is : {i j : ℕ} {x : Reading RebuiltWords} {o o′ : List ℕ} {a : Attempt} → i ≡ j → Attempted i x o o′ a → Attempted j x o o′ a
 limit-is {x = x} {o = o} {o′ = o′} {a = a} e k = subst (λ l. Attempted l x o o′ a) e k
 
 -- ---- the answers of the call, by what acceptance said
@@ -100,28 +100,28 @@ module _ (what : Whole) (ws pairs : List ℕ) (text : Bytes) {s : Scan} (a : s �
   laid-ends m e d = tree-ends what ws pairs m ∙ sym accepts ∙ e ∙ ap At d
 
   module _ (rules o : List ℕ) where
-    abbrev lay : List Rule → Tree what → Laid
-    lay rs = laidTree what (mappingOf pairs text rs)
+    abbrev add-words : List Rule → Tree what → RebuiltWords
+    add-words rs = laidTree what (mappingOf pairs text rs)
 
-    asked : {p : RebuildAnswer × List ℕ} → p ≡ laidDown o (ruledBy lay (whole (length ws) (treeIn what ws pairs)) (rulesOf rules pairs text)) → p ≡ laidDown o (wholeRebuilt what ws pairs text rules)
+    asked : {p : RebuildAnswer × List ℕ} → p ≡ laidDown o (ruledBy add-words (whole (length ws) (treeIn what ws pairs)) (rulesOf rules pairs text)) → p ≡ laidDown o (wholeRebuilt what ws pairs text rules)
     asked e = e ∙ ap (laidDown o) (rebuilt-tree what ws pairs text rules)
 
     pub whole-stops : {k : Refusal} → s ≡ Halted k → _≡_ {A = RebuildAnswer × List ℕ} (Refused k, o) (laidDown o (wholeRebuilt what ws pairs text rules))
-    whole-stops e = asked (tree-stops lay o (length ws) (treeIn what ws pairs) (rulesOf rules pairs text) (scan-stop (treeIn what ws pairs) accepts e))
+    whole-stops e = asked (tree-stops add-words o (length ws) (treeIn what ws pairs) (rulesOf rules pairs text) (scan-stop (treeIn what ws pairs) accepts e))
 
     module _ {n : ℕ} (e : s ≡ At n) where
       reads : EndsAt (treeIn what ws pairs) n
       reads = end-got (treeIn what ws pairs) accepts e
 
       pub whole-over : (n ≡ length ws → ⊥) → _≡_ {A = RebuildAnswer × List ℕ} (Refused LeftOver, o) (laidDown o (wholeRebuilt what ws pairs text rules))
-      whole-over d = asked (tree-over lay o (length ws) (treeIn what ws pairs) (rulesOf rules pairs text) (reads .reads) d)
+      whole-over d = asked (tree-over add-words o (length ws) (treeIn what ws pairs) (rulesOf rules pairs text) (reads .reads) d)
 
       pub whole-refused : {k : Refusal} → n ≡ length ws → rulesOf rules pairs text ≡ refused k → _≡_ {A = RebuildAnswer × List ℕ} (Refused k, o) (laidDown o (wholeRebuilt what ws pairs text rules))
-      whole-refused d c = asked (rules-stop-it lay o (length ws) (treeIn what ws pairs) (rulesOf rules pairs text) (reads .reads) d c)
+      whole-refused d c = asked (rules-stop-it add-words o (length ws) (treeIn what ws pairs) (rulesOf rules pairs text) (reads .reads) d c)
 
       pub whole-answered : {o′ : List ℕ} {r : RebuildAnswer} → n ≡ length ws → rulesOf rules pairs text ≡ given (ruleList (rulesOf rules pairs text))
           → Fills (laidBy what ws pairs (mapping rules pairs text)) o o′ r → (r, o′) ≡ laidDown o (wholeRebuilt what ws pairs text rules)
       unfolding mapping
       whole-answered {o′} {r} d c f =
-          asked (whole-filled lay (length ws) (treeIn what ws pairs) (rulesOf rules pairs text) (reads .reads) d c
+          asked (whole-filled add-words (length ws) (treeIn what ws pairs) (rulesOf rules pairs text) (reads .reads) d c
           (subst (λ x. Fills x o o′ r) (laid-tree what ws pairs (mapping rules pairs text)) f))

@@ -12,7 +12,7 @@ use Rattle.rebuild_spec.specs.Replace.{Replace}
 use Rattle.rebuild_spec.specs.Laying.{depth, peak}
 use Rattle.rebuild_spec.proofs.Nodes.{peak-least}
 use Rattle.declaration_walk.specs.declared.Role.{Role}
-use Rattle.declaration_walk.specs.Pieces.{Piece, own, type, runs, owned, pieceTokens, pieces, declarationTokens, encodeDeclaration}
+use Rattle.declaration_walk.specs.Pieces.{Piece, own, type, runs, ownPieces, pieceTokens, pieces, declarationTokens, encodeDeclaration}
 use Rattle.declaration_walk.specs.Mapped.{mapAttribute, mapParameter, mapFields, mapCase, mapDeclaration, withTypes, pieceWith}
 use Rattle.declaration_walk.proofs.WithTypes.{attributes-kept, use-kept, with-pieces}
 use Rattle.declaration_walk.proofs.Encoded.{runs-append}
@@ -59,10 +59,10 @@ module _ (m : Ty ℕ → Ty ℕ) where
   top-append (type a t ∷ ps) qs = let h = top-append ps qs in omega (arith, h, encode-type a (Replace m t) (map (pieceWith (Replace m)) ps))
 
   -- own words alone
-  pub own-words : (ks : List (Token ℕ)) → (rebuiltWords m (owned ks) ≡ map tokenWord ks) × (topPieces m (owned ks) ≡ length ks) × (rebuiltDepth m (owned ks) ≡ 0)
+  pub own-words : (ks : List (Token ℕ)) → (rebuiltWords m (ownPieces ks) ≡ map tokenWord ks) × (topPieces m (ownPieces ks) ≡ length ks) × (rebuiltDepth m (ownPieces ks) ≡ 0)
   unfolding encodePieces runs pieceTokens pieceWith topPieces deepestPiece
   own-words [] = (refl, refl, refl)
-  own-words (k ∷ ks) = let h = own-words ks in let e : topPieces m (own k ∷ owned ks) ≡ suc (length ks) = omega (arith, h .1) in (ap (λ l. tokenWord k ∷ l) (h .0), e, h .2)
+  own-words (k ∷ ks) = let h = own-words ks in let e : topPieces m (own k ∷ ownPieces ks) ≡ suc (length ks) = omega (arith, h .1) in (ap (λ l. tokenWord k ∷ l) (h .0), e, h .2)
 
   -- one type alone
   pub one-type : (a : Role) (t : Ty ℕ) → (rebuiltWords m (type a t ∷ []) ≡ encode (Replace m t)) × (topPieces m (type a t ∷ []) ≡ peak m t) × (rebuiltDepth m (type a t ∷ []) ≡ depth (Replace m t))

@@ -27,7 +27,7 @@ use Rattle.declaration_walk.specs.declared.Next.the-variants.{OwnWords, TypeDue
 use Rattle.declaration_walk.specs.declared.Start.{Start}
 use Rattle.declaration_walk.specs.declared.Start.the-variants.{Begun, NotBegun}
 use Rattle.declaration_walk.specs.declared.Role.{Role}
-use Rattle.declaration_walk.specs.Pieces.{Piece, type, owned, pieces}
+use Rattle.declaration_walk.specs.Pieces.{Piece, type, ownPieces, pieces}
 use Rattle.declaration_walk.specs.Walks.{ahead, moved, pastType, inField, FieldNext, fieldType, pastField, Stepped, type-due, readOpening, started}
 use Rattle.declaration_walk.proofs.Ahead.{ahead-none, ahead-twice}
 use Rattle.declaration_walk.proofs.Steps.{own-step, due-step, end-step, halt-step, field-opens}
@@ -46,7 +46,7 @@ use Rattle.rebuild_type.proofs.Growing.{grown-then, grown-nothing, lays-to, lay
 use Rattle.rebuild_type.proofs.Types.{came, filled}
 use Rattle.rebuild_declaration.specs.declared.Advance.{Advance}
 use Rattle.rebuild_declaration.specs.declared.Advance.the-variants.{Further, Finished, NoSpace}
-use Rattle.rebuild_declaration.specs.Steps.{leftIn, Ready, PiecesLaid, PiecesOver, Advanced, further, finished, noSpace, fieldAdvance, PiecesRebuild, DeclarationRebuilds}
+use Rattle.rebuild_declaration.specs.Steps.{leftIn, WalkReady, PiecesLaid, PiecesOver, Advanced, further, finished, noSpace, fieldAdvance, PiecesRebuild, DeclarationRebuilds}
 use Rattle.rebuild_declaration.specs.Calls.{declarationIn}
 use Rattle.rebuild_declaration.proofs.Pieces.{words-append, depth-append, top-append, own-words, one-type, declaration-words, declaration-depth}
 
@@ -59,13 +59,13 @@ module _ {m : Ty ℕ → Ty ℕ} {limit p : ℕ} {o : List ℕ} where
       record { fits = omega (arith, c .1); within = l; grown = rw (c .0) (grown-nothing o p (omega arith)); deeps = sym (c .2) }
 
   -- own words, as they are
-  own-to : (ks : List (Token ℕ)) {b o′ : List ℕ} {r : Laying} {q : ℕ} → b ≡ map tokenWord ks → Lays limit o p b o′ r → r ≡ To q → PiecesLaid m limit o p (owned ks) o′ q 0
+  own-to : (ks : List (Token ℕ)) {b o′ : List ℕ} {r : Laying} {q : ℕ} → b ≡ map tokenWord ks → Lays limit o p b o′ r → r ≡ To q → PiecesLaid m limit o p (ownPieces ks) o′ q 0
   own-to ks e l d =
       let h = lays-to l d in
       let c = own-words m ks in
       record { fits = omega (arith, h .0, h .1 .next, c .1, ap length e, length-map ks tokenWord); within = h .0; grown = rw (c .0, sym e) (h .1); deeps = sym (c .2) }
 
-  own-over : (ks : List (Token ℕ)) {b o′ : List ℕ} {r : Laying} → b ≡ map tokenWord ks → Lays limit o p b o′ r → r ≡ Over → PiecesOver m limit o p (owned ks) o′
+  own-over : (ks : List (Token ℕ)) {b o′ : List ℕ} {r : Laying} → b ≡ map tokenWord ks → Lays limit o p b o′ r → r ≡ Over → PiecesOver m limit o p (ownPieces ks) o′
   own-over ks e l d = let h = lays-over l d in record { over = omega (arith, h .0, own-words m ks .1, ap length e, length-map ks tokenWord); kept = h .1 }
 
   -- a type, rebuilt
@@ -107,7 +107,7 @@ module _ {m : Ty ℕ → Ty ℕ} {limit p : ℕ} {o : List ℕ} where
 -- own words
 pub record OwnLaid (ws pairs : List ℕ) (w w′ : Walk) : Type 0 where
   pub tokens : List (Token ℕ)
-  pub reads : leftIn ws pairs w ≡ ahead (owned tokens) (leftIn ws pairs w′)
+  pub reads : leftIn ws pairs w ≡ ahead (ownPieces tokens) (leftIn ws pairs w′)
   pub words : take (w′ .place - w .place) (drop (w .place) ws) ≡ map tokenWord tokens
   pub further : w .place < w′ .place
   pub inside : w′ .place ≤ length ws
@@ -125,7 +125,7 @@ run-taken n ks r e = let z : n ≡ length (map tokenWord ks) = e ∙ sym (length
 
 -- ---- one step
 
-module _ {ws pairs : List ℕ} {text : Bytes} {rules table : List ℕ} {k : ℕ} {w : Walk} {o : List ℕ} {p limit : ℕ} (s : Ready ws pairs text rules table k w o p limit) where
+module _ {ws pairs : List ℕ} {text : Bytes} {rules table : List ℕ} {k : ℕ} {w : Walk} {o : List ℕ} {p limit : ℕ} (s : WalkReady ws pairs text rules table k w o p limit) where
   abbrev m : Ty ℕ → Ty ℕ
   m = mapping rules pairs text
 
@@ -136,7 +136,7 @@ module _ {ws pairs : List ℕ} {text : Bytes} {rules table : List ℕ} {k : ℕ}
         let v = run-taken (w′ .place - w .place) (t .tokens) (t .run) (omega (arith, t .end)) in
         record {
           tokens = t .tokens;
-          reads = t .reads ∙ ap (λ ks. ahead (owned ks) (leftIn ws pairs w′)) (tokens-same (t .tokens));
+          reads = t .reads ∙ ap (λ ks. ahead (ownPieces ks) (leftIn ws pairs w′)) (tokens-same (t .tokens));
           words = v .0;
           further = t .further;
           inside = omega (arith, v .1, t .further);
@@ -163,10 +163,10 @@ module _ {ws pairs : List ℕ} {text : Bytes} {rules table : List ℕ} {k : ℕ}
   module _ {w′ : Walk} {o′ : List ℕ} where
     module _ (t : OwnLaid ws pairs w w′) {r : Laying} (l : Lays limit o p (take (w′ .place - w .place) (drop (w .place) ws)) o′ r) where
       pub own-further : {q : ℕ} → r ≡ To q → Advanced m ws pairs w limit o p o′ (Further w′ q 0)
-      own-further e = further (owned (t .tokens)) (t .reads) (t .further) (t .inside) (own-to (t .tokens) (t .words) l e)
+      own-further e = further (ownPieces (t .tokens)) (t .reads) (t .further) (t .inside) (own-to (t .tokens) (t .words) l e)
 
       pub own-full : r ≡ Over → Advanced m ws pairs w limit o p o′ NoSpace
-      own-full e = step-over (owned (t .tokens)) (leftIn ws pairs w′) (t .reads) (own-over (t .tokens) (t .words) l e)
+      own-full e = step-over (ownPieces (t .tokens)) (leftIn ws pairs w′) (t .reads) (own-over (t .tokens) (t .words) l e)
 
     module _ {a : Role} (t : TypeLeft ws pairs w a w′) {r : Rebuilt} (l : TypeRebuilds m limit o p (treeAt ws pairs (w .place)) o′ r) where
       pub type-further : {n q d : ℕ} → r ≡ Done n q d → Advanced m ws pairs w limit o p o′ (Further (moved w′ n) q d)
@@ -184,13 +184,13 @@ module _ {ws pairs : List ℕ} {text : Bytes} {rules table : List ℕ} {k : ℕ}
 
 -- the pieces before w are laid down
 pub record Going (ws pairs : List ℕ) (text : Bytes) (rules table : List ℕ) (k : ℕ) (w₀ : Walk) (limit : ℕ) (o : List ℕ) (p : ℕ) (o′ : List ℕ) (w : Walk) (q found : ℕ) : Type 0 where
-  pub ready : Ready ws pairs text rules table k w o′ q limit
+  pub ready : WalkReady ws pairs text rules table k w o′ q limit
   pub done : List (Piece ℕ)
   pub reads : leftIn ws pairs w₀ ≡ ahead done (leftIn ws pairs w)
   pub laid : PiecesLaid (mapping rules pairs text) limit o p done o′ q found
 
 module _ {ws pairs : List ℕ} {text : Bytes} {rules table : List ℕ} {k : ℕ} {w₀ : Walk} {limit : ℕ} {o : List ℕ} {p : ℕ} where
-  pub going-starts : Ready ws pairs text rules table k w₀ o p limit → Going ws pairs text rules table k w₀ limit o p o w₀ p 0
+  pub going-starts : WalkReady ws pairs text rules table k w₀ o p limit → Going ws pairs text rules table k w₀ limit o p o w₀ p 0
   going-starts s = record { ready = s; done = []; reads = sym (ahead-none (leftIn ws pairs w₀)); laid = laid-nothing (s .within) (s .room) }
 
   module _ {o₁ : List ℕ} {w : Walk} {q found : ℕ} (g : Going ws pairs text rules table k w₀ limit o p o₁ w q found) where
@@ -246,7 +246,7 @@ module _ {ws pairs : List ℕ} {text : Bytes} {rules table : List ℕ} {k : ℕ}
 
 -- ---- a field, whole
 
-module _ {ws pairs : List ℕ} {text : Bytes} {rules table : List ℕ} {k : ℕ} {w : Walk} {o : List ℕ} {p limit : ℕ} (s : Ready ws pairs text rules table k w o p limit) (f : FieldNext w)
+module _ {ws pairs : List ℕ} {text : Bytes} {rules table : List ℕ} {k : ℕ} {w : Walk} {o : List ℕ} {p limit : ℕ} (s : WalkReady ws pairs text rules table k w o p limit) (f : FieldNext w)
     {at : ℕ} (a : at ≡ fieldType w) where
   abbrev inner : Walk
   inner = inField w at
@@ -265,7 +265,7 @@ module _ {ws pairs : List ℕ} {text : Bytes} {rules table : List ℕ} {k : ℕ}
       field-begun : Going ws pairs text rules table k w limit o p o₁ inner q 0
       field-begun = going-on (going-starts s) (own-further s field-own l e) refl (let v : 0 ≡ max 0 0 = omega arith in v) .0
 
-      pub field-ready : Ready ws pairs text rules table k inner o₁ q limit
+      pub field-ready : WalkReady ws pairs text rules table k inner o₁ q limit
       field-ready = field-begun .ready
 
       field-left : TypeLeft ws pairs inner (w .role) (pastType inner)
@@ -328,7 +328,7 @@ module _ (ws pairs : List ℕ) (text : Bytes) (c : Readable (declarationIn ws pa
     pub tokens : List (Token ℕ)
     pub left : List (Piece ℕ)
     pub reads : leftIn ws pairs w ≡ got left (c .end)
-    pub parts : pieces present (c .value) ≡ owned tokens ++ left
+    pub parts : pieces present (c .value) ≡ ownPieces tokens ++ left
     pub words : take (w .place) (drop 0 ws) ≡ map tokenWord tokens
     pub inside : w .place ≤ length ws
 
@@ -346,7 +346,7 @@ module _ (ws pairs : List ℕ) (text : Bytes) (c : Readable (declarationIn ws pa
           tokens = a .opening .tokens;
           left = l .left;
           reads = l .reads;
-          parts = l .parts ∙ ap (λ ks. owned ks ++ l .left) (tokens-same (a .opening .tokens));
+          parts = l .parts ∙ ap (λ ks. ownPieces ks ++ l .left) (tokens-same (a .opening .tokens));
           words = v .0;
           inside = omega (arith, v .1);
         }
@@ -359,13 +359,13 @@ module _ (ws pairs : List ℕ) (text : Bytes) (c : Readable (declarationIn ws pa
 
   module _ {limit : ℕ} {o : List ℕ} {w : Walk} (k : Opened w) {o₁ : List ℕ} {l : Laying} (h : Lays limit o 0 (take (w .place) (drop 0 ws)) o₁ l) where
     -- the rest can be rebuilt behind the opening
-    pub opening-ready : {rules table : List ℕ} {n q : ℕ} → Good pairs text → Ruled rules pairs text table n → limit ≤ length o → l ≡ To q → Ready ws pairs text rules table n w o₁ q limit
+    pub opening-ready : {rules table : List ℕ} {n q : ℕ} → Good pairs text → Ruled rules pairs text table n → limit ≤ length o → l ≡ To q → WalkReady ws pairs text rules table n w o₁ q limit
     opening-ready g r f e =
         let a = lays-to h e in
         record { good = g; ruled = r; readable = record { value = k .left; end = c .end; reads = k .reads }; inside = k .inside; within = a .0; room = omega (arith, f, a .1 .kept) }
 
     module _ (m : Ty ℕ → Ty ℕ) where
-      declared-over : {o′ : List ℕ} → PiecesOver m limit o 0 (owned (k .tokens) ++ k .left) o′ → DeclarationRebuilds m limit o (declarationIn ws pairs) o′ Full
+      declared-over : {o′ : List ℕ} → PiecesOver m limit o 0 (ownPieces (k .tokens) ++ k .left) o′ → DeclarationRebuilds m limit o (declarationIn ws pairs) o′ Full
       declared-over {o′} f = let g : PiecesOver m limit o 0 (pieces present (c .value)) o′ = rw (k .parts) f in full (c .reads) (g .over) (g .kept)
 
       -- its own words do not fit
@@ -376,7 +376,7 @@ module _ (ws pairs : List ℕ) (text : Bytes) (c : Readable (declarationIn ws pa
       pub opening-rest : {q : ℕ} {o₂ : List ℕ} {r : Rebuilt} → l ≡ To q → PiecesRebuild m limit o₁ q (leftIn ws pairs w) o₂ r → DeclarationRebuilds m limit o (declarationIn ws pairs) o₂ r
       opening-rest {q} {o₂} e b = go b
         where
-          front : PiecesLaid m limit o 0 (owned (k .tokens)) o₁ q 0
+          front : PiecesLaid m limit o 0 (ownPieces (k .tokens)) o₁ q 0
           front = own-to (k .tokens) (k .words) h e
 
           go : {s : Rebuilt} → PiecesRebuild m limit o₁ q (leftIn ws pairs w) o₂ s → DeclarationRebuilds m limit o (declarationIn ws pairs) o₂ s

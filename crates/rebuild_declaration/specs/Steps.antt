@@ -46,7 +46,7 @@ abbrev pub PiecesRebuild : (Ty ℕ → Ty ℕ) → ℕ → List ℕ → ℕ → 
 PiecesRebuild m limit o p x o′ r = Rebuilds (λ ps. rebuiltWords m ps) (λ ps. topPieces m ps) (λ ps. rebuiltDepth m ps) limit o p x o′ r
 
 -- what is left to a walk can be rebuilt: the tables hold, the rules are read, and words may be laid down from p on up to the limit
-pub record Ready (ws pairs : List ℕ) (text : Bytes) (rules table : List ℕ) (k : ℕ) (w : Walk) (o : List ℕ) (p limit : ℕ) : Type 0 where
+pub record WalkReady (ws pairs : List ℕ) (text : Bytes) (rules table : List ℕ) (k : ℕ) (w : Walk) (o : List ℕ) (p limit : ℕ) : Type 0 where
   pub good : Good pairs text
   pub ruled : Ruled rules pairs text table k
   pub readable : Readable (leftIn ws pairs w)

@@ -5,7 +5,7 @@ ghost use Rattle.encoding.specs.Tested.{Good};
 ghost use Rattle.accepted_types.specs.Accepted.{Readable};
 ghost use Rattle.declaration_walk.specs.Walks.{FieldNext};
 ghost use Rattle.rebuild_type.specs.Laid.{Ruled, mapping};
-ghost use Rattle.rebuild_declaration.specs.Steps.{leftIn, Ready, Advanced, fieldAdvance, PiecesRebuild, DeclarationRebuilds};
+ghost use Rattle.rebuild_declaration.specs.Steps.{leftIn, WalkReady, Advanced, fieldAdvance, PiecesRebuild, DeclarationRebuilds};
 ghost use Rattle.rebuild_declaration.specs.Calls.{declarationIn};
 use declaration_walk::Next;
 use declaration_walk::Start;
@@ -26,7 +26,7 @@ pub enum Advance {
 }
 
 // One step of the walk over an accepted declaration.
-fn lay_next(
+fn add_next(
     words: &[u32],
     pairs: &[u32],
     text: &[u8],
@@ -38,7 +38,7 @@ fn lay_next(
     pos: usize,
     limit: usize,
 ) -> Advance
-    requires { ⌜ Ready (now words) (now pairs) (now text) (now rules) (now table) k walk (now out) pos limit ⌝ }
+    requires { ⌜ WalkReady (now words) (now pairs) (now text) (now rules) (now table) k walk (now out) pos limit ⌝ }
     ensures { λ r. ⌜ Advanced (mapping (now (rules .entry)) (now (pairs .entry)) (now (text .entry))) (now (words .entry)) (now (pairs .entry)) walk limit
         (now (out .entry)) pos (now (out .exit)) r ⌝ }
 {
@@ -46,7 +46,7 @@ fn lay_next(
     match declaration_walk::next_piece(words, encoding::name_count(pairs), walk) {
         Next::OwnWords(next) => {
             let count = next.place - place;
-            match rebuild_type::lay(words, place, count, out, pos, limit) {
+            match rebuild_type::add_words(words, place, count, out, pos, limit) {
                 Laying::To(p) => Advance::Further {
                     walk: next,
                     pos: p,
@@ -84,7 +84,7 @@ fn lay_next(
 }
 
 // A field, whole: its own words and its type are two steps, and each would hand the walk over in memory.
-fn lay_field(
+fn add_field(
     words: &[u32],
     pairs: &[u32],
     text: &[u8],
@@ -96,20 +96,20 @@ fn lay_field(
     pos: usize,
     limit: usize,
 ) -> Rebuilt
-    requires { ⌜ Ready (now words) (now pairs) (now text) (now rules) (now table) k walk (now out) pos limit × FieldNext walk ⌝ }
+    requires { ⌜ WalkReady (now words) (now pairs) (now text) (now rules) (now table) k walk (now out) pos limit × FieldNext walk ⌝ }
     ensures { λ r. ⌜ Advanced (mapping (now (rules .entry)) (now (pairs .entry)) (now (text .entry))) (now (words .entry)) (now (pairs .entry)) walk limit
         (now (out .entry)) pos (now (out .exit)) (fieldAdvance walk r) ⌝ }
 {
     let place = walk.place;
     let at = declaration_walk::field_type(walk);
-    let Laying::To(p) = rebuild_type::lay(words, place, at - place, out, pos, limit) else {
+    let Laying::To(p) = rebuild_type::add_words(words, place, at - place, out, pos, limit) else {
         return Rebuilt::Full;
     };
     rebuild_type::rebuild_type(words, pairs, text, rules, table, k, at, out, p, limit)
 }
 
 // The fields of a list that are left, one after the other.
-fn lay_fields(
+fn add_fields(
     words: &[u32],
     pairs: &[u32],
     text: &[u8],
@@ -121,7 +121,7 @@ fn lay_fields(
     pos: usize,
     limit: usize,
 ) -> Advance
-    requires { ⌜ Ready (now words) (now pairs) (now text) (now rules) (now table) k walk (now out) pos limit × FieldNext walk ⌝ }
+    requires { ⌜ WalkReady (now words) (now pairs) (now text) (now rules) (now table) k walk (now out) pos limit × FieldNext walk ⌝ }
     ensures { λ r. ⌜ Advanced (mapping (now (rules .entry)) (now (pairs .entry)) (now (text .entry))) (now (words .entry)) (now (pairs .entry)) walk limit
         (now (out .entry)) pos (now (out .exit)) r ⌝ }
 {
@@ -129,7 +129,7 @@ fn lay_fields(
     let mut p = pos;
     let mut deepest = 0;
     loop {
-        match lay_field(words, pairs, text, rules, table, k, w, out, p, limit) {
+        match add_field(words, pairs, text, rules, table, k, w, out, p, limit) {
             Rebuilt::Done {
                 next,
                 pos: q,
@@ -154,7 +154,7 @@ fn lay_fields(
 }
 
 // Fields, or one step.
-fn lay_piece(
+fn add_piece(
     words: &[u32],
     pairs: &[u32],
     text: &[u8],
@@ -166,14 +166,14 @@ fn lay_piece(
     pos: usize,
     limit: usize,
 ) -> Advance
-    requires { ⌜ Ready (now words) (now pairs) (now text) (now rules) (now table) k walk (now out) pos limit ⌝ }
+    requires { ⌜ WalkReady (now words) (now pairs) (now text) (now rules) (now table) k walk (now out) pos limit ⌝ }
     ensures { λ r. ⌜ Advanced (mapping (now (rules .entry)) (now (pairs .entry)) (now (text .entry))) (now (words .entry)) (now (pairs .entry)) walk limit
         (now (out .entry)) pos (now (out .exit)) r ⌝ }
 {
     if declaration_walk::is_field_next(walk) {
-        return lay_fields(words, pairs, text, rules, table, k, walk, out, pos, limit);
+        return add_fields(words, pairs, text, rules, table, k, walk, out, pos, limit);
     }
-    lay_next(words, pairs, text, rules, table, k, walk, out, pos, limit)
+    add_next(words, pairs, text, rules, table, k, walk, out, pos, limit)
 }
 
 // What is left of an accepted declaration to a walk, rebuilt.
@@ -189,7 +189,7 @@ fn rebuild_rest(
     pos: usize,
     limit: usize,
 ) -> Rebuilt
-    requires { ⌜ Ready (now words) (now pairs) (now text) (now rules) (now table) k walk (now out) pos limit ⌝ }
+    requires { ⌜ WalkReady (now words) (now pairs) (now text) (now rules) (now table) k walk (now out) pos limit ⌝ }
     ensures { λ r. ⌜ PiecesRebuild (mapping (now (rules .entry)) (now (pairs .entry)) (now (text .entry))) limit (now (out .entry)) pos
         (leftIn (now (words .entry)) (now (pairs .entry)) walk) (now (out .exit)) r ⌝ }
 {
@@ -197,7 +197,7 @@ fn rebuild_rest(
     let mut p = pos;
     let mut deepest = 0;
     loop {
-        match lay_piece(words, pairs, text, rules, table, k, w, out, p, limit) {
+        match add_piece(words, pairs, text, rules, table, k, w, out, p, limit) {
             Advance::Further {
                 walk: next,
                 pos: q,
@@ -241,7 +241,7 @@ pub fn rebuild_declaration(
     else {
         return Rebuilt::Full;
     };
-    match rebuild_type::lay(words, 0, walk.place, out, 0, limit) {
+    match rebuild_type::add_words(words, 0, walk.place, out, 0, limit) {
         Laying::To(p) => rebuild_rest(words, pairs, text, rules, table, k, walk, out, p, limit),
         Laying::Over => Rebuilt::Full,
     }

@@ -35,7 +35,7 @@ use Rattle.tree_words.specs.Numbered.{treeAt, treeOf}
 use Rattle.tree_words.proofs.Renaming.{encode-words, type-renamed, tree-run}
 use Rattle.rebuild_spec.specs.Laying.{depth}
 use Rattle.rebuild_spec.proofs.Depths.{within, tree-deep}
-use Rattle.rebuild_rules.specs.Scans.{Spans, depthOf}
+use Rattle.rebuild_rules.specs.Scans.{SpansTo, depthOf}
 use Rattle.known_paths.specs.Matches.{argument}
 use Rattle.known_paths.specs.Steps.{when, andThen}
 use Rattle.shapes.specs.Accepted.{acceptance}
@@ -43,13 +43,13 @@ use Rattle.shapes.specs.Shapes.{IsObject, IsObjectOrPointer}
 use Rattle.shapes.specs.Initialization.{ObjectType, PtrType, orThis, newUnderlying, TypeAtInitialization}
 use Rattle.rebuild_type.specs.declared.RebuildAnswer.{RebuildAnswer}
 use Rattle.rebuild_type.specs.declared.RebuildAnswer.the-variants.{Length, Refused}
-use Rattle.rebuild_type.specs.Calls.{Laid, roomOf, zeros, laidDown}
+use Rattle.rebuild_type.specs.Calls.{RebuiltWords, roomOf, zeros, laidDown}
 use Rattle.rebuild_type.specs.Attempts.{sameWords, Fills}
 use Rattle.shapes.proofs.Answers.{answer-given, answer-refused}
 use Rattle.rebuild_type.proofs.Calls.{down-over, down-deep, down-front, read-fills, copied-fills, run-whole}
 use Rattle.rebuild_initial.specs.declared.Initial.{Initial}
 use Rattle.rebuild_initial.specs.declared.Initial.the-variants.{OfArray, Unchanged}
-use Rattle.rebuild_initial.specs.Initialized.{wholeInitialized, typeWithin, pointerWords, uninitWords, initialWords, newArray, Named, Pieces, pieces, unchanged, Becomes, Whole, Shallow}
+use Rattle.rebuild_initial.specs.Initialized.{wholeInitialized, typeWithin, pointerWords, uninitWords, initialWords, newArray, Named, Pieces, pieces, unchanged, Becomes, FillsWhole, Shallow}
 use Rattle.rebuild_initial.specs.Calls.{laidInit, typeInitialized}
 use Rattle.rebuild_initial.proofs.Changes.{one-words, one-depth}
 
@@ -100,7 +100,7 @@ pieces-length name x y e = omega (arith, e, length-append x (uninitWords ++ y))
 -- ---- the element
 
 module _ (ws pairs : List ℕ) (element : ℕ) {deepest : Bool} (s : Shallow ws pairs element deepest) where
-  pub element-spans : Spans (treeAt ws pairs element) (element + (length ws - element))
+  pub element-spans : SpansTo (treeAt ws pairs element) (element + (length ws - element))
   element-spans =
       let i : length ws ≡ element + (length ws - element) = omega (arith, s .inside) in
       record { tree = s .tree; reads = s .reads ∙ ap (got (s .tree)) i }
@@ -109,7 +109,7 @@ module _ (ws pairs : List ℕ) (element : ℕ) {deepest : Bool} (s : Shallow ws 
   unfolding depthOf
   element-within e = rw (s .reads) (sym (le-ltb 61 (depth (s .tree)) (s .shallow e)))
 
-pub whole-readable : {ws pairs : List ℕ} {deepest : Bool} → Whole ws pairs deepest → Readable (treeAt ws pairs 0)
+pub whole-readable : {ws pairs : List ℕ} {deepest : Bool} → FillsWhole ws pairs deepest → Readable (treeAt ws pairs 0)
 whole-readable {ws} w = record { value = w .tree; end = length ws; reads = w .reads }
 
 -- ---- a type that changes
@@ -118,7 +118,7 @@ module _ (ws pairs : List ℕ) (text : Bytes) where
   abbrev bytes : ℕ → Bytes
   bytes = nameBytes pairs text
 
-  abbrev laid : Reading Laid
+  abbrev laid : Reading RebuiltWords
   laid = mapReading (laidInit bytes) (treeAt ws pairs 0)
 
   pub record Changes (start element end deep : ℕ) : Type 0 where
@@ -132,7 +132,7 @@ module _ (ws pairs : List ℕ) (text : Bytes) where
     pub deeper : depth (TypeAtInitialization bytes tree) ≡ 3 + deep
 
   -- the element stands there, up to the end of the words
-  pub element-shallow : {start element : ℕ} {deepest : Bool} → Whole ws pairs deepest → Becomes (newArray bytes) 2 ws pairs 0 (OfArray start element) → Shallow ws pairs element deepest
+  pub element-shallow : {start element : ℕ} {deepest : Bool} → FillsWhole ws pairs deepest → Becomes (newArray bytes) 2 ws pairs 0 (OfArray start element) → Shallow ws pairs element deepest
   element-shallow {start} {element} {deepest} w b = go (b .by)
     where
       go : Pieces ws pairs 2 (b .tree) (b .end) (newArray bytes (b .tree)) (OfArray start element) → Shallow ws pairs element deepest
@@ -141,7 +141,7 @@ module _ (ws pairs : List ℕ) (text : Bytes) where
           let t : b .tree ≡ w .tree = cc (b .reads, w .reads) in
           record { tree = u; inside = l; reads = k ∙ ap (got u) i; shallow = λ s. omega (arith, w .shallow s, ap depth t, a) }
 
-  pub changes : {start element : ℕ} {deepest : Bool} → Whole ws pairs deepest → Becomes (newArray bytes) 2 ws pairs 0 (OfArray start element) → Changes start element (length ws) (depthOf (treeAt ws pairs element))
+  pub changes : {start element : ℕ} {deepest : Bool} → FillsWhole ws pairs deepest → Becomes (newArray bytes) 2 ws pairs 0 (OfArray start element) → Changes start element (length ws) (depthOf (treeAt ws pairs element))
   unfolding depthOf
   changes {start} {element} w b = go (b .by)
     where
@@ -182,7 +182,7 @@ module _ (ws pairs : List ℕ) (text : Bytes) where
 
   -- ---- a type that stays
 
-  pub stays : {o o′ : List ℕ} {r : RebuildAnswer} {c : Initial} {deepest : Bool} → Whole ws pairs deepest → Becomes (newArray bytes) 2 ws pairs 0 c → c ≡ Unchanged → (r, o′) ≡ laidDown o (given (sameWords ws 0)) → Fills laid o o′ r
+  pub stays : {o o′ : List ℕ} {r : RebuildAnswer} {c : Initial} {deepest : Bool} → FillsWhole ws pairs deepest → Becomes (newArray bytes) 2 ws pairs 0 c → c ≡ Unchanged → (r, o′) ≡ laidDown o (given (sameWords ws 0)) → Fills laid o o′ r
   stays {o} {o′} {r} {c} w b e k = go (subst (Pieces ws pairs 2 (b .tree) (b .end) (newArray bytes (b .tree))) e (b .by))
     where
       go : Pieces ws pairs 2 (b .tree) (b .end) (newArray bytes (b .tree)) Unchanged → Fills laid o o′ r
@@ -234,18 +234,18 @@ module _ (ws pairs : List ℕ) (text : Bytes) {c : Check} (deep : ℕ) (e : c �
       ∙ accept-mapped (renamed (nameBytes pairs text)) (length ws) (treeWithin deep ws pairs)
 
   -- a type that is read with less depth is read, and less deep
-  whole-within : (deepest : Bool) → ((t : Ty ℕ) → treeWithin deep ws pairs ≡ got t (length ws) → treeAt ws pairs 0 ≡ got t (length ws)) → (deepest ≡ false → deep ≤ 63) → c ≡ Passed → Whole ws pairs deepest
+  whole-within : (deepest : Bool) → ((t : Ty ℕ) → treeWithin deep ws pairs ≡ got t (length ws) → treeAt ws pairs 0 ≡ got t (length ws)) → (deepest ≡ false → deep ≤ 63) → c ≡ Passed → FillsWhole ws pairs deepest
   unfolding unless
   whole-within deepest up low d =
-      answer-given (whole (length ws) (treeWithin deep ws pairs)) tree-accepted d (Whole ws pairs deepest) λ t i.
+      answer-given (whole (length ws) (treeWithin deep ws pairs)) tree-accepted d (FillsWhole ws pairs deepest) λ t i.
       let r = given-whole Passed (length ws) (treeWithin deep ws pairs) i .1 in
       record { tree = t; reads = up t r; shallow = λ s. omega (arith, low s, within (nameCount pairs) ws deep 0 t (length ws) r) }
 
 module _ (ws pairs : List ℕ) (text : Bytes) {c : Check} where
-  pub lower-whole : c ≡ acceptance (whole (length ws) (typeWithin 63 ws pairs text)) → c ≡ Passed → Whole ws pairs false
+  pub lower-whole : c ≡ acceptance (whole (length ws) (typeWithin 63 ws pairs text)) → c ≡ Passed → FillsWhole ws pairs false
   lower-whole e = whole-within ws pairs text 63 e false (λ t. deeper-tree ws pairs) (λ s. omega arith)
 
-  pub deepest-whole : c ≡ acceptance (whole (length ws) (typeWithin 64 ws pairs text)) → c ≡ Passed → Whole ws pairs true
+  pub deepest-whole : c ≡ acceptance (whole (length ws) (typeWithin 64 ws pairs text)) → c ≡ Passed → FillsWhole ws pairs true
   deepest-whole e = whole-within ws pairs text 64 e true (λ t r. r) (λ s. impossible (cc))
 
   pub not-whole : {o : List ℕ} {r : Refusal} → c ≡ acceptance (whole (length ws) (typeWithin 64 ws pairs text)) → c ≡ Failed r
@@ -254,7 +254,7 @@ module _ (ws pairs : List ℕ) (text : Bytes) {c : Check} where
   not-whole e d = rw (answer-refused (whole (length ws) (treeAt ws pairs 0)) (tree-accepted ws pairs text 64 e) d) refl
 
 module _ (ws pairs : List ℕ) (text : Bytes) {o o′ : List ℕ} {r : RebuildAnswer} where
-  pub whole-filled : {deepest : Bool} → Whole ws pairs deepest → Fills (mapReading (laidInit (nameBytes pairs text)) (treeAt ws pairs 0)) o o′ r → (r, o′) ≡ laidDown o (wholeInitialized ws pairs text)
+  pub whole-filled : {deepest : Bool} → FillsWhole ws pairs deepest → Fills (mapReading (laidInit (nameBytes pairs text)) (treeAt ws pairs 0)) o o′ r → (r, o′) ≡ laidDown o (wholeInitialized ws pairs text)
   unfolding mapReading wholeInitialized mapAnswer whole
   whole-filled w f = rw (w .reads, eq-eqb (length ws) (length ws) refl) (f .fills (laidInit (nameBytes pairs text) (w .tree)) (length ws) (rw (w .reads) refl))
 

@@ -43,7 +43,7 @@ use Rattle.shapes.specs.Shapes.{IsObject, IsObjectOrPointer}
 use Rattle.shapes.proofs.Pointers.{expanded-tree, pointer-is}
 use Rattle.rebuild_initial.specs.declared.Pointer.{Pointer}
 use Rattle.rebuild_initial.specs.declared.Pointer.the-variants.{To, NoPointer}
-use Rattle.rebuild_initial.specs.Initialized.{nameAt, Member, OfRuntime, underPointer, Points}
+use Rattle.rebuild_initial.specs.Initialized.{pointerName, Member, OfRuntime, underPointer, Points}
 use Rattle.rebuild_initial.proofs.Changes.{type-read, expanded-place}
 
 -- ---- members of `dafny_runtime`
@@ -172,8 +172,8 @@ module _ (ws pairs : List ℕ) (text : Bytes) (r : Readable (treeAt ws pairs 0))
       }
 
   module _ (e : b ≡ true) where
-    pub object-here : {k : ℕ} → same member (ascii "Object") ≡ true → k ≡ nameAt at → Points ws pairs text (To k (at + 7))
-    unfolding _and_ nameAt
+    pub object-here : {k : ℕ} → same member (ascii "Object") ≡ true → k ≡ pointerName at → Points ws pairs text (To k (at + 7))
+    unfolding _and_ pointerName
     object-here {k} h n =
         let i : isOf ObjectClass (Expand type) ≡ true = sym object-is ∙ rw (e, h) refl in
         points-to k e (sym (pointer-is type) ∙ rw i (or-true (isOf PtrClass (Expand type)))) (n ∙ rw i refl)

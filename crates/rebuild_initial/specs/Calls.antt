@@ -10,10 +10,10 @@ use Rattle.tree_words.specs.Encode.{encode}
 use Rattle.tree_words.specs.Numbered.{treeOf}
 use Rattle.rebuild_spec.specs.Laying.{depth}
 use Rattle.shapes.specs.Initialization.{TypeAtInitialization}
-use Rattle.rebuild_type.specs.Calls.{Laid}
+use Rattle.rebuild_type.specs.Calls.{RebuiltWords}
 
 -- a tree as it stands at initialization: on the way no more words lie there than at the end
-abbrev pub laidInit : (ℕ → Bytes) → Ty ℕ → Laid
+abbrev pub laidInit : (ℕ → Bytes) → Ty ℕ → RebuiltWords
 laidInit bytes t = record {
   words = encode (TypeAtInitialization bytes t);
   top = length (encode (TypeAtInitialization bytes t));
@@ -21,5 +21,5 @@ laidInit bytes t = record {
 }
 
 -- the type that an encoding holds, as it stands at initialization
-unfoldable pub typeInitialized : List ℕ → List ℕ → Bytes → Answer Laid
+unfoldable pub typeInitialized : List ℕ → List ℕ → Bytes → Answer RebuiltWords
 typeInitialized words pairs text = mapAnswer (laidInit (nameBytes pairs text)) (treeOf words pairs text)

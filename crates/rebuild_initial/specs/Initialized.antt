@@ -30,7 +30,7 @@ use Rattle.known_paths.specs.Steps.{when, andThen, argumentAt}
 use Rattle.shapes.specs.Parts.{ObjectOrPointerUnderlying}
 use Rattle.shapes.specs.Shapes.{IsObject, IsObjectOrPointer}
 use Rattle.shapes.specs.Initialization.{newUnderlying}
-use Rattle.rebuild_type.specs.Calls.{Laid}
+use Rattle.rebuild_type.specs.Calls.{RebuiltWords}
 use Rattle.rebuild_initial.specs.declared.Initial.{Initial}
 use Rattle.rebuild_initial.specs.declared.Initial.the-variants.{OfArray, Unchanged}
 use Rattle.rebuild_initial.specs.declared.Pointer.{Pointer}
@@ -38,7 +38,7 @@ use Rattle.rebuild_initial.specs.declared.Pointer.the-variants.{To, NoPo
 use Rattle.rebuild_initial.specs.Calls.{laidInit}
 
 -- the type that fills the words, as it stands at initialization; the tables hold
-unfoldable pub wholeInitialized : List ℕ → List ℕ → Bytes → Answer Laid
+unfoldable pub wholeInitialized : List ℕ → List ℕ → Bytes → Answer RebuiltWords
 wholeInitialized words pairs text = mapAnswer (laidInit (nameBytes pairs text)) (whole (length words) (treeAt words pairs 0))
 
 -- the type at the front, if it is at most `deep` types deep
@@ -68,8 +68,8 @@ pub record Named (bytes : ℕ → Bytes) (x : Reading (Ty ℕ)) (name : ℕ) : T
   pub names : (t : Ty ℕ) (n : ℕ) → x ≡ got t n → name ≡ pick (IsObject (renamed bytes t)) 11 12
 
 -- that of an `Object` whose words begin at `place`: behind wrappers it becomes a `Ptr`
-unfoldable pub nameAt : ℕ → ℕ
-nameAt place = pick (eqb place 0) 11 12
+unfoldable pub pointerName : ℕ → ℕ
+pointerName place = pick (eqb place 0) 11 12
 
 -- ---- the pointer
 
@@ -112,7 +112,7 @@ pub record Becomes (f : Ty ℕ → Option (Ty ℕ)) (around : ℕ) (ws pairs : L
   pub by : Pieces ws pairs around tree end (f tree) r
 
 -- a type fills the words, and is less deep than it may be unless `deepest` is true
-pub record Whole (ws pairs : List ℕ) (deepest : Bool) : Type 0 where
+pub record FillsWhole (ws pairs : List ℕ) (deepest : Bool) : Type 0 where
   pub tree : Ty ℕ
   pub reads : treeAt ws pairs 0 ≡ got tree (length ws)
   pub shallow : deepest ≡ false → depth tree ≤ 63

@@ -19,7 +19,7 @@ ghost use Rattle.rebuild_type.specs.Calls.{laidDown};
 ghost use Rattle.rebuild_type.specs.Attempts.{Fills};
 ghost use Rattle.rebuild_initial.specs.declared.Initial.the-variants.{OfArray};
 ghost use Rattle.rebuild_initial.specs.declared.Pointer.the-variants.{To};
-ghost use Rattle.rebuild_initial.specs.Initialized.{wholeInitialized, typeWithin, initialWords, newArray, nameAt, Becomes, Named, OfRuntime, Points, Shallow, Whole};
+ghost use Rattle.rebuild_initial.specs.Initialized.{wholeInitialized, typeWithin, initialWords, newArray, pointerName, Becomes, Named, OfRuntime, Points, Shallow, FillsWhole};
 ghost use Rattle.rebuild_initial.specs.Calls.{laidInit, typeInitialized};
 use encoding::Check;
 use encoding::Refusal;
@@ -92,7 +92,7 @@ enum Pointer {
 
 // The number of the name that an `Object` becomes: one behind wrappers becomes a `Ptr`.
 fn object_name(place: usize) -> u32
-    ensures { λ r. ⌜ r ≡ nameAt place ⌝ }
+    ensures { λ r. ⌜ r ≡ pointerName place ⌝ }
 {
     if place == 0 {
         return OBJECT;
@@ -204,7 +204,7 @@ fn change(
     deepest: bool,
     out: &mut [u32],
 ) -> RebuildAnswer
-    requires { ⌜ (length (now words) ≤ maxWords) × Whole (now words) (now pairs) deepest × Named (nameBytes (now pairs) (now text)) (treeAt (now words) (now pairs) 0) name
+    requires { ⌜ (length (now words) ≤ maxWords) × FillsWhole (now words) (now pairs) deepest × Named (nameBytes (now pairs) (now text)) (treeAt (now words) (now pairs) 0) name
         × Becomes (newArray (nameBytes (now pairs) (now text))) 2 (now words) (now pairs) 0 (OfArray start element) ⌝ }
     ensures { λ r. ⌜ Fills (mapReading (laidInit (nameBytes (now (pairs .entry)) (now (text .entry)))) (treeAt (now (words .entry)) (now (pairs .entry)) 0)) (now (out .entry)) (now (out .exit)) r ⌝ }
 {
@@ -234,7 +234,7 @@ fn initialize_under(
     deepest: bool,
     out: &mut [u32],
 ) -> RebuildAnswer
-    requires { ⌜ Good (now pairs) (now text) × (length (now words) ≤ maxWords) × Whole (now words) (now pairs) deepest × Points (now words) (now pairs) (now text) (To name at) ⌝ }
+    requires { ⌜ Good (now pairs) (now text) × (length (now words) ≤ maxWords) × FillsWhole (now words) (now pairs) deepest × Points (now words) (now pairs) (now text) (To name at) ⌝ }
     ensures { λ r. ⌜ Fills (mapReading (laidInit (nameBytes (now (pairs .entry)) (now (text .entry)))) (treeAt (now (words .entry)) (now (pairs .entry)) 0)) (now (out .entry)) (now (out .exit)) r ⌝ }
 {
     match array_at(words, pairs, text, at) {
@@ -253,7 +253,7 @@ fn initialize(
     deepest: bool,
     out: &mut [u32],
 ) -> RebuildAnswer
-    requires { ⌜ Good (now pairs) (now text) × (length (now words) ≤ maxWords) × Whole (now words) (now pairs) deepest ⌝ }
+    requires { ⌜ Good (now pairs) (now text) × (length (now words) ≤ maxWords) × FillsWhole (now words) (now pairs) deepest ⌝ }
     ensures { λ r. ⌜ Fills (mapReading (laidInit (nameBytes (now (pairs .entry)) (now (text .entry)))) (treeAt (now (words .entry)) (now (pairs .entry)) 0)) (now (out .entry)) (now (out .exit)) r ⌝ }
 {
     match find_pointer(words, pairs, text) {

@@ -13,9 +13,9 @@ use lib.Seq.{getD-set-same, getD-set-other}
 use Rattle.rast.specs.Bytes.{Bytes}
 use Rattle.encoding.specs.Refusals.{pick}
 use Rattle.encoding.proofs.Tables.{impossible}
-use Rattle.rebuild_rules.specs.declared.Found.{Found}
-use Rattle.rebuild_rules.specs.declared.Found.the-variants.{At, Nothing}
-use Rattle.rebuild_rules.specs.Table.{slot, linked, slotOf, nextRule, firstOf, isFound, firstAlong, fromWords, isFrom, foundFrom, amongFrom, stands, someStands, Fits, Links, Along, Unlinked, Entries}
+use Rattle.rebuild_rules.specs.declared.FoundRule.{FoundRule}
+use Rattle.rebuild_rules.specs.declared.FoundRule.the-variants.{At, Nothing}
+use Rattle.rebuild_rules.specs.Table.{slot, linked, slotOf, nextRule, firstOf, isFoundRule, firstAlong, fromWords, isFrom, foundFrom, amongFrom, stands, someStands, EntriesFit, Links, AlongLinks, Unlinked, TableEntries}
 use Rattle.rebuild_rules.proofs.Steps.{From, first-entry, from-missed, stands-missed}
 
 -- ---- slots
@@ -65,7 +65,7 @@ module _ (rules table : List ℕ) where
           (omega (arith, z), omega (arith, z), rw z at d)
       go (no d) f more = let g = more (rw (ne-eqb (slotOf rules table i) s d) at f) in (omega (arith, g .0), omega (arith, g .1), g .2)
 
-  pub along-next : (k s i n : ℕ) → i + n ≡ k → Along rules table k s (nextRule rules table s i n)
+  pub along-next : (k s i n : ℕ) → i + n ≡ k → AlongLinks rules table k s (nextRule rules table s i n)
   along-next k s i n e = record {
     within = λ m d. omega (arith, next-found s i n m d .1, e);
     slots = λ m d. next-found s i n m d .2;
@@ -83,13 +83,13 @@ module _ (rules table : List ℕ) where
     after : (m : ℕ) → m < k → getD table (4 * m + 3) 0 ≡ nextRule rules table (slotOf rules table m) (m + 1) (k - (m + 1))
     after m h = l .next m (omega arith) h
 
-    pub along-first : (w : ℕ) {link : ℕ} → link ≡ getD table (slot w) 0 → Along rules table k (slot w) link
+    pub along-first : (w : ℕ) {link : ℕ} → link ≡ getD table (slot w) 0 → AlongLinks rules table k (slot w) link
     along-first w e = let r = slot-range w in let z : k - 0 ≡ k = omega arith in rw (e, l .first (slot w) (r .0) (r .1), z) (along-next k (slot w) 0 k (omega arith))
 
-    along-more : (m : ℕ) → m < k → Along rules table k (slotOf rules table m) (getD table (4 * m + 3) 0)
+    along-more : (m : ℕ) → m < k → AlongLinks rules table k (slotOf rules table m) (getD table (4 * m + 3) 0)
     along-more m h = rw (after m h) (along-next k (slotOf rules table m) (m + 1) (k - (m + 1)) (omega arith))
 
-    pub along-behind : (i : ℕ) {p link : ℕ} → i < k → p ≡ getD table (4 * i + 0) 0 → link ≡ getD table (4 * i + 3) 0 → Along rules table k (slot (getD rules p 0)) link
+    pub along-behind : (i : ℕ) {p link : ℕ} → i < k → p ≡ getD table (4 * i + 0) 0 → link ≡ getD table (4 * i + 3) 0 → AlongLinks rules table k (slot (getD rules p 0)) link
     unfolding slotOf
     along-behind i h d e = rw (d, first-entry table i, e) (along-more i h)
 
@@ -128,11 +128,11 @@ module _ (rules table : List ℕ) where
 -- ---- a loop along the links
 
 -- it has come to the link `next`, and what is found from there on is what is asked for
-pub record Search {R : Type 0} (show : Found → R) (rules table : List ℕ) (k s : ℕ) (test : ℕ → Bool) (goal : R) (next : ℕ) : Type 0 where
-  pub along : Along rules table k s next
+pub record Search {R : Type 0} (show : FoundRule → R) (rules table : List ℕ) (k s : ℕ) (test : ℕ → Bool) (goal : R) (next : ℕ) : Type 0 where
+  pub along : AlongLinks rules table k s next
   pub finds : show (firstAlong test k next) ≡ goal
 
-module _ {R : Type 0} {show : Found → R} {rules table : List ℕ} {k s : ℕ} {test : ℕ → Bool} {goal : R} {next : ℕ} (v : Search show rules table k s test goal next) where
+module _ {R : Type 0} {show : FoundRule → R} {rules table : List ℕ} {k s : ℕ} {test : ℕ → Bool} {goal : R} {next : ℕ} (v : Search show rules table k s test goal next) where
   -- no rule is left
   pub search-none : next ≡ 0 → show Nothing ≡ goal
   unfolding firstAlong
@@ -181,18 +181,18 @@ module _ (table : List ℕ) (i s : ℕ) where
       getD-set-other (set table (4 * i + 3) (getD table s 0)) s (4 * i + 3) (i + 1) 0 (λ e. omega (arith, e)) ∙ getD-set-same table (4 * i + 3) (getD table s 0) 0 h
 
 -- rules whose entries are the same have the same slots
-slots-same : (rules : List ℕ) {table table′ : List ℕ} → Entries table table′ → (j : ℕ) → j < 32 → slotOf rules table′ j ≡ slotOf rules table j
+slots-same : (rules : List ℕ) {table table′ : List ℕ} → TableEntries table table′ → (j : ℕ) → j < 32 → slotOf rules table′ j ≡ slotOf rules table j
 unfolding slotOf
 slots-same rules e j h = ap (λ n. slot (getD rules n 0)) (e .from j h)
 
-next-same : (rules : List ℕ) {table table′ : List ℕ} → Entries table table′ → (s i n : ℕ) → i + n ≤ 32 → nextRule rules table′ s i n ≡ nextRule rules table s i n
+next-same : (rules : List ℕ) {table table′ : List ℕ} → TableEntries table table′ → (s i n : ℕ) → i + n ≤ 32 → nextRule rules table′ s i n ≡ nextRule rules table s i n
 unfolding nextRule
 next-same rules e s i zero h = refl
 next-same rules e s i (suc n) h = rw (slots-same rules e i (omega arith), next-same rules e s (i + 1) n (omega arith)) refl
 
 -- the rules from the i-th on were linked in what was `table₀`
 pub record Linking (rules table₀ table : List ℕ) (i k : ℕ) : Type 0 where
-  pub entries : Entries table₀ table
+  pub entries : TableEntries table₀ table
   pub links : Links rules table i k
   pub within : i ≤ k
 
@@ -205,7 +205,7 @@ linking-starts rules table k u = let z : k - k ≡ 0 = omega arith in record {
 }
 
 module _ (rules table : List ℕ) (i k s : ℕ) (few : k ≤ 32) (h : i < k) (size : length table ≡ 160) (a : 128 ≤ s) (b : s < 160) (l : Links rules table (i + 1) k) where
-  linked-entries : Entries table (linked table i s)
+  linked-entries : TableEntries table (linked table i s)
   linked-entries = record {
     size = linked-length table i s;
     from = λ j m. linked-elsewhere table i s (4 * j) (λ e. omega (arith, e)) (λ e. omega (arith, e));
@@ -262,23 +262,23 @@ linking-next rules table₀ table i k few h size g =
 
 -- ---- what the searches ask for
 
-module _ (name : ℕ → Bytes) (rules table : List ℕ) {k : ℕ} (f : Fits rules table k) (l : Links rules table 0 k) {link : ℕ} where
+module _ (name : ℕ → Bytes) (rules table : List ℕ) {k : ℕ} (f : EntriesFit rules table k) (l : Links rules table 0 k) {link : ℕ} where
   pub found-along : (out : List ℕ) (start count : ℕ) → start + count ≤ length out → 0 < count → link ≡ getD table (slot (getD out start 0)) 0
       → firstAlong (isFrom name rules table (take count (drop start out))) k link ≡ foundFrom name rules table 0 k (take count (drop start out))
   unfolding foundFrom
   found-along out start count m h e = rw e (sym (along-all rules table k l (isFrom name rules table (take count (drop start out))) (getD out start 0) (from-missed name rules table f out start count m h)))
 
   pub some-along : (ws : List ℕ) (at : ℕ) → at < length ws → link ≡ getD table (slot (getD ws at 0)) 0
-      → isFound (firstAlong (stands name rules table (drop at ws)) k link) ≡ someStands name rules table 0 k (drop at ws)
+      → isFoundRule (firstAlong (stands name rules table (drop at ws)) k link) ≡ someStands name rules table 0 k (drop at ws)
   unfolding someStands
-  some-along ws at m e = rw e (ap isFound (sym (along-all rules table k l (stands name rules table (drop at ws)) (getD ws at 0) (stands-missed name rules table f ws at m))))
+  some-along ws at m e = rw e (ap isFoundRule (sym (along-all rules table k l (stands name rules table (drop at ws)) (getD ws at 0) (stands-missed name rules table f ws at m))))
 
   pub among-along : (i : ℕ) {p n : ℕ} → i < k → From rules table i p n → p ≡ getD table (4 * i + 0) 0 → link ≡ getD table (4 * i + 3) 0
-      → isFound (firstAlong (isFrom name rules table (take n (drop p rules))) k link) ≡ amongFrom name rules table (i + 1) (k - (i + 1)) (fromWords rules table i)
+      → isFoundRule (firstAlong (isFrom name rules table (take n (drop p rules))) k link) ≡ amongFrom name rules table (i + 1) (k - (i + 1)) (fromWords rules table i)
   unfolding amongFrom foundFrom slotOf
   among-along i {p} {n} h g d e =
       rw (g .words, e)
-      (ap isFound
+      (ap isFoundRule
       (sym
       (skipped rules table k l (isFrom name rules table (take n (drop p rules))) (slotOf rules table i) (rw (← first-entry table i, ← d) (from-missed name rules table f rules p n (g .inside) (g .some)))
       (i + 1) (k - (i + 1)) (omega arith)

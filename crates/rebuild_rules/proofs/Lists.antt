@@ -37,8 +37,8 @@ use Rattle.rebuild_rules.specs.declared.Deep.{Deep}
 use Rattle.rebuild_rules.specs.declared.RuleScan.{RuleScan}
 use Rattle.rebuild_rules.specs.declared.RuleScan.the-variants.{OneRule, NoRule}
 use Rattle.rebuild_rules.specs.declared.RulesAnswer.the-variants.{Rules, NoRules}
-use Rattle.rebuild_rules.specs.Table.{entered, repeatedFrom, Fits, Links, Unlinked, Entries, RuleAt, Tabled}
-use Rattle.rebuild_rules.specs.Scans.{Deepens, Spans, depthOf, RuleRead, rule, none, Listed, listed, unlisted, RulesRead, read, unread}
+use Rattle.rebuild_rules.specs.Table.{entered, repeatedFrom, EntriesFit, Links, Unlinked, TableEntries, RuleAt, Tabled}
+use Rattle.rebuild_rules.specs.Scans.{Deepens, SpansTo, depthOf, RuleRead, rule, none, Listed, listed, unlisted, RulesRead, read, unread}
 use Rattle.rebuild_rules.proofs.Tables.{tabled-kept, tabled-more, same-tabled, rule-entered, still-unlinked, tabled-fits, repeated-trees}
 use Rattle.rebuild_rules.proofs.Steps.{counted}
 
@@ -70,7 +70,7 @@ one-deep ws pairs at {t} {n} r e d =
     omega (arith, s)
 
 -- a type of one word is one deep
-pub leaf-depth : (ws pairs : List ℕ) (at : ℕ) {count : ℕ} → at ≤ length ws → count ≡ 1 → Spans (treeAt ws pairs at) (at + count) → depthOf (treeAt ws pairs at) ≡ 1
+pub leaf-depth : (ws pairs : List ℕ) (at : ℕ) {count : ℕ} → at ≤ length ws → count ≡ 1 → SpansTo (treeAt ws pairs at) (at + count) → depthOf (treeAt ws pairs at) ≡ 1
 unfolding depthOf
 leaf-depth ws pairs at h z x =
     let w = tree-run ws pairs at h (x .reads) in
@@ -78,7 +78,7 @@ leaf-depth ws pairs at h z x =
     let d : depth (x .tree) ≡ 1 = omega (arith, z, w .1, depth-words (x .tree), depth-node (b .node)) in
     rw (x .reads) d
 
-pub tree-depth : (ws pairs : List ℕ) (at : ℕ) {end size : ℕ} (r : Deep) → Spans (treeAt ws pairs at) end → Deepens (readTypes (treeAt ws pairs) 1 at) size r → r .depth ≡ depthOf (treeAt ws pairs at)
+pub tree-depth : (ws pairs : List ℕ) (at : ℕ) {end size : ℕ} (r : Deep) → SpansTo (treeAt ws pairs at) end → Deepens (readTypes (treeAt ws pairs) 1 at) size r → r .depth ≡ depthOf (treeAt ws pairs at)
 unfolding depthOf
 tree-depth ws pairs at r x d = rw (x .reads) (one-deep ws pairs at r (x .reads) d)
 
@@ -241,14 +241,14 @@ rule-stop {rules} {pairs} {at} {k = k} l e = go (subst (RuleRead rules pairs at)
 pub rules-none : {rules pairs table : List ℕ} {text : Bytes} {k : Refusal} → rulesOf rules pairs text ≡ refused k → RulesRead rules pairs text table (NoRules k)
 rules-none e = unread e
 
-pub rules-some : {rules pairs table : List ℕ} {text : Bytes} {rs : List Rule} {n : ℕ} → rulesOf rules pairs text ≡ given rs → Tabled rules pairs table 0 rs → length rs ≡ n → Fits rules table n → Links rules table 0 n
+pub rules-some : {rules pairs table : List ℕ} {text : Bytes} {rs : List Rule} {n : ℕ} → rulesOf rules pairs text ≡ given rs → Tabled rules pairs table 0 rs → length rs ≡ n → EntriesFit rules table n → Links rules table 0 n
     → RulesRead rules pairs text table (Rules n)
 rules-some {rules} {pairs} {table} {text} {rs} {n} e t c f l =
-    subst (λ k. RulesRead rules pairs text table (Rules k)) c (read e t (subst (Fits rules table) (sym c) f) (subst (Links rules table 0) (sym c) l))
+    subst (λ k. RulesRead rules pairs text table (Rules k)) c (read e t (subst (EntriesFit rules table) (sym c) f) (subst (Links rules table 0) (sym c) l))
 
 -- linking changes no entries
-pub linked-tabled : (rules pairs : List ℕ) {table table′ : List ℕ} (rs : List Rule) {n : ℕ} → Tabled rules pairs table 0 rs → length rs ≡ n → n ≤ 32 → length table ≡ 160 → Entries table table′
-    → Tabled rules pairs table′ 0 rs × Fits rules table′ n
+pub linked-tabled : (rules pairs : List ℕ) {table table′ : List ℕ} (rs : List Rule) {n : ℕ} → Tabled rules pairs table 0 rs → length rs ≡ n → n ≤ 32 → length table ≡ 160 → TableEntries table table′
+    → Tabled rules pairs table′ 0 rs × EntriesFit rules table′ n
 linked-tabled rules pairs {table} {table′} rs {n} t c h l e =
     let u = same-tabled rules pairs 0 rs (omega (arith, c, h)) e t in
     (u, tabled-fits rules pairs table′ rs n c h (e .size ∙ l) u)

@@ -15,8 +15,8 @@ use Rattle.encoding.proofs.Tables.{impossible}
 use Rattle.same_type.specs.declared.Due.the-variants.{Kind}
 use Rattle.same_type.specs.Runs.{sameRuns, agrees}
 use Rattle.same_type.proofs.Steps.{runs-uneven}
-use Rattle.rebuild_rules.specs.declared.Found.the-variants.{At}
-use Rattle.rebuild_rules.specs.Table.{slot, slotOf, fromWords, firstOf, isFrom, foundFrom, amongFrom, repeatedFrom, stands, someStands, noneStands, Fits}
+use Rattle.rebuild_rules.specs.declared.FoundRule.the-variants.{At}
+use Rattle.rebuild_rules.specs.Table.{slot, slotOf, fromWords, firstOf, isFrom, foundFrom, amongFrom, repeatedFrom, stands, someStands, noneStands, EntriesFit}
 
 -- the from of rule i are n words of the rules from p on
 pub record From (rules table : List ℕ) (i p n : ℕ) : Type 0 where
@@ -29,7 +29,7 @@ pub first-entry : (table : List ℕ) (i : ℕ) → getD table (4 * i + 0) 0 ≡ 
 first-entry table i = let z : 4 * i + 0 ≡ 4 * i = omega arith in rw z refl
 
 -- as the entries say that its from begins at p and its to at q
-module _ {rules table : List ℕ} {k i p q : ℕ} (f : Fits rules table k) (h : i < k) (d : p ≡ getD table (4 * i + 0) 0) (e : q ≡ getD table (4 * i + 1) 0) where
+module _ {rules table : List ℕ} {k i p q : ℕ} (f : EntriesFit rules table k) (h : i < k) (d : p ≡ getD table (4 * i + 0) 0) (e : q ≡ getD table (4 * i + 1) 0) where
   pub from-some : p < q
   from-some = omega (arith, f .from i h, d, first-entry table i, e)
 
@@ -65,10 +65,10 @@ module _ (name : ℕ → Bytes) {rules table : List ℕ} {i p n : ℕ} (g : From
 
 -- ---- first words
 
-from-front : (rules table : List ℕ) (k i : ℕ) → Fits rules table k → i < k → (rest : List ℕ) × (fromWords rules table i ≡ getD rules (getD table (4 * i) 0) 0 ∷ rest)
+from-front : (rules table : List ℕ) (k i : ℕ) → EntriesFit rules table k → i < k → (rest : List ℕ) × (fromWords rules table i ≡ getD rules (getD table (4 * i) 0) 0 ∷ rest)
 from-front rules table k i f h = let g = from-at f h (sym (first-entry table i)) refl in (_, g .words ∙ part-more rules _ _ (omega (arith, g .some, g .inside)) (g .some))
 
-module _ (name : ℕ → Bytes) (rules table : List ℕ) {k : ℕ} (f : Fits rules table k) where
+module _ (name : ℕ → Bytes) (rules table : List ℕ) {k : ℕ} (f : EntriesFit rules table k) where
   -- a from that begins with another word, of another slot
   from-other : (i w : ℕ) (ws : List ℕ) → i < k → (slotOf rules table i ≡ slot w → ⊥) → isFrom name rules table (w ∷ ws) i ≡ false
   unfolding isFrom slotOf sameRuns agrees _and_

@@ -17,13 +17,13 @@ use Rattle.tree_words.specs.Runs.{Run}
 use Rattle.tree_words.proofs.Renaming.{encode-words, words-some}
 use Rattle.rebuild_spec.specs.Same.{sameBy}
 use Rattle.rebuild_spec.specs.Replace.{ruled}
-use Rattle.rebuild_spec.specs.Rules.{Rule, among, repeated}
+use Rattle.rebuild_spec.specs.Rules.{Rule, amongFroms, repeated}
 use Rattle.same_type.specs.declared.Due.the-variants.{Kind}
 use Rattle.same_type.specs.Runs.{sameRuns}
 use Rattle.same_type.proofs.Trees.{same-encoded}
-use Rattle.rebuild_rules.specs.declared.Found.{Found}
-use Rattle.rebuild_rules.specs.declared.Found.the-variants.{At, Nothing}
-use Rattle.rebuild_rules.specs.Table.{entered, fromWords, toWords, firstOf, isFound, isFrom, foundFrom, amongFrom, repeatedFrom, Fits, Unlinked, Entries, RuleAt, Tabled}
+use Rattle.rebuild_rules.specs.declared.FoundRule.{FoundRule}
+use Rattle.rebuild_rules.specs.declared.FoundRule.the-variants.{At, Nothing}
+use Rattle.rebuild_rules.specs.Table.{entered, fromWords, toWords, firstOf, isFoundRule, isFrom, foundFrom, amongFrom, repeatedFrom, EntriesFit, Unlinked, TableEntries, RuleAt, Tabled}
 
 -- ---- entries
 
@@ -74,7 +74,7 @@ same-entry e₀ e₁ e₂ k = record {
 }
 
 -- rules whose entries are the same
-pub same-tabled : (rules pairs : List ℕ) {table table′ : List ℕ} (j : ℕ) (rs : List Rule) → j + length rs ≤ 32 → Entries table table′ → Tabled rules pairs table j rs → Tabled rules pairs table′ j rs
+pub same-tabled : (rules pairs : List ℕ) {table table′ : List ℕ} (j : ℕ) (rs : List Rule) → j + length rs ≤ 32 → TableEntries table table′ → Tabled rules pairs table j rs → Tabled rules pairs table′ j rs
 same-tabled rules pairs j [] h e k = tt
 same-tabled rules pairs j (r ∷ rs) h e k =
     (same-entry (e .from j (omega arith)) (e .to j (omega arith)) (e .end j (omega arith)) (k .0), same-tabled rules pairs (j + 1) rs (omega arith) e (k .1))
@@ -134,7 +134,7 @@ rule-at rules pairs table j (r ∷ rs) k i h l = go (ℕ-discrete i j) (λ m n. 
     go (yes e) f = (r, rw e (k .0))
     go (no d) f = f (omega arith) (omega arith)
 
-pub tabled-fits : (rules pairs table : List ℕ) (rs : List Rule) (n : ℕ) → length rs ≡ n → n ≤ 32 → length table ≡ 160 → Tabled rules pairs table 0 rs → Fits rules table n
+pub tabled-fits : (rules pairs table : List ℕ) (rs : List Rule) (n : ℕ) → length rs ≡ n → n ≤ 32 → length table ≡ 160 → Tabled rules pairs table 0 rs → EntriesFit rules table n
 tabled-fits rules pairs table rs n c h l k =
     let at : (i : ℕ) → i < n → (r : Rule) × RuleAt rules pairs table i r = λ i m. rule-at rules pairs table 0 rs k i (omega arith) (omega (arith, c)) in
     record {
@@ -147,8 +147,8 @@ tabled-fits rules pairs table rs n c h l k =
 
 -- ---- by words as by trees
 
-pub found-or : (t : Bool) (i : ℕ) (f : Found) → isFound (pick t (At i) f) ≡ (t or isFound f)
-unfolding isFound
+pub found-or : (t : Bool) (i : ℕ) (f : FoundRule) → isFoundRule (pick t (At i) f) ≡ (t or isFoundRule f)
+unfolding isFoundRule
 found-or true i f = refl
 found-or false i f = refl
 
@@ -165,8 +165,8 @@ module _ (name : ℕ → Bytes) (rules pairs table : List ℕ) where
   pub from-same : (i : ℕ) (t : Ty ℕ) {r : Rule} → RuleAt rules pairs table i r → sameRuns name Kind (encode t) (fromWords rules table i) ≡ sameBy name t (r .0)
   from-same i t {r} k = ap (sameRuns name Kind (encode t)) (from-encoded rules pairs table i k) ∙ same-encoded name t (r .0)
 
-  among-trees : (i : ℕ) (t : Ty ℕ) (rs : List Rule) → Tabled rules pairs table i rs → amongFrom name rules table i (length rs) (encode t) ≡ among (sameBy name) t rs
-  unfolding amongFrom foundFrom firstOf isFrom isFound among
+  among-trees : (i : ℕ) (t : Ty ℕ) (rs : List Rule) → Tabled rules pairs table i rs → amongFrom name rules table i (length rs) (encode t) ≡ amongFroms (sameBy name) t rs
+  unfolding amongFrom foundFrom firstOf isFrom isFoundRule amongFroms
   among-trees i t [] k = refl
   among-trees i t (r ∷ rs) k = found-or (isFrom name rules table (encode t) i) i (foundFrom name rules table (i + 1) (length rs) (encode t)) ∙ rw (from-same i t (k .0), among-trees (i + 1) t rs (k .1)) refl
 
@@ -177,7 +177,7 @@ module _ (name : ℕ → Bytes) (rules pairs table : List ℕ) where
       rw (from-encoded rules pairs table i (k .0), among-trees (i + 1) (r .0) rs (k .1), repeated-trees (i + 1) rs (k .1)) refl
 
   -- what the tree t gives way to, from the rule that is found
-  pub data GivesWay (n : ℕ) (t u : Ty ℕ) : Found → Type 0 where
+  pub data GivesWay (n : ℕ) (t u : Ty ℕ) : FoundRule → Type 0 where
     ways : {j : ℕ} {r : Rule} → j < n → RuleAt rules pairs table j r → u ≡ r .1 → GivesWay n t u (At j)
     stays : u ≡ t → GivesWay n t u Nothing
 
@@ -186,7 +186,7 @@ module _ (name : ℕ → Bytes) (rules pairs table : List ℕ) where
   found-trees i t [] k = stays refl
   found-trees i t (r ∷ rs) k = rw (from-same i t (k .0)) (go (sameBy name t (r .0)) (found-trees (i + 1) t rs (k .1)))
     where
-      wider : {m n : ℕ} {u : Ty ℕ} {f : Found} → m ≤ n → GivesWay m t u f → GivesWay n t u f
+      wider : {m n : ℕ} {u : Ty ℕ} {f : FoundRule} → m ≤ n → GivesWay m t u f → GivesWay n t u f
       wider {m} {n} h (ways {j = j} l a e) = let g : j < n = omega arith in ways g a e
       wider h (stays e) = stays e
 

@@ -19,7 +19,7 @@ use Rattle.rebuild_rules.specs.declared.RuleScan.{RuleScan}
 use Rattle.rebuild_rules.specs.declared.RuleScan.the-variants.{OneRule, NoRule}
 use Rattle.rebuild_rules.specs.declared.RulesAnswer.{RulesAnswer}
 use Rattle.rebuild_rules.specs.declared.RulesAnswer.the-variants.{Rules, NoRules}
-use Rattle.rebuild_rules.specs.Table.{Fits, Links, Unlinked, Tabled}
+use Rattle.rebuild_rules.specs.Table.{EntriesFit, Links, Unlinked, Tabled}
 
 -- where the types that were read end, and how deep the deepest is
 pub record Deepens (x : Reading (Tys ℕ)) (size : ℕ) (r : Deep) : Type 0 where
@@ -29,7 +29,7 @@ pub record Deepens (x : Reading (Tys ℕ)) (size : ℕ) (r : Deep) : Type 0 wher
   pub small : r .depth ≤ size
 
 -- a tree was read, up to `end`
-pub record Spans (x : Reading (Ty ℕ)) (end : ℕ) : Type 0 where
+pub record SpansTo (x : Reading (Ty ℕ)) (end : ℕ) : Type 0 where
   pub tree : Ty ℕ
   pub reads : x ≡ got tree end
 
@@ -50,5 +50,5 @@ pub data Listed (rules pairs : List ℕ) (n at : ℕ) (table : List ℕ) : Scan 
 
 -- the rules of a list
 pub data RulesRead (rules pairs : List ℕ) (text : Bytes) (table : List ℕ) : RulesAnswer → Type 0 where
-  read : {rs : List Rule} → rulesOf rules pairs text ≡ given rs → Tabled rules pairs table 0 rs → Fits rules table (length rs) → Links rules table 0 (length rs) → RulesRead rules pairs text table (Rules (length rs))
+  read : {rs : List Rule} → rulesOf rules pairs text ≡ given rs → Tabled rules pairs table 0 rs → EntriesFit rules table (length rs) → Links rules table 0 (length rs) → RulesRead rules pairs text table (Rules (length rs))
   unread : {k : Refusal} → rulesOf rules pairs text ≡ refused k → RulesRead rules pairs text table (NoRules k)

@@ -16,8 +16,8 @@ use Rattle.tree_words.specs.Runs.{Run}
 use Rattle.rebuild_spec.specs.Rules.{Rule}
 use Rattle.same_type.specs.declared.Due.the-variants.{Kind}
 use Rattle.same_type.specs.Runs.{sameRuns}
-use Rattle.rebuild_rules.specs.declared.Found.{Found}
-use Rattle.rebuild_rules.specs.declared.Found.the-variants.{At, Nothing}
+use Rattle.rebuild_rules.specs.declared.FoundRule.{FoundRule}
+use Rattle.rebuild_rules.specs.declared.FoundRule.the-variants.{At, Nothing}
 
 -- the table with one rule more
 unfoldable pub entered : List ℕ → ℕ → ℕ → ℕ → ℕ → List ℕ
@@ -48,16 +48,16 @@ nextRule rules table s i zero = 0
 nextRule rules table s i (suc n) = pick (eqb (slotOf rules table i) s) (i + 1) (nextRule rules table s (i + 1) n)
 
 -- the first of n rules from the i-th on that passes a test, and whether there is one
-unfoldable pub firstOf : (ℕ → Bool) → ℕ → ℕ → Found
+unfoldable pub firstOf : (ℕ → Bool) → ℕ → ℕ → FoundRule
 firstOf test i zero = Nothing
 firstOf test i (suc n) = pick (test i) (At i) (firstOf test (i + 1) n)
 
-unfoldable pub isFound : Found → Bool
-isFound (At i) = true
-isFound Nothing = false
+unfoldable pub isFoundRule : FoundRule → Bool
+isFoundRule (At i) = true
+isFoundRule Nothing = false
 
 -- the first of k rules that passes it, from a link on
-unfoldable pub firstAlong : (ℕ → Bool) → ℕ → ℕ → Found
+unfoldable pub firstAlong : (ℕ → Bool) → ℕ → ℕ → FoundRule
 firstAlong test k zero = Nothing
 firstAlong test k (suc i) = firstOf test i (k - i)
 
@@ -66,11 +66,11 @@ module _ (name : ℕ → Bytes) (rules table : List ℕ) where
   unfoldable pub isFrom : List ℕ → ℕ → Bool
   isFrom b i = sameRuns name Kind b (fromWords rules table i)
 
-  unfoldable pub foundFrom : ℕ → ℕ → List ℕ → Found
+  unfoldable pub foundFrom : ℕ → ℕ → List ℕ → FoundRule
   foundFrom i n b = firstOf (isFrom b) i n
 
   unfoldable pub amongFrom : ℕ → ℕ → List ℕ → Bool
-  amongFrom i n b = isFound (foundFrom i n b)
+  amongFrom i n b = isFoundRule (foundFrom i n b)
 
   -- whether two of n rules from the i-th on have the same from
   unfoldable pub repeatedFrom : ℕ → ℕ → Bool
@@ -82,14 +82,14 @@ module _ (name : ℕ → Bytes) (rules table : List ℕ) where
   stands ws i = sameRuns name Kind (take (length (fromWords rules table i)) ws) (fromWords rules table i)
 
   unfoldable pub someStands : ℕ → ℕ → List ℕ → Bool
-  someStands i n ws = isFound (firstOf (stands ws) i n)
+  someStands i n ws = isFoundRule (firstOf (stands ws) i n)
 
   unfoldable pub noneStands : ℕ → List ℕ → Bool
   noneStands k [] = true
   noneStands k (w ∷ ws) = pick (someStands 0 k (w ∷ ws)) false (noneStands k ws)
 
 -- the entries of k rules lie within the rules' words
-pub record Fits (rules table : List ℕ) (k : ℕ) : Type 0 where
+pub record EntriesFit (rules table : List ℕ) (k : ℕ) : Type 0 where
   pub few : k ≤ maxRules
   pub size : length table ≡ 160
   pub from : (i : ℕ) → i < k → getD table (4 * i) 0 < getD table (4 * i + 1) 0
@@ -102,7 +102,7 @@ pub record Links (rules table : List ℕ) (i k : ℕ) : Type 0 where
   pub next : (j : ℕ) → i ≤ j → j < k → getD table (4 * j + 3) 0 ≡ nextRule rules table (slotOf rules table j) (j + 1) (k - (j + 1))
 
 -- a link from which the rules of the slot s are gone through
-pub record Along (rules table : List ℕ) (k s link : ℕ) : Type 0 where
+pub record AlongLinks (rules table : List ℕ) (k s link : ℕ) : Type 0 where
   pub within : (i : ℕ) → link ≡ suc i → i < k
   pub slots : (i : ℕ) → link ≡ suc i → slotOf rules table i ≡ s
 
@@ -112,7 +112,7 @@ pub record Unlinked (table : List ℕ) : Type 0 where
   pub none : (s : ℕ) → 128 ≤ s → s < 160 → getD table s 0 ≡ 0
 
 -- what the entries of a rule say of it is the same in two tables
-pub record Entries (table table′ : List ℕ) : Type 0 where
+pub record TableEntries (table table′ : List ℕ) : Type 0 where
   pub size : length table′ ≡ length table
   pub from : (i : ℕ) → i < maxRules → getD table′ (4 * i) 0 ≡ getD table (4 * i) 0
   pub to : (i : ℕ) → i < maxRules → getD table′ (4 * i + 1) 0 ≡ getD table (4 * i + 1) 0

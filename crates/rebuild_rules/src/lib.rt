@@ -9,8 +9,8 @@ ghost use Rattle.encoding.specs.Types.{readTypes};
 ghost use Rattle.tree_words.specs.Numbered.{treeAt};
 ghost use Rattle.rebuild_spec.specs.Rules.{checkAll};
 ghost use Rattle.accepted_types.specs.Accepted.{Readable};
-ghost use Rattle.rebuild_rules.specs.Table.{entered, slot, slotOf, linked, isFound, firstAlong, isFrom, stands, someStands, noneStands, fromWords, foundFrom, amongFrom, repeatedFrom, Fits, Links, Along, Unlinked, Entries};
-ghost use Rattle.rebuild_rules.specs.Scans.{Deepens, Spans, depthOf, RuleRead, Listed, RulesRead};
+ghost use Rattle.rebuild_rules.specs.Table.{entered, slot, slotOf, linked, isFoundRule, firstAlong, isFrom, stands, someStands, noneStands, fromWords, foundFrom, amongFrom, repeatedFrom, EntriesFit, Links, AlongLinks, Unlinked, TableEntries};
+ghost use Rattle.rebuild_rules.specs.Scans.{Deepens, SpansTo, depthOf, RuleRead, Listed, RulesRead};
 use encoding::Check;
 use encoding::Refusal;
 use encoding::Scan;
@@ -74,7 +74,7 @@ fn depth_below(words: &[u32], pairs: &[u32], at: usize, n: usize) -> Deep
 
 // How deep the accepted type in `count` words is.
 pub fn depth_in(words: &[u32], pairs: &[u32], at: usize, count: usize) -> usize
-    requires { ⌜ (at ≤ length (now words)) × Spans (treeAt (now words) (now pairs) at) (at + count) ⌝ }
+    requires { ⌜ (at ≤ length (now words)) × SpansTo (treeAt (now words) (now pairs) at) (at + count) ⌝ }
     ensures { λ r. ⌜ r ≡ depthOf (treeAt (now (words .entry)) (now (pairs .entry)) at) ⌝ }
 {
     if count == 1 {
@@ -165,8 +165,8 @@ fn link_rule(rules: &[u32], table: &mut [u16; 160], i: usize)
 
 // Rules whose froms begin with the same word are linked, the last rule first, so that a search meets them in their order.
 fn link_rules(rules: &[u32], table: &mut [u16; 160], k: usize)
-    requires { ⌜ Fits (now rules) (now table) k × Unlinked (now table) ⌝ }
-    ensures { λ r. ⌜ Entries (now (table .entry)) (now (table .exit)) × Links (now (rules .entry)) (now (table .exit)) 0 k ⌝ }
+    requires { ⌜ EntriesFit (now rules) (now table) k × Unlinked (now table) ⌝ }
+    ensures { λ r. ⌜ TableEntries (now (table .entry)) (now (table .exit)) × Links (now (rules .entry)) (now (table .exit)) 0 k ⌝ }
 {
     let mut i = k;
     while 0 < i {
@@ -218,7 +218,7 @@ fn is_from(
     start: usize,
     count: usize,
 ) -> bool
-    requires { ⌜ Good (now pairs) (now text) × Fits (now rules) (now table) k × (i < k) × (start + count ≤ length (now out)) ⌝ }
+    requires { ⌜ Good (now pairs) (now text) × EntriesFit (now rules) (now table) k × (i < k) × (start + count ≤ length (now out)) ⌝ }
     ensures { λ r. ⌜ r ≡ isFrom (nameBytes (now (pairs .entry)) (now (text .entry))) (now (rules .entry)) (now (table .entry)) (take count (drop start (now (out .entry)))) i ⌝ }
 {
     let from = entry(table, i, FROM);
@@ -229,7 +229,7 @@ fn is_from(
 }
 
 // A rule, or none.
-pub enum Found {
+pub enum FoundRule {
     At(usize),
     Nothing,
 }
@@ -245,20 +245,20 @@ fn find_along(
     out: &[u32],
     start: usize,
     count: usize,
-) -> Found
-    requires { ⌜ Good (now pairs) (now text) × Fits (now rules) (now table) k × Links (now rules) (now table) 0 k × (0 < count) × (start + count ≤ length (now out))
-        × Along (now rules) (now table) k (slot (getD (now out) start 0)) link ⌝ }
+) -> FoundRule
+    requires { ⌜ Good (now pairs) (now text) × EntriesFit (now rules) (now table) k × Links (now rules) (now table) 0 k × (0 < count) × (start + count ≤ length (now out))
+        × AlongLinks (now rules) (now table) k (slot (getD (now out) start 0)) link ⌝ }
     ensures { λ r. ⌜ r ≡ firstAlong (isFrom (nameBytes (now (pairs .entry)) (now (text .entry))) (now (rules .entry)) (now (table .entry)) (take count (drop start (now (out .entry))))) k link ⌝ }
 {
     let mut next = link;
     while 0 < next {
         let i = next - 1;
         if is_from(rules, pairs, text, table, k, i, out, start, count) {
-            return Found::At(i);
+            return FoundRule::At(i);
         }
         next = entry(table, i, LINK);
     }
-    Found::Nothing
+    FoundRule::Nothing
 }
 
 // The first of `k` rules whose from is the same type as `count` words of `out`, which begin with a word whose first rule is that of `link`.
@@ -272,8 +272,8 @@ pub fn find_rule(
     out: &[u32],
     start: usize,
     count: usize,
-) -> Found
-    requires { ⌜ Good (now pairs) (now text) × Fits (now rules) (now table) k × Links (now rules) (now table) 0 k × (0 < count) × (start + count ≤ length (now out))
+) -> FoundRule
+    requires { ⌜ Good (now pairs) (now text) × EntriesFit (now rules) (now table) k × Links (now rules) (now table) 0 k × (0 < count) × (start + count ≤ length (now out))
         × (link ≡ getD (now table) (slot (getD (now out) start 0)) 0) ⌝ }
     ensures { λ r. ⌜ r ≡ foundFrom (nameBytes (now (pairs .entry)) (now (text .entry))) (now (rules .entry)) (now (table .entry)) 0 k
         (take count (drop start (now (out .entry)))) ⌝ }
@@ -292,7 +292,7 @@ fn stands_at(
     words: &[u32],
     at: usize,
 ) -> bool
-    requires { ⌜ Good (now pairs) (now text) × Fits (now rules) (now table) k × (i < k) × (at < length (now words)) ⌝ }
+    requires { ⌜ Good (now pairs) (now text) × EntriesFit (now rules) (now table) k × (i < k) × (at < length (now words)) ⌝ }
     ensures { λ r. ⌜ r ≡ stands (nameBytes (now (pairs .entry)) (now (text .entry))) (now (rules .entry)) (now (table .entry)) (drop at (now (words .entry))) i ⌝ }
 {
     let from = entry(table, i, FROM);
@@ -316,7 +316,7 @@ fn some_stands(
     words: &[u32],
     at: usize,
 ) -> bool
-    requires { ⌜ Good (now pairs) (now text) × Fits (now rules) (now table) k × Links (now rules) (now table) 0 k × (at < length (now words)) ⌝ }
+    requires { ⌜ Good (now pairs) (now text) × EntriesFit (now rules) (now table) k × Links (now rules) (now table) 0 k × (at < length (now words)) ⌝ }
     ensures { λ r. ⌜ r ≡ someStands (nameBytes (now (pairs .entry)) (now (text .entry))) (now (rules .entry)) (now (table .entry)) 0 k (drop at (now (words .entry))) ⌝ }
 {
     let mut next = first_link(table, words[at]);
@@ -339,7 +339,7 @@ pub fn none_stands(
     k: usize,
     words: &[u32],
 ) -> bool
-    requires { ⌜ Good (now pairs) (now text) × Fits (now rules) (now table) k × Links (now rules) (now table) 0 k ⌝ }
+    requires { ⌜ Good (now pairs) (now text) × EntriesFit (now rules) (now table) k × Links (now rules) (now table) 0 k ⌝ }
     ensures { λ r. ⌜ r ≡ noneStands (nameBytes (now (pairs .entry)) (now (text .entry))) (now (rules .entry)) (now (table .entry)) k (now (words .entry)) ⌝ }
 {
     let mut at = 0;
@@ -352,12 +352,12 @@ pub fn none_stands(
     true
 }
 
-fn is_found(found: Found) -> bool
-    ensures { λ r. ⌜ r ≡ isFound found ⌝ }
+fn is_found_rule(found: FoundRule) -> bool
+    ensures { λ r. ⌜ r ≡ isFoundRule found ⌝ }
 {
     match found {
-        Found::At(_) => true,
-        Found::Nothing => false,
+        FoundRule::At(_) => true,
+        FoundRule::Nothing => false,
     }
 }
 
@@ -370,19 +370,19 @@ fn is_among(
     k: usize,
     i: usize,
 ) -> bool
-    requires { ⌜ Good (now pairs) (now text) × Fits (now rules) (now table) k × Links (now rules) (now table) 0 k × (i < k) ⌝ }
+    requires { ⌜ Good (now pairs) (now text) × EntriesFit (now rules) (now table) k × Links (now rules) (now table) 0 k × (i < k) ⌝ }
     ensures { λ r. ⌜ r ≡ amongFrom (nameBytes (now (pairs .entry)) (now (text .entry))) (now (rules .entry)) (now (table .entry)) (i + 1) (k - (i + 1))
         (fromWords (now (rules .entry)) (now (table .entry)) i) ⌝ }
 {
     let start = entry(table, i, FROM);
     let count = entry(table, i, TO) - start;
     let link = entry(table, i, LINK);
-    is_found(find_along(rules, pairs, text, table, k, link, rules, start, count))
+    is_found_rule(find_along(rules, pairs, text, table, k, link, rules, start, count))
 }
 
 // Whether two of `k` rules have the same from.
 fn are_repeated(rules: &[u32], pairs: &[u32], text: &[u8], table: &[u16; 160], k: usize) -> bool
-    requires { ⌜ Good (now pairs) (now text) × Fits (now rules) (now table) k × Links (now rules) (now table) 0 k ⌝ }
+    requires { ⌜ Good (now pairs) (now text) × EntriesFit (now rules) (now table) k × Links (now rules) (now table) 0 k ⌝ }
     ensures { λ r. ⌜ r ≡ repeatedFrom (nameBytes (now (pairs .entry)) (now (text .entry))) (now (rules .entry)) (now (table .entry)) 0 k ⌝ }
 {
     let mut i = 0;

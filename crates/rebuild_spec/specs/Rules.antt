@@ -30,14 +30,14 @@ unfoldable pub readRules : List ℕ → List ℕ → Reading (List Rule)
 readRules rules pairs = readBelow (maxRules + 1) rules 0 >>= λ k p. readList (readRule (treeAt rules pairs)) k p
 
 -- some from equals t
-unfoldable pub among : (Ty ℕ → Ty ℕ → Bool) → Ty ℕ → List Rule → Bool
-among eq t [] = false
-among eq t (r ∷ rs) = eq t (r .0) or among eq t rs
+unfoldable pub amongFroms : (Ty ℕ → Ty ℕ → Bool) → Ty ℕ → List Rule → Bool
+amongFroms eq t [] = false
+amongFroms eq t (r ∷ rs) = eq t (r .0) or amongFroms eq t rs
 
 -- two rules have equal froms
 unfoldable pub repeated : (Ty ℕ → Ty ℕ → Bool) → List Rule → Bool
 repeated eq [] = false
-repeated eq (r ∷ rs) = among eq (r .0) rs or repeated eq rs
+repeated eq (r ∷ rs) = amongFroms eq (r .0) rs or repeated eq rs
 
 -- the limits, those on the rules' words with those on the tree's; then the pairs
 unfoldable pub checkAll : List ℕ → List ℕ → List ℕ → Bytes → Check

@@ -30,22 +30,22 @@ use Rattle.rebuild_type.specs.declared.RebuildAnswer.the-variants.{Lengt
 use Rattle.rebuild_type.specs.declared.Attempt.{Attempt}
 use Rattle.rebuild_type.specs.declared.Attempt.the-variants.{Filled, Denied, NoRoom}
 use Rattle.rebuild_type.specs.Laid.{Rebuilds, rebuilt, full, ruleList, Ruled}
-use Rattle.rebuild_type.specs.Calls.{Laid, roomOf, zeros, laidDown, ruledBy}
+use Rattle.rebuild_type.specs.Calls.{RebuiltWords, roomOf, zeros, laidDown, ruledBy}
 use Rattle.rebuild_type.specs.Attempts.{sameWords, LaidRebuilds, Attempted, answered, denied, noRoom, Fills}
 use Rattle.rebuild_type.proofs.Types.{came, filled}
 
 -- more words would lie there than there is room
-pub down-over : (o : List ℕ) (b : Laid) {o′ : List ℕ} → roomOf o < b .top → o′ ≡ zeros o → _≡_ {A = RebuildAnswer × List ℕ} (Refused BufferTooShort, o′) (laidDown o (given b))
+pub down-over : (o : List ℕ) (b : RebuiltWords) {o′ : List ℕ} → roomOf o < b .top → o′ ≡ zeros o → _≡_ {A = RebuildAnswer × List ℕ} (Refused BufferTooShort, o′) (laidDown o (given b))
 unfolding laidDown
 down-over o b h e = rw (lt-ltb (roomOf o) (b .top) h, e) refl
 
 -- the tree is too deep
-pub down-deep : (o : List ℕ) (b : Laid) {o′ : List ℕ} → b .top ≤ roomOf o → 64 < b .deep → o′ ≡ zeros o → _≡_ {A = RebuildAnswer × List ℕ} (Refused TooDeep, o′) (laidDown o (given b))
+pub down-deep : (o : List ℕ) (b : RebuiltWords) {o′ : List ℕ} → b .top ≤ roomOf o → 64 < b .deep → o′ ≡ zeros o → _≡_ {A = RebuildAnswer × List ℕ} (Refused TooDeep, o′) (laidDown o (given b))
 unfolding laidDown
 down-deep o b h k e = rw (le-ltb (roomOf o) (b .top) h, lt-ltb 64 (b .deep) k, e) refl
 
 -- the words fill the front
-pub down-front : (o : List ℕ) (b : Laid) {o′ : List ℕ} {n : ℕ} → b .top ≤ roomOf o → b .deep ≤ 64 → length (b .words) ≤ length o → o′ ≡ sets o 0 (b .words) → n ≡ length (b .words)
+pub down-front : (o : List ℕ) (b : RebuiltWords) {o′ : List ℕ} {n : ℕ} → b .top ≤ roomOf o → b .deep ≤ 64 → length (b .words) ≤ length o → o′ ≡ sets o 0 (b .words) → n ≡ length (b .words)
     → _≡_ {A = RebuildAnswer × List ℕ} (Length n, o′) (laidDown o (given b))
 unfolding laidDown
 down-front o b h k l e d = rw (le-ltb (roomOf o) (b .top) h, le-ltb 64 (b .deep) k, e, d, sets-front (b .words) o l) refl
@@ -56,7 +56,7 @@ unfolding laidDown
 shallow o ws d h = rw (le-ltb 64 d h) refl
 
 -- a test goes before the answer
-module _ (o : List ℕ) (x : Answer Laid) {r c : Check} (e : r ≡ c) where
+module _ (o : List ℕ) (x : Answer RebuiltWords) {r c : Check} (e : r ≡ c) where
   pub down-passed : {p : RebuildAnswer × List ℕ} → r ≡ Passed → p ≡ laidDown o x → p ≡ laidDown o (unless c x)
   unfolding unless
   down-passed d h = rw (sym e ∙ d) h
@@ -68,13 +68,13 @@ module _ (o : List ℕ) (x : Answer Laid) {r c : Check} (e : r ≡ c) where
 -- ---- what was read
 
 -- the answer to what was read
-pub read-fills : {x : Reading Laid} {b : Laid} {n : ℕ} {o o′ : List ℕ} {r : RebuildAnswer} → x ≡ got b n → (r, o′) ≡ laidDown o (given b) → Fills x o o′ r
+pub read-fills : {x : Reading RebuiltWords} {b : RebuiltWords} {n : ℕ} {o o′ : List ℕ} {r : RebuildAnswer} → x ≡ got b n → (r, o′) ≡ laidDown o (given b) → Fills x o o′ r
 read-fills {o = o} e h = record { fills = λ c k d. h ∙ ap (λ l. laidDown o (given l)) (got-value (sym e ∙ d)) }
 
 -- words that are copied as they stand
-pub copied-fills : {A : Type 0} (lay : A → Laid) (deep : A → ℕ) {x : Reading A} {a : A} {n : ℕ} {ws o o′ : List ℕ} {r : RebuildAnswer} → x ≡ got a n → deep a ≤ 64 → lay a ≡ sameWords ws (deep a)
-    → (r, o′) ≡ laidDown o (given (sameWords ws 0)) → Fills (mapReading lay x) o o′ r
-copied-fills lay deep {a = a} {ws = ws} {o = o} e l k h = read-fills (map-got lay e) (h ∙ shallow o ws (deep a) l ∙ ap (λ b. laidDown o (given b)) (sym k))
+pub copied-fills : {A : Type 0} (add-words : A → RebuiltWords) (deep : A → ℕ) {x : Reading A} {a : A} {n : ℕ} {ws o o′ : List ℕ} {r : RebuildAnswer} → x ≡ got a n → deep a ≤ 64 → add-words a ≡ sameWords ws (deep a)
+    → (r, o′) ≡ laidDown o (given (sameWords ws 0)) → Fills (mapReading add-words x) o o′ r
+copied-fills add-words deep {a = a} {ws = ws} {o = o} e l k h = read-fills (map-got add-words e) (h ∙ shallow o ws (deep a) l ∙ ap (λ b. laidDown o (given b)) (sym k))
 
 -- words that fill others are these
 pub run-whole : {ws b : List ℕ} → Run ws 0 b → length ws ≡ length b → b ≡ ws
@@ -83,11 +83,11 @@ run-whole {ws} {b} r e = sym (r .words) ∙ take-all (length b) ws (omega (arith
 -- ---- one attempt
 
 -- trees with the same words and depth that both have room are answered alike
-down-same : (o : List ℕ) (b c : Laid) → b .words ≡ c .words → b .deep ≡ c .deep → b .top ≤ roomOf o → c .top ≤ roomOf o → laidDown o (given b) ≡ laidDown o (given c)
+down-same : (o : List ℕ) (b c : RebuiltWords) → b .words ≡ c .words → b .deep ≡ c .deep → b .top ≤ roomOf o → c .top ≤ roomOf o → laidDown o (given b) ≡ laidDown o (given c)
 unfolding laidDown
 down-same o b c e d h k = rw (le-ltb (roomOf o) (b .top) h, le-ltb (roomOf o) (c .top) k, e, d) refl
 
-module _ (x : Reading Laid) (o : List ℕ) {limit : ℕ} {s s′ : List ℕ} {r : Rebuilt} (k : LaidRebuilds limit s x s′ r) where
+module _ (x : Reading RebuiltWords) (o : List ℕ) {limit : ℕ} {s s′ : List ℕ} {r : Rebuilt} (k : LaidRebuilds limit s x s′ r) where
   -- the words fit the scratch and the caller's buffer
   pub attempt-fits : {n q d : ℕ} → limit ≤ length s → limit ≤ roomOf o → r ≡ Done n q d → (q ≤ length s′) × (q ≤ length o) × (q ≤ 8192)
   attempt-fits h l e = let b = came k e in (omega (arith, b .grown .kept, b .within), omega (arith, b .within), omega (arith, b .within))
@@ -105,46 +105,46 @@ module _ (x : Reading Laid) (o : List ℕ) {limit : ℕ} {s s′ : List ℕ} {r 
     pub attempt-denied : {c : Refusal} → a ≡ Refused c → Attempted limit x o o′ (Denied c)
     attempt-denied g = denied (came k e .reads) (rw g at attempt-same)
 
-  pub attempt-full : {o′ : List ℕ} {a : Laid} {n : ℕ} → x ≡ got a n → r ≡ Full → o′ ≡ o → Attempted limit x o o′ NoRoom
+  pub attempt-full : {o′ : List ℕ} {a : RebuiltWords} {n : ℕ} → x ≡ got a n → r ≡ Full → o′ ≡ o → Attempted limit x o o′ NoRoom
   attempt-full {a = a} c e d =
       let f = filled k e c in
       let g : limit < a .top = omega (arith, f .0) in
       noRoom c g d
 
 -- what was read and laid down is what is laid down for it
-pub laid-mapped : {A : Type 0} (lay : A → Laid) (x : Reading A) {limit : ℕ} {s s′ : List ℕ} {r : Rebuilt}
-    → Rebuilds (λ a. lay a .words) (λ a. lay a .top) (λ a. lay a .deep) limit s 0 x s′ r → LaidRebuilds limit s (mapReading lay x) s′ r
-laid-mapped lay x (rebuilt e f w g c) = rebuilt (map-got lay e) f w g c
-laid-mapped lay x (full e h l) = full (map-got lay e) h l
+pub laid-mapped : {A : Type 0} (add-words : A → RebuiltWords) (x : Reading A) {limit : ℕ} {s s′ : List ℕ} {r : Rebuilt}
+    → Rebuilds (λ a. add-words a .words) (λ a. add-words a .top) (λ a. add-words a .deep) limit s 0 x s′ r → LaidRebuilds limit s (mapReading add-words x) s′ r
+laid-mapped add-words x (rebuilt e f w g c) = rebuilt (map-got add-words e) f w g c
+laid-mapped add-words x (full e h l) = full (map-got add-words e) h l
 
-pub mapped-reads : {A : Type 0} (lay : A → Laid) (x : Reading A) → Readable (mapReading lay x) → Readable x
+pub mapped-reads : {A : Type 0} (add-words : A → RebuiltWords) (x : Reading A) → Readable (mapReading add-words x) → Readable x
 unfolding mapReading
-mapped-reads lay (got a n) r = record { value = a; end = n; reads = refl }
-mapped-reads lay (stop k) r = impossible (let e = r .reads in cc)
+mapped-reads add-words (got a n) r = record { value = a; end = n; reads = refl }
+mapped-reads add-words (stop k) r = impossible (let e = r .reads in cc)
 
 -- ---- the answer of an attempt
 
-pub filled-fills : {limit : ℕ} {x : Reading Laid} {o o′ : List ℕ} {a : Attempt} {m : ℕ} → Attempted limit x o o′ a → a ≡ Filled m → Fills x o o′ (Length m)
+pub filled-fills : {limit : ℕ} {x : Reading RebuiltWords} {o o′ : List ℕ} {a : Attempt} {m : ℕ} → Attempted limit x o o′ a → a ≡ Filled m → Fills x o o′ (Length m)
 filled-fills {limit} {x} {o} {o′} {m = m} k e = go (subst (Attempted limit x o o′) e k)
   where
     go : Attempted limit x o o′ (Filled m) → Fills x o o′ (Length m)
     go (answered c f) = read-fills c f
 
-pub denied-fills : {limit : ℕ} {x : Reading Laid} {o o′ : List ℕ} {a : Attempt} {r : Refusal} → Attempted limit x o o′ a → a ≡ Denied r → Fills x o o′ (Refused r)
+pub denied-fills : {limit : ℕ} {x : Reading RebuiltWords} {o o′ : List ℕ} {a : Attempt} {r : Refusal} → Attempted limit x o o′ a → a ≡ Denied r → Fills x o o′ (Refused r)
 denied-fills {limit} {x} {o} {o′} {r = r} k e = go (subst (Attempted limit x o o′) e k)
   where
     go : Attempted limit x o o′ (Denied r) → Fills x o o′ (Refused r)
     go (denied c f) = read-fills c f
 
 -- there was no room in the caller's buffer
-pub attempt-over : {limit : ℕ} {x : Reading Laid} {o o′ o″ : List ℕ} {a : Attempt} → Attempted limit x o o′ a → a ≡ NoRoom → limit ≡ roomOf o → o″ ≡ zeros o′ → Fills x o o″ (Refused BufferTooShort)
+pub attempt-over : {limit : ℕ} {x : Reading RebuiltWords} {o o′ o″ : List ℕ} {a : Attempt} → Attempted limit x o o′ a → a ≡ NoRoom → limit ≡ roomOf o → o″ ≡ zeros o′ → Fills x o o″ (Refused BufferTooShort)
 attempt-over {limit} {x} {o} {o′} {o″} k e l z = go (subst (Attempted limit x o o′) e k)
   where
     go : Attempted limit x o o′ NoRoom → Fills x o o″ (Refused BufferTooShort)
     go (noRoom {b = b} c h d) = read-fills c (down-over o b (rw (sym l) h) (z ∙ ap zeros d))
 
 -- there was no room in the scratch
-pub attempt-again : {limit : ℕ} {x : Reading Laid} {o o′ o″ : List ℕ} {a : Attempt} {r : RebuildAnswer} → Attempted limit x o o′ a → a ≡ NoRoom → Fills x o′ o″ r → Fills x o o″ r
+pub attempt-again : {limit : ℕ} {x : Reading RebuiltWords} {o o′ o″ : List ℕ} {a : Attempt} {r : RebuildAnswer} → Attempted limit x o o′ a → a ≡ NoRoom → Fills x o′ o″ r → Fills x o o″ r
 attempt-again {limit} {x} {o} {o′} {o″} {r = r} k e f = go (subst (Attempted limit x o o′) e k)
   where
     go : Attempted limit x o o′ NoRoom → Fills x o o″ r
@@ -177,7 +177,7 @@ rules-refused {rules} {pairs} {text} {table} {k = k} a e = go a e
     go (read c t f l) e = impossible (cc)
     go (unread c) e = c ∙ cc
 
-module _ {A : Type 0} (f : List Rule → A → Laid) (o : List ℕ) (size : ℕ) (x : Reading A) (y : Answer (List Rule)) where
+module _ {A : Type 0} (f : List Rule → A → RebuiltWords) (o : List ℕ) (size : ℕ) (x : Reading A) (y : Answer (List Rule)) where
   pub tree-stops : {k : Refusal} → x ≡ stop k → _≡_ {A = RebuildAnswer × List ℕ} (Refused k, o) (laidDown o (ruledBy f (whole size x) y))
   unfolding laidDown ruledBy whole
   tree-stops e = rw e refl
@@ -194,7 +194,7 @@ module _ {A : Type 0} (f : List Rule → A → Laid) (o : List ℕ) (size : ℕ)
   unfolding ruledBy whole
   both-given {n = n} e d c = rw (e, eq-eqb n size d, c) refl
 
-pub whole-filled : {A : Type 0} (f : List Rule → A → Laid) (size : ℕ) (x : Reading A) (y : Answer (List Rule)) {o o′ : List ℕ} {r : RebuildAnswer} {a : A} {n : ℕ} → x ≡ got a n → n ≡ size
+pub whole-filled : {A : Type 0} (f : List Rule → A → RebuiltWords) (size : ℕ) (x : Reading A) (y : Answer (List Rule)) {o o′ : List ℕ} {r : RebuildAnswer} {a : A} {n : ℕ} → x ≡ got a n → n ≡ size
     → y ≡ given (ruleList y) → Fills (mapReading (f (ruleList y)) x) o o′ r → (r, o′) ≡ laidDown o (ruledBy f (whole size x) y)
 whole-filled f size x y {o} {a = a} {n = n} e d c k =
     k .fills (f (ruleList y) a) n (map-got (f (ruleList y)) e) ∙ ap (laidDown o) (sym (both-given f o size x y e d c))

@@ -7,8 +7,8 @@ use native.Mathlib.Numerals.{add-one}
 use lib.ListN.{length, take, drop, getD, set, length-append, length-drop, List·getD-append}
 use lib.Seq.{sets, sets-eq, length-sets, take-suc, take-at, drop-at, take-take, take-add, length-take-le, getD-take, getD-drop}
 use Rattle.buffer.proofs.Laws.{part-length, sets-append}
-use Rattle.rebuild_rules.specs.Table.{toWords, Fits}
-use Rattle.rebuild_rules.specs.Scans.{Spans, depthOf}
+use Rattle.rebuild_rules.specs.Table.{toWords, EntriesFit}
+use Rattle.rebuild_rules.specs.Scans.{SpansTo, depthOf}
 use Rattle.encoding.specs.Reading.{got}
 use Rattle.tree_words.specs.Numbered.{treeAt}
 use Rattle.rebuild_type.specs.declared.Laying.{Laying}
@@ -141,14 +141,14 @@ module _ {limit : ℕ} (o : List ℕ) (w p at : ℕ) where
 
 -- as the entries say that it begins at `to`
 module _ {rules table : List ℕ} {i to end : ℕ} (d : to ≡ getD table (4 * i + 1) 0) (e : end ≡ getD table (4 * i + 2) 0) where
-  module _ {k : ℕ} (f : Fits rules table k) (h : i < k) where
+  module _ {k : ℕ} (f : EntriesFit rules table k) (h : i < k) where
     pub to-ends : to ≤ end
     to-ends = omega (arith, f .to i h, d, e)
 
     pub to-inside : to + (end - to) ≤ length rules
     to-inside = omega (arith, to-ends, f .inside i h, e)
 
-    pub to-spans : (pairs : List ℕ) → Spans (treeAt rules pairs (getD table (4 * i + 1) 0)) (getD table (4 * i + 2) 0) → Spans (treeAt rules pairs to) (to + (end - to))
+    pub to-spans : (pairs : List ℕ) → SpansTo (treeAt rules pairs (getD table (4 * i + 1) 0)) (getD table (4 * i + 2) 0) → SpansTo (treeAt rules pairs to) (to + (end - to))
     to-spans pairs t = let z : to + (end - to) ≡ end = omega (arith, to-ends) in rw (z, d, e) t
 
   module _ {pairs : List ℕ} {limit start : ℕ} {o o′ : List ℕ} {r : Laying} (l : Lays limit o start (take (end - to) (drop to rules)) o′ r) where

@@ -29,9 +29,9 @@ use Rattle.rebuild_spec.specs.Replace.{Replace, Replaces, ruled}
 use Rattle.rebuild_spec.specs.Laying.{depth, deepest, peak, peaks}
 use Rattle.rebuild_spec.specs.Rules.{Rule, rulesOf, mappingOf}
 use Rattle.rebuild_spec.proofs.Nodes.{replaces-count, replace-node, peak-node, depth-node, peak-least, depth-words}
-use Rattle.rebuild_rules.specs.declared.Found.{Found}
+use Rattle.rebuild_rules.specs.declared.FoundRule.{FoundRule}
 use Rattle.rebuild_rules.specs.Table.{toWords, foundFrom, RuleAt}
-use Rattle.rebuild_rules.specs.Scans.{Spans, depthOf}
+use Rattle.rebuild_rules.specs.Scans.{SpansTo, depthOf}
 use Rattle.rebuild_rules.proofs.Tables.{rule-at, to-encoded, GivesWay, ways, stays as keeps, found-trees}
 use Rattle.rebuild_type.specs.declared.Settling.{Settling}
 use Rattle.rebuild_type.specs.declared.Settling.the-variants.{Settled, Overfull}
@@ -57,7 +57,7 @@ module _ (rules pairs : List ℕ) (text : Bytes) (table : List ℕ) (k : ℕ) (t
       (found-trees (nameBytes pairs text) rules pairs table 0 u (ruleList (rulesOf rules pairs text)) (t .tabled)))
 
   -- where the to of a rule stands
-  pub to-spans : (i : ℕ) → i < k → Spans (treeAt rules pairs (getD table (4 * i + 1) 0)) (getD table (4 * i + 2) 0)
+  pub to-spans : (i : ℕ) → i < k → SpansTo (treeAt rules pairs (getD table (4 * i + 1) 0)) (getD table (4 * i + 2) 0)
   to-spans i h =
       let a = rule-at rules pairs table 0 (ruleList (rulesOf rules pairs text)) (t .tabled) i (omega arith) (omega (arith, t .many)) in
       record { tree = a .0 .1; reads = a .1 .reads }
@@ -70,7 +70,7 @@ module _ (rules pairs : List ℕ) (text : Bytes) (table : List ℕ) (k : ℕ) (t
   settle-ends u {limit} {start} {end} {deep} {o₀} {o} {o′} {r} h g d s =
       go (found-tree u) (subst (λ b. Settles rules pairs table (foundFrom (nameBytes pairs text) rules table 0 k b) limit o start end deep o′ r) (grown-words g) s)
     where
-      go : {f : Found} {s : Settling} → GivesWay (nameBytes pairs text) rules pairs table k u (mapping rules pairs text u) f → Settles rules pairs table f limit o start end deep o′ s → Ends (mapping rules pairs text u) limit o₀ start o′ s
+      go : {f : FoundRule} {s : Settling} → GivesWay (nameBytes pairs text) rules pairs table k u (mapping rules pairs text u) f → Settles rules pairs table f limit o start end deep o′ s → Ends (mapping rules pairs text u) limit o₀ start o′ s
       go (keeps e) (stays c b) = settled h (rw (e, b) g) (d ∙ ap depth (sym e))
       go (keeps e) (gives c m) = impossible (cc)
       go (ways l a e) (stays c b) = impossible (cc)

@@ -15,9 +15,9 @@ use Rattle.tree_words.specs.Tokens.{encodeAll}
 use Rattle.rebuild_spec.specs.Replace.{Replace, Replaces}
 use Rattle.rebuild_spec.specs.Laying.{depth, deepest, peak, peaks}
 use Rattle.rebuild_spec.specs.Rules.{Rule, rulesOf, mappingOf}
-use Rattle.rebuild_rules.specs.declared.Found.{Found}
-use Rattle.rebuild_rules.specs.declared.Found.the-variants.{At, Nothing}
-use Rattle.rebuild_rules.specs.Table.{Fits, Links, Tabled, toWords}
+use Rattle.rebuild_rules.specs.declared.FoundRule.{FoundRule}
+use Rattle.rebuild_rules.specs.declared.FoundRule.the-variants.{At, Nothing}
+use Rattle.rebuild_rules.specs.Table.{EntriesFit, Links, Tabled, toWords}
 use Rattle.rebuild_rules.specs.Scans.{depthOf}
 use Rattle.rebuild_type.specs.declared.Laying.{Laying}
 use Rattle.rebuild_type.specs.declared.Laying.the-variants.{To, Over}
@@ -44,7 +44,7 @@ pub data GivesTo (rules pairs table : List ℕ) (i limit : ℕ) (o : List ℕ) (
   tooLong : limit < start + length (toWords rules table i) → length o′ ≡ length o → GivesTo rules pairs table i limit o start o′ Overfull
 
 -- a finished type between `start` and `end`, `deep` deep, stays or gives way to the to of the rule that was found
-pub data Settles (rules pairs table : List ℕ) (found : Found) (limit : ℕ) (o : List ℕ) (start end deep : ℕ) (o′ : List ℕ) : Settling → Type 0 where
+pub data Settles (rules pairs table : List ℕ) (found : FoundRule) (limit : ℕ) (o : List ℕ) (start end deep : ℕ) (o′ : List ℕ) : Settling → Type 0 where
   stays : found ≡ Nothing → o′ ≡ o → Settles rules pairs table found limit o start end deep o′ (Settled end deep)
   gives : {i : ℕ} {r : Settling} → found ≡ At i → GivesTo rules pairs table i limit o start o′ r → Settles rules pairs table found limit o start end deep o′ r
 
@@ -66,7 +66,7 @@ mapping rules pairs text = mappingOf pairs text (ruleList (rulesOf rules pairs t
 pub record Ruled (rules pairs : List ℕ) (text : Bytes) (table : List ℕ) (k : ℕ) : Type 0 where
   pub tabled : Tabled rules pairs table 0 (ruleList (rulesOf rules pairs text))
   pub many : length (ruleList (rulesOf rules pairs text)) ≡ k
-  pub fits : Fits rules table k
+  pub fits : EntriesFit rules table k
   pub links : Links rules table 0 k
 
 -- a type, rebuilt; some types, rebuilt one after the other

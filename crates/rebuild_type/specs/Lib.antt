@@ -1,3 +1,3 @@
-pub mod Laid
+pub mod RebuiltWords
 pub mod Calls
 pub mod Attempts

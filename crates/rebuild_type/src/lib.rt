@@ -11,15 +11,15 @@ ghost use Rattle.encoding.specs.Tested.{Good};
 ghost use Rattle.encoding.specs.Types.{readTypes};
 ghost use Rattle.tree_words.specs.Numbered.{treeAt};
 ghost use Rattle.accepted_types.specs.Accepted.{Readable};
-ghost use Rattle.rebuild_rules.specs.Table.{Fits, foundFrom, slot};
-ghost use Rattle.rebuild_rules.specs.Scans.{Spans};
+ghost use Rattle.rebuild_rules.specs.Table.{EntriesFit, foundFrom, slot};
+ghost use Rattle.rebuild_rules.specs.Scans.{SpansTo};
 ghost use Rattle.rebuild_type.specs.Laid.{Lays, GivesTo, Settles, Ruled, mapping, WordRebuilds, PartsRebuild, TypeRebuilds, TypesRebuild};
 ghost use Rattle.rebuild_type.specs.Calls.{zeros, laidDown};
 ghost use Rattle.rebuild_type.specs.Attempts.{sameWords};
 use encoding::Refusal;
 use encoding::words::MAX_DEPTH;
 use encoding::words::PLAIN_KINDS;
-use rebuild_rules::Found;
+use rebuild_rules::FoundRule;
 
 // ---- laying words down
 
@@ -69,7 +69,7 @@ pub enum Laying {
     Over,
 }
 
-pub fn lay(
+pub fn add_words(
     src: &[u32],
     start: usize,
     count: usize,
@@ -116,13 +116,13 @@ fn give_way(
     start: usize,
     limit: usize,
 ) -> Settling
-    requires { ⌜ Fits (now rules) (now table) k × (i < k) × Spans (treeAt (now rules) (now pairs) (getD (now table) (4 * i + 1) 0)) (getD (now table) (4 * i + 2) 0)
+    requires { ⌜ EntriesFit (now rules) (now table) k × (i < k) × SpansTo (treeAt (now rules) (now pairs) (getD (now table) (4 * i + 1) 0)) (getD (now table) (4 * i + 2) 0)
         × (start ≤ limit) × (limit ≤ length (now out)) ⌝ }
     ensures { λ r. ⌜ GivesTo (now (rules .entry)) (now (pairs .entry)) (now (table .entry)) i limit (now (out .entry)) start (now (out .exit)) r ⌝ }
 {
     let to = rebuild_rules::entry(table, i, rebuild_rules::TO);
     let count = rebuild_rules::entry(table, i, rebuild_rules::END) - to;
-    match lay(rules, to, count, out, start, limit) {
+    match add_words(rules, to, count, out, start, limit) {
         Laying::To(pos) => {
             let depth = rebuild_rules::depth_in(rules, pairs, to, count);
             Settling::Settled { pos, depth }
@@ -152,8 +152,8 @@ fn settle(
         limit (now (out .entry)) start end depth (now (out .exit)) r ⌝ }
 {
     match rebuild_rules::find_rule(rules, pairs, text, table, k, link, out, start, end - start) {
-        Found::At(i) => give_way(rules, pairs, table, k, i, out, start, limit),
-        Found::Nothing => Settling::Settled { pos: end, depth },
+        FoundRule::At(i) => give_way(rules, pairs, table, k, i, out, start, limit),
+        FoundRule::Nothing => Settling::Settled { pos: end, depth },
     }
 }
 
@@ -217,7 +217,7 @@ fn rebuild_next(
 }
 
 // A plain type, which is one word.
-fn lay_plain(word: u32, at: usize, out: &mut [u32], pos: usize, limit: usize) -> Rebuilt
+fn add_plain(word: u32, at: usize, out: &mut [u32], pos: usize, limit: usize) -> Rebuilt
     requires { ⌜ (at + 1 < 2 ^ 63) × (pos ≤ limit) × (limit ≤ length (now out)) ⌝ }
     ensures { λ r. ⌜ WordRebuilds limit (now (out .entry)) pos (got word (at + 1)) (now (out .exit)) r ⌝ }
 {
@@ -252,11 +252,11 @@ fn rebuild_parts(
 {
     let word = words[at];
     if word < PLAIN_KINDS {
-        return lay_plain(word, at, out, pos, limit);
+        return add_plain(word, at, out, pos, limit);
     }
     let behind = encoding::pass_head(words, at, 1);
     let next = behind.next;
-    let Laying::To(p) = lay(words, at, next - at, out, pos, limit) else {
+    let Laying::To(p) = add_words(words, at, next - at, out, pos, limit) else {
         return Rebuilt::Full;
     };
     let kids = behind.due;

@@ -15,7 +15,7 @@ use Rattle.encoding.specs.Tables.{nameBytes, nameCount}
 use Rattle.encoding.specs.Types.{sizeOf}
 use Rattle.sound_type.specs.declared.NameCheck.{NameCheck}
 use Rattle.sound_type.specs.declared.NameCheck.the-variants.{Fine, Poor, NoName}
-use Rattle.sound_type.specs.Judging.{Known, unlessJudged, Checked, fine, poor, no-name}
+use Rattle.sound_type.specs.Judging.{Known, unlessJudged, NameChecked, fine, poor, no-name}
 use Rattle.encoding.proofs.Tables.{impossible}
 use Rattle.sound_names.proofs.Names.{fixed-sound, size-named, size-of-name}
 
@@ -92,17 +92,17 @@ known-fixed pairs text k i h l =
 -- ---- a name, as it was found
 
 module _ {pairs : List ℕ} {text : Bytes} {x : ℕ} where
-  pub was-fine : {r : NameCheck} → Checked pairs text x r → r ≡ Fine → (x < nameCount pairs) × (soundName (nameBytes pairs text x) ≡ true)
+  pub was-fine : {r : NameCheck} → NameChecked pairs text x r → r ≡ Fine → (x < nameCount pairs) × (soundName (nameBytes pairs text x) ≡ true)
   was-fine (fine h s) d = (h, s)
   was-fine (poor s) d = impossible (cc)
   was-fine (no-name h) d = impossible (cc)
 
-  pub was-poor : {r : NameCheck} → Checked pairs text x r → r ≡ Poor → soundName (nameBytes pairs text x) ≡ false
+  pub was-poor : {r : NameCheck} → NameChecked pairs text x r → r ≡ Poor → soundName (nameBytes pairs text x) ≡ false
   was-poor (fine h s) d = impossible (cc)
   was-poor (poor s) d = s
   was-poor (no-name h) d = impossible (cc)
 
-  pub was-no-name : {r : NameCheck} → Checked pairs text x r → r ≡ NoName → nameCount pairs ≤ x
+  pub was-no-name : {r : NameCheck} → NameChecked pairs text x r → r ≡ NoName → nameCount pairs ≤ x
   was-no-name (fine h s) d = impossible (cc)
   was-no-name (poor s) d = impossible (cc)
   was-no-name (no-name h) d = h

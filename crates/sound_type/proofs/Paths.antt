@@ -27,7 +27,7 @@ use Rattle.text_measure.proofs.PathNames.{part-next, part-none, NamesTo, names-
 use Rattle.buffer.proofs.Laws.{part-length}
 use Rattle.sound_type.specs.declared.OwnScan.{OwnScan}
 use Rattle.sound_type.specs.declared.OwnScan.the-variants.{Leaf, NotSound, NoNode}
-use Rattle.sound_type.specs.Judging.{allNamesSound, unlessJudged, Onward, wordsSound, headSound, Scanned, not-sound, rootScan}
+use Rattle.sound_type.specs.Judging.{allNamesSound, unlessJudged, NamesOnward, wordsSound, headSound, Scanned, not-sound, rootScan}
 use Rattle.encoding.proofs.Names.{part-to}
 use Rattle.sound_type.proofs.Names.{judged-sound}
 use Rattle.sound_type.proofs.Scans.{scanned-leaf, scanned-unsound, scanned-stop}
@@ -111,10 +111,10 @@ module _ (ask : ℕ) where
       go false a d = rw d
 
 module _ (bound : ℕ) (ws : List ℕ) (name : ℕ → Bytes) (ask start end : ℕ) where
-  pub onward-here : start ≤ end → start ≤ length ws → Onward bound ws name ask start end start
+  pub onward-here : start ≤ end → start ≤ length ws → NamesOnward bound ws name ask start end start
   onward-here h k = record { after = omega arith; within = h; inside = k; read = refl; fit = refl }
 
-  pub onward-then : {i j : ℕ} → Onward bound ws name ask start end i → Onward bound ws name ask i end j → Onward bound ws name ask start end j
+  pub onward-then : {i j : ℕ} → NamesOnward bound ws name ask start end i → NamesOnward bound ws name ask i end j → NamesOnward bound ws name ask start end j
   onward-then o n = record {
     after = omega (arith, o .after, n .after);
     within = n .within;
@@ -123,11 +123,11 @@ module _ (bound : ℕ) (ws : List ℕ) (name : ℕ → Bytes) (ask start end : �
     fit = n .fit ∙ o .fit;
   }
 
-  module _ {i : ℕ} (o : Onward bound ws name ask start end i) where
+  module _ {i : ℕ} (o : NamesOnward bound ws name ask start end i) where
     names-to : NamesTo bound ws start end i
     names-to = record { within = o .within; inside = o .inside; read = o .read }
 
-    pub onward-more : i < end → i < length ws → getD ws i 0 < bound → unlessJudged ask (soundName (name (getD ws i 0))) ≡ true → Onward bound ws name ask start end (i + 1)
+    pub onward-more : i < end → i < length ws → getD ws i 0 < bound → unlessJudged ask (soundName (name (getD ws i 0))) ≡ true → NamesOnward bound ws name ask start end (i + 1)
     onward-more h k b s = record {
       after = omega (arith, o .after);
       within = omega arith;
@@ -161,7 +161,7 @@ module _ (ws pairs : List ℕ) (text : Bytes) (ask : ℕ) (p : PathAt) (some : 0
   counted : p .start + p .count - p .start ≡ p .count
   counted = omega arith
 
-  module _ {i : ℕ} (o : Onward (nameCount pairs) ws (nameBytes pairs text) ask (p .start) (p .start + p .count) i) where
+  module _ {i : ℕ} (o : NamesOnward (nameCount pairs) ws (nameBytes pairs text) ask (p .start) (p .start + p .count) i) where
     pub path-leaf : i ≡ p .start + p .count → {r : OwnScan} → r ≡ Leaf (p .start + p .count) → Scanned ws pairs text ask (headOfPath (namesPath (nameCount pairs) ws p)) r
     unfolding namesPath
     path-leaf e d =

@@ -21,7 +21,7 @@ use Rattle.encoding.specs.HeadWords.{kids}
 use Rattle.encoding.specs.Types.{readTypes, readType}
 use Rattle.encoding.proofs.Tables.{impossible}
 use Rattle.encoding.proofs.Types.{bind-got, made₂-got}
-use Rattle.text_measure.specs.Lengths.{Counted}
+use Rattle.text_measure.specs.Lengths.{CutDown}
 use Rattle.text_measure.proofs.Texts.{bind-assoc, bind-same}
 use Rattle.text_measure.proofs.Rests.{types-cut}
 use Rattle.sound_type.specs.Judging.{soundAs, soundRest, soundFrom, headSound, firstAsk, lastAsk, levelsAt, restAt, askNext}
@@ -102,7 +102,7 @@ module _ (ws pairs : List ℕ) (text : Bytes) (good : Good pairs text) where
     rest-leaf k s = rw (k, s) at down
 
     -- a head with types behind it
-    pub rest-down : (l : ℕ) → Counted (l / 4 + 1) (kids h) → headSound ws (nameBytes pairs text) ask h ≡ true → l % 4 ≡ lastAsk ask h
+    pub rest-down : (l : ℕ) → CutDown (l / 4 + 1) (kids h) → headSound ws (nameBytes pairs text) ask h ≡ true → l % 4 ≡ lastAsk ask h
         → length ws ≤ 8192 → 0 < q → q ≤ length ws → restAt types d (firstAsk ask h) (l ∷ ls) q ≡ restAt types (suc d) ask ls p
     unfolding _and_
     rest-down l c s a f z w =

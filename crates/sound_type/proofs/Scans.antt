@@ -17,16 +17,16 @@ use Rattle.encoding.specs.Tables.{nameBytes}
 use Rattle.encoding.specs.HeadWords.{kids}
 use Rattle.encoding.specs.Types.{sizeOf}
 use Rattle.encoding.proofs.Tables.{impossible}
-use Rattle.text_measure.specs.Lengths.{Counted, exact}
+use Rattle.text_measure.specs.Lengths.{CutDown, exact}
 use Rattle.sound_type.specs.declared.OwnScan.{OwnScan}
 use Rattle.sound_type.specs.declared.OwnScan.the-variants.{Leaf, Node, NotSound, NoNode}
 use Rattle.sound_type.specs.Judging.{unlessJudged, headFits, wordsSound, headSound, firstJudged, lastJudged, firstAsk, lastAsk, Scanned, leaf, node, not-sound, none, nodeScan, bothScan, bareScan, leafScan}
 
 -- a level, from the count of its types, with or without the first
-pub counted-level : (k ask : ℕ) {n : ℕ} → ask < 4 → Counted (k + 1) n → Counted ((4 * k + ask) / 4 + 1) n
+pub counted-level : (k ask : ℕ) {n : ℕ} → ask < 4 → CutDown (k + 1) n → CutDown ((4 * k + ask) / 4 + 1) n
 counted-level k ask h c = let e : (4 * k + ask) / 4 ≡ k = omega arith in rw e c
 
-pub counted-behind : (k : ℕ) {n : ℕ} → 0 < k → Counted k n → Counted ((4 * k - 3) / 4 + 1) n
+pub counted-behind : (k : ℕ) {n : ℕ} → 0 < k → CutDown k n → CutDown ((4 * k - 3) / 4 + 1) n
 counted-behind k h c = let e : (4 * k - 3) / 4 + 1 ≡ k = omega arith in rw e c
 
 module _ (ws pairs : List ℕ) (text : Bytes) (ask : ℕ) {x : Reading Head} where
@@ -34,13 +34,13 @@ module _ (ws pairs : List ℕ) (text : Bytes) (ask : ℕ) {x : Reading Head} whe
       → Scanned ws pairs text ask x r
   scanned-leaf h e d k s = rw d (leaf e k s)
 
-  node-as : (h : Head) (n l : ℕ) {a : ℕ} → x ≡ got h n → Counted (l / 4 + 1) (kids h) → headSound ws (nameBytes pairs text) ask h ≡ true
+  node-as : (h : Head) (n l : ℕ) {a : ℕ} → x ≡ got h n → CutDown (l / 4 + 1) (kids h) → headSound ws (nameBytes pairs text) ask h ≡ true
       → a ≡ firstAsk ask h → l % 4 ≡ lastAsk ask h → l < 2 ^ 16 → Scanned ws pairs text ask x (Node n a l)
   node-as h n l e c s a b w = node e c s a b w
 
   -- a wrapper hands on what it is asked
   pub scanned-wrapper : (h : Head) {r : OwnScan} {n l : ℕ} → x ≡ got h n → r ≡ Node n ask l → headFits ask h ≡ true → wordsSound ws (nameBytes pairs text) h ≡ true
-      → firstJudged ask h ≡ ask → lastJudged h ≡ 0 → Counted (l / 4 + 1) (kids h) → l % 4 ≡ 0 → l < 2 ^ 16 → Scanned ws pairs text ask x r
+      → firstJudged ask h ≡ ask → lastJudged h ≡ 0 → CutDown (l / 4 + 1) (kids h) → l % 4 ≡ 0 → l < 2 ^ 16 → Scanned ws pairs text ask x r
   unfolding headSound firstAsk lastAsk unlessJudged _and_
   scanned-wrapper h {n = n} {l = l} e d f s a b c m w =
       rw d (go (eqb ask 0) refl)
@@ -61,7 +61,7 @@ module _ (ws pairs : List ℕ) (text : Bytes) (ask : ℕ) {x : Reading Head} whe
 
   -- a head that is neither a wrapper nor an intersection
   scanned-judged : (h : Head) {r : OwnScan} {n first l : ℕ} → x ≡ got h n → r ≡ nodeScan n ask first l → headFits ask h ≡ not (eqb ask 2)
-      → (eqb ask 0 ≡ false → wordsSound ws (nameBytes pairs text) h ≡ true) → first ≡ firstJudged ask h → l % 4 ≡ lastJudged h → Counted (l / 4 + 1) (kids h) → l < 2 ^ 16
+      → (eqb ask 0 ≡ false → wordsSound ws (nameBytes pairs text) h ≡ true) → first ≡ firstJudged ask h → l % 4 ≡ lastJudged h → CutDown (l / 4 + 1) (kids h) → l < 2 ^ 16
       → Scanned ws pairs text ask x r
   unfolding headSound firstAsk lastAsk unlessJudged _and_
   scanned-judged h {r} {n} {first} {l} e d f s a b c w = rw d (go (eqb ask 0) (eqb ask 2) refl refl)
@@ -75,7 +75,7 @@ module _ (ws pairs : List ℕ) (text : Bytes) (ask : ℕ) {x : Reading Head} whe
       go false false i j = node-as h n l e c (rw (i, f, j, s i)) (rw i a) (rw i b) w
 
   pub scanned-node : (h : Head) {r : OwnScan} {n first l : ℕ} → x ≡ got h n → r ≡ nodeScan n ask first l → headFits ask h ≡ not (eqb ask 2)
-      → wordsSound ws (nameBytes pairs text) h ≡ true → first ≡ firstJudged ask h → l % 4 ≡ lastJudged h → Counted (l / 4 + 1) (kids h) → l < 2 ^ 16
+      → wordsSound ws (nameBytes pairs text) h ≡ true → first ≡ firstJudged ask h → l % 4 ≡ lastJudged h → CutDown (l / 4 + 1) (kids h) → l < 2 ^ 16
       → Scanned ws pairs text ask x r
   scanned-node h e d f s = scanned-judged h e d f (λ i. s)
 
@@ -140,7 +140,7 @@ pub record OwnLeaf (ws pairs : List ℕ) (text : Bytes) (ask : ℕ) (x : Reading
 pub record OwnNode (ws pairs : List ℕ) (text : Bytes) (ask : ℕ) (x : Reading Head) (next first level : ℕ) : Type 0 where
   pub head : Head
   pub read : x ≡ got head next
-  pub same-kids : Counted (level / 4 + 1) (kids head)
+  pub same-kids : CutDown (level / 4 + 1) (kids head)
   pub sound : headSound ws (nameBytes pairs text) ask head ≡ true
   pub same-first : first ≡ firstAsk ask head
   pub same-last : level % 4 ≡ lastAsk ask head

@@ -28,7 +28,7 @@ use Rattle.sound_type.specs.declared.SoundAnswer.the-variants.{Refused}
 use Rattle.sound_type.specs.declared.Pass.{Pass}
 use Rattle.sound_type.specs.declared.Step.{Step}
 use Rattle.sound_type.specs.declared.Step.the-variants.{On, Ended, Unfit, Halt}
-use Rattle.sound_type.specs.Judging.{Ready, unlessJudged, shapeFits, soundAs, soundRest, headSound, levelsAt, restAt, levelsOf, restOf, behindOf, leaving, nextType, under, pushed, Outward, Kept, Stepped, on, ended, unfit, halt}
+use Rattle.sound_type.specs.Judging.{TablesReady, unlessJudged, shapeFits, soundAs, soundRest, headSound, levelsAt, restAt, levelsOf, restOf, behindOf, leaving, nextType, under, pushed, Outward, Kept, Stepped, on, ended, unfit, halt}
 use Rattle.sound_type.specs.Calls.{soundAnswer}
 use Rattle.sound_type.proofs.Rests.{level-ended, level-next, rest-deep, rest-stop, rest-leaf, rest-down, rest-unsound}
 use Rattle.sound_type.proofs.Scans.{OwnLeaf, OwnNode}
@@ -203,5 +203,5 @@ module _ (ws pairs : List ℕ) (text : Bytes) (levels : List ℕ) where
       go (stop k) h = refl
 
 -- tables that pass are ready for the pass
-pub passed-ready : (words pairs : List ℕ) (text : Bytes) → checkTables words pairs text ≡ Passed → Ready pairs text × (length words ≤ 8192)
+pub passed-ready : (words pairs : List ℕ) (text : Bytes) → checkTables words pairs text ≡ Passed → TablesReady pairs text × (length words ≤ 8192)
 passed-ready words pairs text e = let t = tables-passed words pairs text e in ((t .good, t .pairs-few), t .few)

@@ -18,7 +18,7 @@ use Rattle.encoding.specs.Tables.{nameBytes, nameCount}
 use Rattle.encoding.specs.Tested.{Good}
 use Rattle.encoding.specs.HeadWords.{kids}
 use Rattle.encoding.specs.Types.{pathOf, sizeOf, readTypes, readType}
-use Rattle.text_measure.specs.Lengths.{Counted}
+use Rattle.text_measure.specs.Lengths.{CutDown}
 use Rattle.text_measure.specs.Levels.{stacked}
 use Rattle.sound_type.specs.declared.NameCheck.{NameCheck}
 use Rattle.sound_type.specs.declared.NameCheck.the-variants.{Fine, Poor, NoName}
@@ -29,8 +29,8 @@ use Rattle.sound_type.specs.declared.Step.{Step}
 use Rattle.sound_type.specs.declared.Step.the-variants.{On, Ended, Unfit, Halt}
 
 -- the tables keep their rule, and the number of a name fits 16 bits
-abbrev pub Ready : List ℕ → Bytes → Type 0
-Ready pairs text = Good pairs text × (length pairs / 2 ≤ maxPairs)
+abbrev pub TablesReady : List ℕ → Bytes → Type 0
+TablesReady pairs text = Good pairs text × (length pairs / 2 ≤ maxPairs)
 
 -- ---- names
 
@@ -50,13 +50,13 @@ unfoldable pub unlessJudged : ℕ → Bool → Bool
 unlessJudged ask s = pick (eqb ask 0) true s
 
 -- a name, as it was found
-pub data Checked (pairs : List ℕ) (text : Bytes) (x : ℕ) : NameCheck → Type 0 where
-  fine : x < nameCount pairs → soundName (nameBytes pairs text x) ≡ true → Checked pairs text x Fine
-  poor : soundName (nameBytes pairs text x) ≡ false → Checked pairs text x Poor
-  no-name : nameCount pairs ≤ x → Checked pairs text x NoName
+pub data NameChecked (pairs : List ℕ) (text : Bytes) (x : ℕ) : NameCheck → Type 0 where
+  fine : x < nameCount pairs → soundName (nameBytes pairs text x) ≡ true → NameChecked pairs text x Fine
+  poor : soundName (nameBytes pairs text x) ≡ false → NameChecked pairs text x Poor
+  no-name : nameCount pairs ≤ x → NameChecked pairs text x NoName
 
 -- the names from `start` to i are as they are asked to be, so those from i on decide
-pub record Onward (bound : ℕ) (ws : List ℕ) (name : ℕ → Bytes) (ask start end i : ℕ) : Type 0 where
+pub record NamesOnward (bound : ℕ) (ws : List ℕ) (name : ℕ → Bytes) (ask start end i : ℕ) : Type 0 where
   pub after : start ≤ i
   pub within : i ≤ end
   pub inside : i ≤ length ws
@@ -65,7 +65,7 @@ pub record Onward (bound : ℕ) (ws : List ℕ) (name : ℕ → Bytes) (ask star
 
 -- the same whatever is asked of them
 abbrev pub OnwardAlways : ℕ → List ℕ → (ℕ → Bytes) → ℕ → ℕ → ℕ → Type 0
-OnwardAlways bound ws name start end i = (ask : ℕ) → Onward bound ws name ask start end i
+OnwardAlways bound ws name start end i = (ask : ℕ) → NamesOnward bound ws name ask start end i
 
 -- ---- what a type is asked
 
@@ -170,7 +170,7 @@ lastAsk ask h = pick (eqb ask 0) 0 (lastJudged h)
 -- the answer says what the reading of a head says, or that its type is not as it is asked to be; how many types follow may be cut down
 pub data Scanned (ws pairs : List ℕ) (text : Bytes) (ask : ℕ) (x : Reading Head) : OwnScan → Type 0 where
   leaf : {h : Head} {n : ℕ} → x ≡ got h n → kids h ≡ 0 → headSound ws (nameBytes pairs text) ask h ≡ true → Scanned ws pairs text ask x (Leaf n)
-  node : {h : Head} {n a l : ℕ} → x ≡ got h n → Counted (l / 4 + 1) (kids h) → headSound ws (nameBytes pairs text) ask h ≡ true
+  node : {h : Head} {n a l : ℕ} → x ≡ got h n → CutDown (l / 4 + 1) (kids h) → headSound ws (nameBytes pairs text) ask h ≡ true
       → a ≡ firstAsk ask h → l % 4 ≡ lastAsk ask h → l < 2 ^ 16 → Scanned ws pairs text ask x (Node n a l)
   not-sound : ((h : Head) (n : ℕ) → x ≡ got h n → headSound ws (nameBytes pairs text) ask h ≡ false) → Scanned ws pairs text ask x NotSound
   none : {r : Refusal} → x ≡ stop r → Scanned ws pairs text ask x (NoNode r)

@@ -13,7 +13,7 @@ ghost use Rattle.encoding.specs.Heads.{pathHead, headAfter, readHead};
 ghost use Rattle.encoding.specs.Types.{sizeOf, typeAt};
 ghost use Rattle.encoding.specs.declared.Head.the-variants.{Name, Apply, Tuple, Function, ArrayOf, Meta};
 ghost use Rattle.text_measure.specs.Lengths.{worded, namesPath, headOfPath};
-ghost use Rattle.sound_type.specs.Judging.{Ready, Known, Checked, Onward, OnwardAlways, unlessJudged, rootScan, nodeScan, bareScan, leafScan, bothScan, Scanned, askNext, nextType, under, pushed, leaving, Outward, Kept, Stepped};
+ghost use Rattle.sound_type.specs.Judging.{TablesReady, Known, NameChecked, NamesOnward, OnwardAlways, unlessJudged, rootScan, nodeScan, bareScan, leafScan, bothScan, Scanned, askNext, nextType, under, pushed, leaving, Outward, Kept, Stepped};
 ghost use Rattle.sound_type.specs.Calls.{typeIsSound, soundAnswer};
 use encoding::Check;
 use encoding::PathAt;
@@ -98,8 +98,8 @@ fn is_known(known: &[u16; 64], name: u32) -> bool
 
 // A name that is asked to be sound. One that is found so is kept.
 fn check_new(pairs: &[u32], text: &[u8], known: &mut [u16; 64], name: u32) -> NameCheck
-    requires { ⌜ Ready (now pairs) (now text) × Known (now pairs) (now text) (now known) ⌝ }
-    ensures { λ r. ⌜ Checked (now (pairs .entry)) (now (text .entry)) name r × Known (now (pairs .entry)) (now (text .entry)) (now (known .exit)) ⌝ }
+    requires { ⌜ TablesReady (now pairs) (now text) × Known (now pairs) (now text) (now known) ⌝ }
+    ensures { λ r. ⌜ NameChecked (now (pairs .entry)) (now (text .entry)) name r × Known (now (pairs .entry)) (now (text .entry)) (now (known .exit)) ⌝ }
 {
     if is_known(known, name) {
         return NameCheck::Fine;
@@ -124,7 +124,7 @@ fn own_name(
     at: usize,
     ask: u64,
 ) -> OwnScan
-    requires { ⌜ Ready (now pairs) (now text) × Known (now pairs) (now text) (now known) ⌝ }
+    requires { ⌜ TablesReady (now pairs) (now text) × Known (now pairs) (now text) (now known) ⌝ }
     ensures { λ r. ⌜ Scanned (now (words .entry)) (now (pairs .entry)) (now (text .entry)) ask
         (worded Name (readBelow (nameCount (now (pairs .entry))) (now (words .entry)) at)) r
         × Known (now (pairs .entry)) (now (text .entry)) (now (known .exit)) ⌝ }
@@ -188,8 +188,8 @@ fn new_names(
     start: usize,
     ask: u64,
 ) -> OwnScan
-    requires { ⌜ Ready (now pairs) (now text) × Known (now pairs) (now text) (now known)
-        × Onward (nameCount (now pairs)) (now words) (nameBytes (now pairs) (now text)) ask (path .start) (path .start + path .count) start
+    requires { ⌜ TablesReady (now pairs) (now text) × Known (now pairs) (now text) (now known)
+        × NamesOnward (nameCount (now pairs)) (now words) (nameBytes (now pairs) (now text)) ask (path .start) (path .start + path .count) start
         × (0 < path .count) × (length (now words) ≤ maxWords) × (0 < ask) ⌝ }
     ensures { λ r. ⌜ Scanned (now (words .entry)) (now (pairs .entry)) (now (text .entry)) ask
         (headOfPath (namesPath (nameCount (now (pairs .entry))) (now (words .entry)) path)) r
@@ -247,7 +247,7 @@ fn own_names(
     path: PathAt,
     ask: u64,
 ) -> OwnScan
-    requires { ⌜ Ready (now pairs) (now text) × Known (now pairs) (now text) (now known)
+    requires { ⌜ TablesReady (now pairs) (now text) × Known (now pairs) (now text) (now known)
         × (path .start ≤ length (now words)) × (0 < path .count) × (length (now words) ≤ maxWords) ⌝ }
     ensures { λ r. ⌜ Scanned (now (words .entry)) (now (pairs .entry)) (now (text .entry)) ask
         (headOfPath (namesPath (nameCount (now (pairs .entry))) (now (words .entry)) path)) r
@@ -287,7 +287,7 @@ fn own_path(
     at: usize,
     ask: u64,
 ) -> OwnScan
-    requires { ⌜ Ready (now pairs) (now text) × Known (now pairs) (now text) (now known) × (length (now words) ≤ maxWords) ⌝ }
+    requires { ⌜ TablesReady (now pairs) (now text) × Known (now pairs) (now text) (now known) × (length (now words) ≤ maxWords) ⌝ }
     ensures { λ r. ⌜ Scanned (now (words .entry)) (now (pairs .entry)) (now (text .entry)) ask
         (pathHead (nameCount (now (pairs .entry))) (now (words .entry)) at) r
         × Known (now (pairs .entry)) (now (text .entry)) (now (known .exit)) ⌝ }
@@ -419,7 +419,7 @@ fn own_both(at: usize, ask: u64) -> OwnScan
 // An array's size, as `ask` asks it to be. A name that is sound is a sound size, so it is first tried as a name, which keeps it; that there is no such
 // name cannot come, since the size was read below the bound.
 fn size_fits(pairs: &[u32], text: &[u8], known: &mut [u16; 64], size: u32, ask: u64) -> bool
-    requires { ⌜ (size < nameCount (now pairs) + 1) × Ready (now pairs) (now text) × Known (now pairs) (now text) (now known) ⌝ }
+    requires { ⌜ (size < nameCount (now pairs) + 1) × TablesReady (now pairs) (now text) × Known (now pairs) (now text) (now known) ⌝ }
     ensures { λ r. ⌜ (r ≡ unlessJudged ask (soundSize (sizeOf (nameBytes (now (pairs .entry)) (now (text .entry))) size)))
         × Known (now (pairs .entry)) (now (text .entry)) (now (known .exit)) ⌝ }
 {
@@ -449,7 +449,7 @@ fn own_array(
     at: usize,
     ask: u64,
 ) -> OwnScan
-    requires { ⌜ (bound ≡ nameCount (now pairs)) × Ready (now pairs) (now text) × Known (now pairs) (now text) (now known) ⌝ }
+    requires { ⌜ (bound ≡ nameCount (now pairs)) × TablesReady (now pairs) (now text) × Known (now pairs) (now text) (now known) ⌝ }
     ensures { λ r. ⌜ Scanned (now (words .entry)) (now (pairs .entry)) (now (text .entry)) ask
         (worded ArrayOf (readBelow (bound + 1) (now (words .entry)) at)) r
         × Known (now (pairs .entry)) (now (text .entry)) (now (known .exit)) ⌝ }
@@ -487,7 +487,7 @@ fn own_after(
     at: usize,
     ask: u64,
 ) -> OwnScan
-    requires { ⌜ (plainKinds ≤ w) × (bound ≡ nameCount (now pairs)) × (length (now words) ≤ maxWords) × Ready (now pairs) (now text)
+    requires { ⌜ (plainKinds ≤ w) × (bound ≡ nameCount (now pairs)) × (length (now words) ≤ maxWords) × TablesReady (now pairs) (now text)
         × Known (now pairs) (now text) (now known) ⌝ }
     ensures { λ r. ⌜ Scanned (now (words .entry)) (now (pairs .entry)) (now (text .entry)) ask
         (headAfter bound (now (words .entry)) w at) r
@@ -525,7 +525,7 @@ fn scan_own(
     at: usize,
     ask: u64,
 ) -> OwnScan
-    requires { ⌜ (bound ≡ nameCount (now pairs)) × (length (now words) ≤ maxWords) × Ready (now pairs) (now text)
+    requires { ⌜ (bound ≡ nameCount (now pairs)) × (length (now words) ≤ maxWords) × TablesReady (now pairs) (now text)
         × Known (now pairs) (now text) (now known) ⌝ }
     ensures { λ r. ⌜ Scanned (now (words .entry)) (now (pairs .entry)) (now (text .entry)) ask
         (readHead bound (now (words .entry)) at) r
@@ -619,7 +619,7 @@ fn advance(
     levels: &mut [u16; MAX_DEPTH],
     pass: Pass,
 ) -> Step
-    requires { ⌜ (bound ≡ nameCount (now pairs)) × Ready (now pairs) (now text) × (length (now words) ≤ maxWords)
+    requires { ⌜ (bound ≡ nameCount (now pairs)) × TablesReady (now pairs) (now text) × (length (now words) ≤ maxWords)
         × Known (now pairs) (now text) (now known) × Kept (now words) (now levels) pass ⌝ }
     ensures { λ r. ⌜ Stepped (now (words .entry)) (now (pairs .entry)) (now (text .entry)) (now (levels .entry)) pass (now (levels .exit)) r
         × Known (now (pairs .entry)) (now (text .entry)) (now (known .exit)) ⌝ }
@@ -643,7 +643,7 @@ fn advance(
 
 // A type that is not sound and fills the words, unless a refusal is still to come.
 fn accept_whole(words: &[u32], pairs: &[u32], text: &[u8]) -> SoundAnswer
-    requires { ⌜ Ready (now pairs) (now text) × (length (now words) ≤ maxWords) ⌝ }
+    requires { ⌜ TablesReady (now pairs) (now text) × (length (now words) ≤ maxWords) ⌝ }
     ensures { λ r. ⌜ r ≡ soundAnswer (mapAnswer (λ t. false)
         (whole (length (now (words .entry))) (typeAt (now (words .entry)) (now (pairs .entry)) (now (text .entry)) 0))) ⌝ }
 {
@@ -682,7 +682,7 @@ fn keep_fixed(pairs: &[u32], text: &[u8], known: &mut [u16; 64])
 
 // A type that fills the words.
 fn judge_whole(words: &[u32], pairs: &[u32], text: &[u8]) -> SoundAnswer
-    requires { ⌜ Ready (now pairs) (now text) × (length (now words) ≤ maxWords) ⌝ }
+    requires { ⌜ TablesReady (now pairs) (now text) × (length (now words) ≤ maxWords) ⌝ }
     ensures { λ r. ⌜ r ≡ soundAnswer (mapAnswer sound
         (whole (length (now (words .entry))) (typeAt (now (words .entry)) (now (pairs .entry)) (now (text .entry)) 0))) ⌝ }
 {

@@ -6,7 +6,7 @@ ghost use Rattle.text_pass.specs.Passes.{Checked, Ready, Came, Counts};
 ghost use Rattle.text_attributes.specs.Texts.{someArguments, derivedAt, attributeAt, someAttributes, attributesAt};
 use accepted_types::Spot;
 use encoding::WordScan;
-use text_pass::Place;
+use text_pass::PartEnd;
 
 // ---- counted
 
@@ -19,7 +19,7 @@ fn count_arguments(
     n: u32,
     at: usize,
     pos: usize,
-) -> Place
+) -> PartEnd
     requires { ⌜ Checked (now words) (now pairs) (now text) × (before < 2 ^ 40) × (0 < n) ⌝ }
     ensures { λ r. ⌜ Counts (pos + before) (someArguments (now (words .entry)) (now (pairs .entry)) (now (text .entry)) n at) r ⌝ }
 {
@@ -29,7 +29,7 @@ fn count_arguments(
     let mut left = n;
     loop {
         let one = text_pass::count_name(words, pairs, text, gap, place, p);
-        let Place::At { next, pos: end } = one else {
+        let PartEnd::At { next, pos: end } = one else {
             return one;
         };
         left -= 1;
@@ -43,25 +43,25 @@ fn count_arguments(
 }
 
 // The arguments of an attribute, their count first. None have no text.
-fn count_derived(words: &[u32], pairs: &[u32], text: &[u8], at: usize, pos: usize) -> Place
+fn count_derived(words: &[u32], pairs: &[u32], text: &[u8], at: usize, pos: usize) -> PartEnd
     requires { ⌜ Checked (now words) (now pairs) (now text) ⌝ }
     ensures { λ r. ⌜ Counts pos (derivedAt (now (words .entry)) (now (pairs .entry)) (now (text .entry)) at) r ⌝ }
 {
     match encoding::scan_word(words, at) {
         WordScan::Word { value, next } => {
             if value == 0 {
-                return Place::At { next, pos };
+                return PartEnd::At { next, pos };
             }
             let list = count_arguments(words, pairs, text, 1, value, next, pos);
-            let Place::At { next: end, pos: p } = list else {
+            let PartEnd::At { next: end, pos: p } = list else {
                 return list;
             };
-            Place::At {
+            PartEnd::At {
                 next: end,
                 pos: buffer::count_few(p, 1),
             }
         }
-        WordScan::NoWord(r) => Place::Stopped(r),
+        WordScan::NoWord(r) => PartEnd::Stopped(r),
     }
 }
 
@@ -73,19 +73,19 @@ fn count_attribute(
     level: u32,
     at: usize,
     pos: usize,
-) -> Place
+) -> PartEnd
     requires { ⌜ Checked (now words) (now pairs) (now text) ⌝ }
     ensures { λ r. ⌜ Counts pos (attributeAt (now (words .entry)) (now (pairs .entry)) (now (text .entry)) level at) r ⌝ }
 {
     let name = text_pass::count_name(words, pairs, text, 2, at, pos);
-    let Place::At { next: q, pos: p } = name else {
+    let PartEnd::At { next: q, pos: p } = name else {
         return name;
     };
     let list = count_derived(words, pairs, text, q, p);
-    let Place::At { next, pos: end } = list else {
+    let PartEnd::At { next, pos: end } = list else {
         return list;
     };
-    Place::At {
+    PartEnd::At {
         next,
         pos: buffer::count_few(end, 2 + 4 * level as usize),
     }
@@ -100,7 +100,7 @@ fn count_attributes(
     n: u32,
     at: usize,
     pos: usize,
-) -> Place
+) -> PartEnd
     requires { ⌜ Checked (now words) (now pairs) (now text) ⌝ }
     ensures { λ r. ⌜ Counts pos (someAttributes (now (words .entry)) (now (pairs .entry)) (now (text .entry)) level n at) r ⌝ }
 {
@@ -109,14 +109,14 @@ fn count_attributes(
     let mut left = n;
     while 0 < left {
         let one = count_attribute(words, pairs, text, level, place, p);
-        let Place::At { next, pos: end } = one else {
+        let PartEnd::At { next, pos: end } = one else {
             return one;
         };
         place = next;
         p = end;
         left -= 1;
     }
-    Place::At {
+    PartEnd::At {
         next: place,
         pos: p,
     }
@@ -130,7 +130,7 @@ pub fn count_attribute_list(
     level: u32,
     at: usize,
     pos: usize,
-) -> Place
+) -> PartEnd
     requires { ⌜ Checked (now words) (now pairs) (now text) ⌝ }
     ensures { λ r. ⌜ Counts pos (attributesAt (now (words .entry)) (now (pairs .entry)) (now (text .entry)) level at) r ⌝ }
 {
@@ -144,7 +144,7 @@ pub fn count_attribute_list(
             next,
             pos,
         ),
-        WordScan::NoWord(r) => Place::Stopped(r),
+        WordScan::NoWord(r) => PartEnd::Stopped(r),
     }
 }
 

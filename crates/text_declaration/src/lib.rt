@@ -17,7 +17,7 @@ use encoding::words::STRUCT;
 use encoding::words::TYPE_SYNONYM;
 use encoding::words::USE;
 use text_fields::Entry;
-use text_pass::Place;
+use text_pass::PartEnd;
 
 // What a list of fields is of, by the word before it.
 fn fields_entry(in_case: bool, kind: u32) -> Entry
@@ -55,13 +55,13 @@ fn lay_list(
     at: usize,
     out: &mut [u8],
     pos: usize,
-) -> Place
+) -> PartEnd
     requires { ⌜ Checked (now words) (now pairs) (now text) × (level < 2 ^ 31) × Ready write (now out) pos (listAt (now words) (now pairs) (now text) entry level at) ⌝ }
     ensures { λ r. ⌜ Went write (now (out .entry)) pos (listAt (now (words .entry)) (now (pairs .entry)) (now (text .entry)) entry level at) (now (out .exit)) r ⌝ }
 {
     if write {
         let spot = text_fields::write_list(words, pairs, text, entry, level, at, out, pos);
-        return Place::At {
+        return PartEnd::At {
             next: spot.next,
             pos: spot.pos,
         };
@@ -80,15 +80,15 @@ fn lay_listed(
     at: usize,
     out: &mut [u8],
     pos: usize,
-) -> Place
+) -> PartEnd
     requires { ⌜ Checked (now words) (now pairs) (now text) × (level < 2 ^ 31) × Ready write (now out) pos (listedAt (now words) (now pairs) (now text) entry level at) ⌝ }
     ensures { λ r. ⌜ Went write (now (out .entry)) pos (listedAt (now (words .entry)) (now (pairs .entry)) (now (text .entry)) entry level at) (now (out .exit)) r ⌝ }
 {
     let list = lay_list(write, words, pairs, text, entry, level, at, out, pos);
-    let Place::At { next, pos: end } = list else {
+    let PartEnd::At { next, pos: end } = list else {
         return list;
     };
-    Place::At {
+    PartEnd::At {
         next,
         pos: lay_fields_end(write, entry, out, end),
     }
@@ -104,7 +104,7 @@ fn lay_fields(
     at: usize,
     out: &mut [u8],
     pos: usize,
-) -> Place
+) -> PartEnd
     requires { ⌜ Checked (now words) (now pairs) (now text) × (level < 2 ^ 31) × Ready write (now out) pos (fieldsAt (now words) (now pairs) (now text) false level at) ⌝ }
     ensures { λ r. ⌜ Went write (now (out .entry)) pos (fieldsAt (now (words .entry)) (now (pairs .entry)) (now (text .entry)) false level at) (now (out .exit)) r ⌝ }
 {
@@ -113,7 +113,7 @@ fn lay_fields(
             let entry = fields_entry(false, value);
             lay_listed(write, words, pairs, text, entry, level, next, out, pos)
         }
-        WordScan::NoWord(r) => Place::Stopped(r),
+        WordScan::NoWord(r) => PartEnd::Stopped(r),
     }
 }
 
@@ -139,13 +139,13 @@ fn lay_title(
     at: usize,
     out: &mut [u8],
     pos: usize,
-) -> Place
+) -> PartEnd
     requires { ⌜ Checked (now words) (now pairs) (now text) × Ready write (now out) pos (titleAt (now words) (now pairs) (now text) head at) ⌝ }
     ensures { λ r. ⌜ Went write (now (out .entry)) pos (titleAt (now (words .entry)) (now (pairs .entry)) (now (text .entry)) head at) (now (out .exit)) r ⌝ }
 {
     let p = lay_keyword(write, head, out, pos);
     let name = text_pass::lay_name(write, words, pairs, text, at, out, p);
-    let Place::At { next, pos: p } = name else {
+    let PartEnd::At { next, pos: p } = name else {
         return name;
     };
     text_parameters::lay_parameter_list(write, words, pairs, text, next, out, p)
@@ -161,13 +161,13 @@ fn lay_attributes(
     at: usize,
     out: &mut [u8],
     pos: usize,
-) -> Place
+) -> PartEnd
     requires { ⌜ Checked (now words) (now pairs) (now text) × (level < 2 ^ 31) × Ready write (now out) pos (attributesAt (now words) (now pairs) (now text) level at) ⌝ }
     ensures { λ r. ⌜ Went write (now (out .entry)) pos (attributesAt (now (words .entry)) (now (pairs .entry)) (now (text .entry)) level at) (now (out .exit)) r ⌝ }
 {
     if write {
         let spot = text_attributes::write_attribute_list(words, pairs, text, level, at, out, pos);
-        return Place::At {
+        return PartEnd::At {
             next: spot.next,
             pos: spot.pos,
         };
@@ -186,16 +186,16 @@ fn lay_front(
     at: usize,
     out: &mut [u8],
     pos: usize,
-) -> Place
+) -> PartEnd
     requires { ⌜ Checked (now words) (now pairs) (now text) × (level < 2 ^ 31) × Ready write (now out) pos (frontAt (now words) (now pairs) (now text) head level at) ⌝ }
     ensures { λ r. ⌜ Went write (now (out .entry)) pos (frontAt (now (words .entry)) (now (pairs .entry)) (now (text .entry)) head level at) (now (out .exit)) r ⌝ }
 {
     let doc = text_pass::lay_doc(write, words, pairs, text, level, at, out, pos);
-    let Place::At { next: q, pos: p } = doc else {
+    let PartEnd::At { next: q, pos: p } = doc else {
         return doc;
     };
     let attributes = lay_attributes(write, words, pairs, text, level, q, out, p);
-    let Place::At { next, pos: p } = attributes else {
+    let PartEnd::At { next, pos: p } = attributes else {
         return attributes;
     };
     lay_title(write, words, pairs, text, head, next, out, p)
@@ -209,7 +209,7 @@ fn count_case_fields(
     level: u32,
     at: usize,
     pos: usize,
-) -> Place
+) -> PartEnd
     requires { ⌜ Checked (now words) (now pairs) (now text) × (level < 2 ^ 31) ⌝ }
     ensures { λ r. ⌜ Counts pos (fieldsAt (now (words .entry)) (now (pairs .entry)) (now (text .entry)) true level at) r ⌝ }
 {
@@ -218,21 +218,28 @@ fn count_case_fields(
             let entry = fields_entry(true, value);
             text_fields::count_list(words, pairs, text, entry, level, next, pos)
         }
-        WordScan::NoWord(r) => Place::Stopped(r),
+        WordScan::NoWord(r) => PartEnd::Stopped(r),
     }
 }
 
 // A case, counted: doc, name, fields.
-fn count_case(words: &[u32], pairs: &[u32], text: &[u8], level: u32, at: usize, pos: usize) -> Place
+fn count_case(
+    words: &[u32],
+    pairs: &[u32],
+    text: &[u8],
+    level: u32,
+    at: usize,
+    pos: usize,
+) -> PartEnd
     requires { ⌜ Checked (now words) (now pairs) (now text) × (level < 2 ^ 31) ⌝ }
     ensures { λ r. ⌜ Counts pos (caseAt (now (words .entry)) (now (pairs .entry)) (now (text .entry)) level at) r ⌝ }
 {
     let doc = text_pass::count_doc(words, pairs, text, level, at, pos);
-    let Place::At { next: q, pos: p } = doc else {
+    let PartEnd::At { next: q, pos: p } = doc else {
         return doc;
     };
     let name = text_pass::count_name(words, pairs, text, 0, q, p);
-    let Place::At { next, pos: p } = name else {
+    let PartEnd::At { next, pos: p } = name else {
         return name;
     };
     count_case_fields(words, pairs, text, level, next, p)
@@ -246,7 +253,7 @@ fn count_case_line(
     level: u32,
     at: usize,
     pos: usize,
-) -> Place
+) -> PartEnd
     requires { ⌜ Checked (now words) (now pairs) (now text) × (level < 2 ^ 30) ⌝ }
     ensures { λ r. ⌜ Counts pos (caseLineAt (now (words .entry)) (now (pairs .entry)) (now (text .entry)) level at) r ⌝ }
 {
@@ -263,7 +270,7 @@ fn count_cases(
     n: u32,
     at: usize,
     pos: usize,
-) -> Place
+) -> PartEnd
     requires { ⌜ Checked (now words) (now pairs) (now text) × (0 < n) × (level < 2 ^ 30) ⌝ }
     ensures { λ r. ⌜ Counts pos (casesAt (now (words .entry)) (now (pairs .entry)) (now (text .entry)) level n at) r ⌝ }
 {
@@ -272,7 +279,7 @@ fn count_cases(
     let mut left = n;
     loop {
         let one = count_case_line(words, pairs, text, level, place, p);
-        let Place::At { next, pos: end } = one else {
+        let PartEnd::At { next, pos: end } = one else {
             return one;
         };
         left -= 1;
@@ -375,13 +382,13 @@ fn lay_cases(
     at: usize,
     out: &mut [u8],
     pos: usize,
-) -> Place
+) -> PartEnd
     requires { ⌜ Checked (now words) (now pairs) (now text) × (0 < n) × (level < 2 ^ 30) × Ready write (now out) pos (casesAt (now words) (now pairs) (now text) level n at) ⌝ }
     ensures { λ r. ⌜ Went write (now (out .entry)) pos (casesAt (now (words .entry)) (now (pairs .entry)) (now (text .entry)) level n at) (now (out .exit)) r ⌝ }
 {
     if write {
         let spot = write_cases(words, pairs, text, level, n, at, out, pos);
-        return Place::At {
+        return PartEnd::At {
             next: spot.next,
             pos: spot.pos,
         };
@@ -399,18 +406,18 @@ fn lay_variants(
     at: usize,
     out: &mut [u8],
     pos: usize,
-) -> Place
+) -> PartEnd
     requires { ⌜ Checked (now words) (now pairs) (now text) × (level < 2 ^ 30) × Ready write (now out) pos (variantsAt (now words) (now pairs) (now text) level at) ⌝ }
     ensures { λ r. ⌜ Went write (now (out .entry)) pos (variantsAt (now (words .entry)) (now (pairs .entry)) (now (text .entry)) level at) (now (out .exit)) r ⌝ }
 {
     match encoding::scan_word(words, at) {
         WordScan::Word { value, next } => {
             if value == 0 {
-                return Place::At { next, pos };
+                return PartEnd::At { next, pos };
             }
             lay_cases(write, words, pairs, text, level, value, next, out, pos)
         }
-        WordScan::NoWord(r) => Place::Stopped(r),
+        WordScan::NoWord(r) => PartEnd::Stopped(r),
     }
 }
 
@@ -424,17 +431,17 @@ fn lay_enum_body(
     at: usize,
     out: &mut [u8],
     pos: usize,
-) -> Place
+) -> PartEnd
     requires { ⌜ Checked (now words) (now pairs) (now text) × (level < 2 ^ 30) × Ready write (now out) pos (enumBody (now words) (now pairs) (now text) level at) ⌝ }
     ensures { λ r. ⌜ Went write (now (out .entry)) pos (enumBody (now (words .entry)) (now (pairs .entry)) (now (text .entry)) level at) (now (out .exit)) r ⌝ }
 {
     let p = buffer::lay(write, b" {", out, pos);
     let list = lay_variants(write, words, pairs, text, level, at, out, p);
-    let Place::At { next, pos: end } = list else {
+    let PartEnd::At { next, pos: end } = list else {
         return list;
     };
     let p = text_doc::lay_line(write, level, out, end);
-    Place::At {
+    PartEnd::At {
         next,
         pos: buffer::lay(write, b"}", out, p),
     }
@@ -449,16 +456,16 @@ fn lay_synonym_body(
     at: usize,
     out: &mut [u8],
     pos: usize,
-) -> Place
+) -> PartEnd
     requires { ⌜ Checked (now words) (now pairs) (now text) × Ready write (now out) pos (synonymBody (now words) (now pairs) (now text) at) ⌝ }
     ensures { λ r. ⌜ Went write (now (out .entry)) pos (synonymBody (now (words .entry)) (now (pairs .entry)) (now (text .entry)) at) (now (out .exit)) r ⌝ }
 {
     let p = buffer::lay(write, b" = ", out, pos);
     let tpe = text_pass::lay_type(write, words, pairs, text, at, out, p);
-    let Place::At { next, pos: end } = tpe else {
+    let PartEnd::At { next, pos: end } = tpe else {
         return tpe;
     };
-    Place::At {
+    PartEnd::At {
         next,
         pos: buffer::lay(write, b";", out, end),
     }
@@ -475,7 +482,7 @@ fn lay_body(
     at: usize,
     out: &mut [u8],
     pos: usize,
-) -> Place
+) -> PartEnd
     requires { ⌜ Checked (now words) (now pairs) (now text) × (level < 2 ^ 30) × Ready write (now out) pos (bodyAt (now words) (now pairs) (now text) head level at) ⌝ }
     ensures { λ r. ⌜ Went write (now (out .entry)) pos (bodyAt (now (words .entry)) (now (pairs .entry)) (now (text .entry)) head level at) (now (out .exit)) r ⌝ }
 {
@@ -497,12 +504,12 @@ fn lay_fronted(
     at: usize,
     out: &mut [u8],
     pos: usize,
-) -> Place
+) -> PartEnd
     requires { ⌜ Checked (now words) (now pairs) (now text) × (level < 2 ^ 30) × Ready write (now out) pos (frontedAt (now words) (now pairs) (now text) head level at) ⌝ }
     ensures { λ r. ⌜ Went write (now (out .entry)) pos (frontedAt (now (words .entry)) (now (pairs .entry)) (now (text .entry)) head level at) (now (out .exit)) r ⌝ }
 {
     let front = lay_front(write, words, pairs, text, head, level, at, out, pos);
-    let Place::At { next, pos: p } = front else {
+    let PartEnd::At { next, pos: p } = front else {
         return front;
     };
     lay_body(write, words, pairs, text, head, level, next, out, p)
@@ -517,20 +524,20 @@ fn lay_use(
     at: usize,
     out: &mut [u8],
     pos: usize,
-) -> Place
+) -> PartEnd
     requires { ⌜ Checked (now words) (now pairs) (now text) × Ready write (now out) pos (useAt (now words) (now pairs) (now text) at) ⌝ }
     ensures { λ r. ⌜ Went write (now (out .entry)) pos (useAt (now (words .entry)) (now (pairs .entry)) (now (text .entry)) at) (now (out .exit)) r ⌝ }
 {
     let visibility = text_pass::lay_visibility(write, words, at, out, pos);
-    let Place::At { next: q, pos: p } = visibility else {
+    let PartEnd::At { next: q, pos: p } = visibility else {
         return visibility;
     };
     let p = buffer::lay(write, b"use ", out, p);
     let path = text_pass::lay_path(write, words, pairs, text, q, out, p);
-    let Place::At { next, pos: p } = path else {
+    let PartEnd::At { next, pos: p } = path else {
         return path;
     };
-    Place::At {
+    PartEnd::At {
         next,
         pos: buffer::lay(write, b";", out, p),
     }
@@ -547,14 +554,14 @@ fn lay_after(
     at: usize,
     out: &mut [u8],
     pos: usize,
-) -> Place
+) -> PartEnd
     requires { ⌜ Checked (now words) (now pairs) (now text) × (level < 2 ^ 30) × Ready write (now out) pos (afterAt (now words) (now pairs) (now text) head level at) ⌝ }
     ensures { λ r. ⌜ Went write (now (out .entry)) pos (afterAt (now (words .entry)) (now (pairs .entry)) (now (text .entry)) head level at) (now (out .exit)) r ⌝ }
 {
     match head {
         STRUCT..=TYPE_SYNONYM => lay_fronted(write, words, pairs, text, head, level, at, out, pos),
         USE => lay_use(write, words, pairs, text, at, out, pos),
-        _ => Place::Stopped(Refusal::UnknownWord),
+        _ => PartEnd::Stopped(Refusal::UnknownWord),
     }
 }
 
@@ -568,7 +575,7 @@ pub fn lay_declaration(
     at: usize,
     out: &mut [u8],
     pos: usize,
-) -> Place
+) -> PartEnd
     requires { ⌜ Checked (now words) (now pairs) (now text) × (level < 2 ^ 30) × Ready write (now out) pos (declarationTextAt (now words) (now pairs) (now text) level at) ⌝ }
     ensures { λ r. ⌜ Went write (now (out .entry)) pos (declarationTextAt (now (words .entry)) (now (pairs .entry)) (now (text .entry)) level at) (now (out .exit)) r ⌝ }
 {
@@ -584,6 +591,6 @@ pub fn lay_declaration(
             out,
             pos,
         ),
-        WordScan::NoWord(r) => Place::Stopped(r),
+        WordScan::NoWord(r) => PartEnd::Stopped(r),
     }
 }

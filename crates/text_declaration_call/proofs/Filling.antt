@@ -24,8 +24,8 @@ use Rattle.encoding.proofs.Answers.{filled-done, filled-left, filled-short, fil
 use Rattle.text_calls.specs.declared.TextAnswer.{TextAnswer}
 use Rattle.text_calls.specs.declared.TextAnswer.the-variants.{Length, Refused}
 use Rattle.text_calls.specs.Calls.{filled}
-use Rattle.text_pass.specs.declared.Place.{Place}
-use Rattle.text_pass.specs.declared.Place.the-variants.{At, Stopped}
+use Rattle.text_pass.specs.declared.PartEnd.{PartEnd}
+use Rattle.text_pass.specs.declared.PartEnd.the-variants.{At, Stopped}
 use Rattle.text_pass.specs.Passes.{Ready, Came, Went}
 use Rattle.text_pass.proofs.Passes.{came-to, was-stopped}
 
@@ -54,7 +54,7 @@ pub record Counts {A : Type 0} (f : A → Bytes) (x : Reading A) (o o′ : List 
   pub kept : o′ ≡ o
   pub size : clamp bytes ≡ clamp (length (f value))
 
-module _ {A : Type 0} (f : A → Bytes) (x : Reading A) {o o′ : List ℕ} {r : Place} where
+module _ {A : Type 0} (f : A → Bytes) (x : Reading A) {o o′ : List ℕ} {r : PartEnd} where
   counted : {n bytes : ℕ} → Went false o 0 (mapReading f x) o′ r → r ≡ At n bytes → Counts f x o o′ n bytes
   unfolding mapReading
   counted {n} {bytes} w e = go x (came-to w e)
@@ -91,7 +91,7 @@ module _ {A : Type 0} {f : A → Bytes} {x : Reading A} {o o′ : List ℕ} {n b
     };
   }
 
-  written : {o″ : List ℕ} {r : Place} {m p : ℕ} → Went true o′ 0 (mapReading f x) o″ r → r ≡ At m p → (p ≡ length (f (c .value))) × (o″ ≡ sets o 0 (f (c .value)))
+  written : {o″ : List ℕ} {r : PartEnd} {m p : ℕ} → Went true o′ 0 (mapReading f x) o″ r → r ≡ At m p → (p ≡ length (f (c .value))) × (o″ ≡ sets o 0 (f (c .value)))
   unfolding mapReading
   written w e =
       let d = came-to w e in
@@ -126,7 +126,7 @@ module _ {A : Type 0} {f : A → Bytes} {x : Reading A} {size : ℕ} {o : List �
     pub turn-ready : Ready write o′ 0 (mapReading f x)
     turn-ready = record { room = λ e. ready (t .counts e) (t .small) (t .fits e) .room refl }
 
-    module _ {o″ : List ℕ} {r : Place} (w : Went write o′ 0 (mapReading f x) o″ r) where
+    module _ {o″ : List ℕ} {r : PartEnd} (w : Went write o′ 0 (mapReading f x) o″ r) where
       as-counted : write ≡ false → Went false o 0 (mapReading f x) o″ r
       as-counted e =
           subst (λ (l : List ℕ). Went false l 0 (mapReading f x) o″ r) (t .kept e) (subst (λ (b : Bool). Went b o′ 0 (mapReading f x) o″ r) e w)

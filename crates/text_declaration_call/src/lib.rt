@@ -10,7 +10,7 @@ ghost use Rattle.text_declaration_call.specs.Wholes.{wholeDeclarationTex
 use encoding::Check;
 use encoding::Refusal;
 use text_calls::TextAnswer;
-use text_pass::Place;
+use text_pass::PartEnd;
 
 // A declaration is accepted and its text counted before a byte is written, since a refusal leaves the buffer unchanged. Both turns make the same call, so that it is
 // inlined.
@@ -21,7 +21,7 @@ fn fill(words: &[u32], pairs: &[u32], text: &[u8], level: u32, out: &mut [u8]) -
     let mut write = false;
     loop {
         match text_declaration::lay_declaration(write, words, pairs, text, level, 0, out, 0) {
-            Place::At { next, pos: bytes } => {
+            PartEnd::At { next, pos: bytes } => {
                 if write {
                     return TextAnswer::Length(bytes);
                 }
@@ -33,7 +33,7 @@ fn fill(words: &[u32], pairs: &[u32], text: &[u8], level: u32, out: &mut [u8]) -
                 }
                 write = true;
             }
-            Place::Stopped(r) => {
+            PartEnd::Stopped(r) => {
                 return TextAnswer::Refused(r);
             }
         }

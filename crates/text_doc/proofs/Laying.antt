@@ -12,7 +12,7 @@ use Rattle.rast.specs.Doc.{DocStringPrefix, ConvertDocstring, ToDocstringPrefix
 use Rattle.rast.proofs.DocBranches.{at-end}
 use Rattle.buffer.specs.Laid.{Laid, Fits, spaces}
 use Rattle.buffer.proofs.Passes.{length-spaces, laid-nothing, laid-then, laid-as, fits-as, fits-front, fits-behind}
-use Rattle.text_doc.specs.declared.Place.{Place}
+use Rattle.text_doc.specs.declared.Cursor.{Cursor}
 use Rattle.text_doc.specs.declared.Step.{Step}
 use Rattle.text_doc.specs.Steps.{marker, pieceText, Splits}
 
@@ -37,11 +37,11 @@ unfolding ascii
 line-size level = let e = indent-length level in omega (arith, e)
 
 -- what remains of a doc at a place
-abbrev pub rest : Bytes → Bytes → Place → Bytes
+abbrev pub rest : Bytes → Bytes → Cursor → Bytes
 rest ind doc place = ConvertDocstring (drop (place .at) doc) ind (place .started) (marker (place .fence))
 
 -- from the doc's start on, all before the place is laid
-pub record Reached (write : Bool) (ind doc : Bytes) (o : List ℕ) (p : ℕ) (place : Place) (o′ : List ℕ) (p′ : ℕ) : Type 0 where
+pub record Reached (write : Bool) (ind doc : Bytes) (o : List ℕ) (p : ℕ) (place : Cursor) (o′ : List ℕ) (p′ : ℕ) : Type 0 where
   pub front : Bytes
   pub parts : ConvertDocstring doc ind true none ≡ front ++ rest ind doc place
   pub laid : Laid write o p front o′ p′
@@ -50,7 +50,7 @@ pub reached-start : {write : Bool} (ind doc : Bytes) (o : List ℕ) (p : ℕ) �
 unfolding marker
 reached-start ind doc o p = record { front = []; parts = refl; laid = laid-nothing o p }
 
-module _ {write : Bool} {ind doc o o′ : Bytes} {p p′ : ℕ} {place : Place} where
+module _ {write : Bool} {ind doc o o′ : Bytes} {p p′ : ℕ} {place : Cursor} where
   -- there is room for a step's piece
   pub reached-fits : (step : Step) → Fits write o p (ConvertDocstring doc ind true none) → Reached write ind doc o p place o′ p′
       → Splits doc (place .at) (place .started) (place .fence) step → Fits write o′ p′ (pieceText ind (drop (place .at) doc) (step .piece))

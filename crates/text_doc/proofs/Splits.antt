@@ -13,7 +13,7 @@ use lib.Seq.{drop-cons, drop-drop}
 use Rattle.rast.specs.Bytes.{Bytes, ascii, _and_, _or_, same, begins}
 use Rattle.rast.specs.Doc.{DocStringPrefix, isEmptyText, ConvertDocstring}
 use Rattle.rast.proofs.DocBranches.{newline}
-use Rattle.text_doc.specs.declared.Piece.the-variants.{Newline, Bar, Unnamed}
+use Rattle.text_doc.specs.declared.DocPiece.the-variants.{Newline, Bar, Unnamed}
 use Rattle.text_doc.specs.declared.Step.{Step}
 use Rattle.text_doc.specs.Steps.{runOf, lineLength, marker, Stays, Changes, copied, pieceText, copyStep, Splits}
 use Rattle.text_doc.proofs.Runs.{begins-one, begins-at, run-more, line-more}

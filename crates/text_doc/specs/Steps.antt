@@ -8,8 +8,8 @@ use lib.Dec.{eqb}
 use lib.ListN.{length, getD, take, drop, replicate}
 use Rattle.rast.specs.Bytes.{Bytes, ascii}
 use Rattle.rast.specs.Doc.{DocStringPrefix, ConvertDocstring}
-use Rattle.text_doc.specs.declared.Piece.{Piece}
-use Rattle.text_doc.specs.declared.Piece.the-variants.{Newline, Bar, Unnamed, Copied}
+use Rattle.text_doc.specs.declared.DocPiece.{DocPiece}
+use Rattle.text_doc.specs.declared.DocPiece.the-variants.{Newline, Bar, Unnamed, Copied}
 use Rattle.text_doc.specs.declared.Step.{Step}
 
 -- how many bytes x the text begins with
@@ -58,14 +58,14 @@ pub record Changes (doc : Bytes) (at : ℕ) (started : Bool) (fence : ℕ) : Typ
   pub quotes : (getD doc at 0 ≡ 32 → ⊥) → Fence (runOf 96 (drop at doc)) fence
 
 -- how many bytes of the doc a piece takes over
-unfoldable pub copied : Piece → ℕ
+unfoldable pub copied : DocPiece → ℕ
 copied Newline = 0
 copied Bar = 0
 copied (Unnamed count) = count
 copied (Copied count) = count
 
 -- what a piece of the text d lays
-unfoldable pub pieceText : Bytes → Bytes → Piece → Bytes
+unfoldable pub pieceText : Bytes → Bytes → DocPiece → Bytes
 pieceText ind d Newline = ascii "\n" ++ ind ++ DocStringPrefix
 pieceText ind d Bar = ascii "|   "
 pieceText ind d (Unnamed count) = take count d ++ ascii "dafny"

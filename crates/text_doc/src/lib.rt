@@ -14,14 +14,14 @@ ghost use Rattle.buffer.specs.Wrote.{Wrote};
 ghost use Rattle.text_doc.specs.Steps.{runOf, lineLength, Passed, Nearest, Fence, NoFence, Stays, Changes, copied, pieceText, Splits, copyStep};
 
 // Where the conversion stands: at a byte, at a line's start or not, and in code (behind a fence of `fence` backticks) or not (0).
-struct Place {
+struct Cursor {
     at: usize,
     started: bool,
     fence: usize,
 }
 
 // What is laid next: a new line, the mark for four spaces, a fence that gains a name, or bytes as they stand.
-enum Piece {
+enum DocPiece {
     Newline,
     Bar,
     Unnamed(usize),
@@ -30,8 +30,8 @@ enum Piece {
 
 // A piece, and where the conversion goes on behind it.
 struct Step {
-    piece: Piece,
-    next: Place,
+    piece: DocPiece,
+    next: Cursor,
 }
 
 // ---- what stands in the doc
@@ -218,8 +218,8 @@ fn copy_step(at: usize, count: usize, started: bool, fence: usize) -> Step
     ensures { λ r. ⌜ r ≡ copyStep count (at + count) started fence ⌝ }
 {
     Step {
-        piece: Piece::Copied(count),
-        next: Place {
+        piece: DocPiece::Copied(count),
+        next: Cursor {
             at: at + count,
             started,
             fence,
@@ -243,8 +243,8 @@ fn space_step(doc: &[u8], at: usize, fence: usize) -> Step
         return copy_step(at, count, true, fence);
     }
     Step {
-        piece: Piece::Bar,
-        next: Place {
+        piece: DocPiece::Bar,
+        next: Cursor {
             at: at + 4,
             started: false,
             fence: 0,
@@ -258,27 +258,27 @@ fn open_step(doc: &[u8], at: usize, count: usize) -> Step
     ensures { λ r. ⌜ Splits (now (doc .entry)) at true 0 r ⌝ }
 {
     let end = at + count;
-    let next = Place {
+    let next = Cursor {
         at: end,
         started: false,
         fence: count,
     };
     if end == doc.len() {
         return Step {
-            piece: Piece::Unnamed(count),
+            piece: DocPiece::Unnamed(count),
             next,
         };
     }
     if is_blank(doc, end) {
         return Step {
-            piece: Piece::Unnamed(count),
+            piece: DocPiece::Unnamed(count),
             next,
         };
     }
     if is_rust(doc, end) {
         return Step {
-            piece: Piece::Copied(count),
-            next: Place {
+            piece: DocPiece::Copied(count),
+            next: Cursor {
                 at: end + 2,
                 started: false,
                 fence: count,
@@ -334,7 +334,7 @@ fn start_step(doc: &[u8], at: usize, fence: usize) -> Step
     fence_step(doc, at, fence)
 }
 
-fn step_at(doc: &[u8], place: Place) -> Step
+fn step_at(doc: &[u8], place: Cursor) -> Step
     requires { ⌜ place .at < length (now doc) ⌝ }
     ensures { λ r. ⌜ Splits (now (doc .entry)) (place .at) (place .started) (place .fence) r ⌝ }
 {
@@ -342,8 +342,8 @@ fn step_at(doc: &[u8], place: Place) -> Step
     let fence = place.fence;
     if doc[at] == b'\n' {
         return Step {
-            piece: Piece::Newline,
-            next: Place {
+            piece: DocPiece::Newline,
+            next: Cursor {
                 at: at + 1,
                 started: true,
                 fence,
@@ -383,7 +383,7 @@ fn lay_piece(
     doc: &[u8],
     level: u32,
     at: usize,
-    piece: Piece,
+    piece: DocPiece,
     out: &mut [u8],
     pos: usize,
 ) -> usize
@@ -391,16 +391,16 @@ fn lay_piece(
     ensures { λ r. ⌜ Laid write (now (out .entry)) pos (pieceText (indent level) (drop at (now (doc .entry))) piece) (now (out .exit)) r ⌝ }
 {
     match piece {
-        Piece::Newline => {
+        DocPiece::Newline => {
             let next = lay_line(write, level, out, pos);
             buffer::lay(write, b"/// ", out, next)
         }
-        Piece::Bar => buffer::lay(write, b"|   ", out, pos),
-        Piece::Unnamed(count) => {
+        DocPiece::Bar => buffer::lay(write, b"|   ", out, pos),
+        DocPiece::Unnamed(count) => {
             let next = buffer::lay_part(write, doc, at, count, out, pos);
             buffer::lay(write, b"dafny", out, next)
         }
-        Piece::Copied(count) => buffer::lay_part(write, doc, at, count, out, pos),
+        DocPiece::Copied(count) => buffer::lay_part(write, doc, at, count, out, pos),
     }
 }
 
@@ -409,7 +409,7 @@ fn lay_converted(write: bool, doc: &[u8], level: u32, out: &mut [u8], pos: usize
     requires { ⌜ Fits write (now out) pos (ConvertDocstring (now doc) (indent level) true none) ⌝ }
     ensures { λ r. ⌜ Laid write (now (out .entry)) pos (ConvertDocstring (now (doc .entry)) (indent level) true none) (now (out .exit)) r ⌝ }
 {
-    let mut place = Place {
+    let mut place = Cursor {
         at: 0,
         started: true,
         fence: 0,

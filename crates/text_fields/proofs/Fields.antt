@@ -20,7 +20,7 @@ use Rattle.encoding.specs.Scans.{mapReading}
 use Rattle.encoding.specs.Tables.{nameBytes, nameCount}
 use Rattle.encoding.specs.Types.{typeAt}
 use Rattle.encoding.specs.Declarations.{readList, readVisibility, readFormal, readField, readNamelessField}
-use Rattle.text_pass.specs.declared.Place.the-variants.{At}
+use Rattle.text_pass.specs.declared.PartEnd.the-variants.{At}
 use Rattle.text_pass.specs.Passes.{last, _then_, run, Came, came, Along}
 use Rattle.text_pass.specs.Texts.{visibilityAt}
 use Rattle.text_pass.proofs.Passes.{Runs, came-to}
@@ -28,7 +28,7 @@ use Rattle.text_pass.proofs.Leaves.{CountFirst, counted-first}
 use Rattle.text_pass.proofs.Splits.{split₂, listed-read, listed-same, around, within-same}
 use Rattle.text_fields.specs.declared.Entry.{Entry}
 use Rattle.text_fields.specs.declared.Entry.the-variants.{Named, Inline, Lined}
-use Rattle.text_fields.specs.Texts.{lineText, isNamed, entryGap, listFront, listEnd, noFields, namelessEntry, fieldAt, restAt, entryAt, entriesAt, someAt, listAt}
+use Rattle.text_fields.specs.Texts.{lineText, areNamed, entryGap, listFront, listEnd, noFields, namelessEntry, fieldAt, restAt, entryAt, entriesAt, someAt, listAt}
 
 -- the indent of the next level
 pub indent-more : (level : ℕ) → indent (level + 1) ≡ indent level ++ IND
@@ -144,7 +144,7 @@ module _ (ws pairs : List ℕ) (text : Bytes) where
       ∙ within-same (ascii "(") (ascii ")") p (λ q. mapReading (SeqToString NamelessField·ToString (separatorText (indent level) newLine)) (readList (readNamelessField bound ws name type) n q))
       (entriesAt ws pairs text (namelessEntry newLine) level n) (nameless-read newLine level n p)
 
-  pub list-first : (entry : Entry) (level at : ℕ) → CountFirst ws at (listAt ws pairs text entry level at) (noFields (isNamed entry)) (λ n p. last (someAt ws pairs text entry level n p))
+  pub list-first : (entry : Entry) (level at : ℕ) → CountFirst ws at (listAt ws pairs text entry level at) (noFields (areNamed entry)) (λ n p. last (someAt ws pairs text entry level n p))
   unfolding noFields Fields·ToString SeqToString ascii listFront listEnd run
   list-first Named level at = counted-first (λ l. Fields·ToString (indent level) true (NamedFields l)) ws (readField bound ws name type) at (named-some level)
   list-first Inline level at = counted-first (λ l. Fields·ToString (indent level) false (NamelessFields l)) ws (readNamelessField bound ws name type) at (nameless-some false level)
@@ -152,6 +152,6 @@ module _ (ws pairs : List ℕ) (text : Bytes) where
 
   -- ---- a list that is not empty, as a chain
 
-  pub some-runs : (entry : Entry) (level n at : ℕ) {named : Bool} → named ≡ isNamed entry → Runs (someAt ws pairs text entry level n at)
+  pub some-runs : (entry : Entry) (level n at : ℕ) {named : Bool} → named ≡ areNamed entry → Runs (someAt ws pairs text entry level n at)
       (got (listFront named level) at then λ p. entriesAt ws pairs text entry level n p then λ q. last (got (listEnd named level) q))
   some-runs entry level n at e = record { same = ap (λ (b : Bool). run (got (listFront b level) at then λ p. entriesAt ws pairs text entry level n p then λ q. last (got (listEnd b level) q))) (sym e) }

@@ -23,10 +23,10 @@ abbrev pub lineText : ℕ → Bytes
 lineText level = ascii "\n" ++ indent level
 
 -- whether the fields of a list have names
-abbrev pub isNamed : Entry → Bool
-isNamed Named = true
-isNamed Inline = false
-isNamed Lined = false
+abbrev pub areNamed : Entry → Bool
+areNamed Named = true
+areNamed Inline = false
+areNamed Lined = false
 
 -- what stands between two of them
 unfoldable pub entryGap : Entry → ℕ → Bytes
@@ -74,14 +74,14 @@ module _ (ws pairs : List ℕ) (text : Bytes) where
 
   -- one of a list, n of them, and these with what stands around them
   abbrev pub entryAt : Entry → ℕ → Reading Bytes
-  entryAt entry at = fieldAt (isNamed entry) at
+  entryAt entry at = fieldAt (areNamed entry) at
 
   abbrev pub entriesAt : Entry → ℕ → ℕ → ℕ → Reading Bytes
   entriesAt entry level n at = listed (entryAt entry) (entryGap entry level) n at
 
   abbrev pub someAt : Entry → ℕ → ℕ → ℕ → Reading Bytes
   someAt entry level n at =
-      run (got (listFront (isNamed entry) level) at then λ p. entriesAt entry level n p then λ q. last (got (listEnd (isNamed entry) level) q))
+      run (got (listFront (areNamed entry) level) at then λ p. entriesAt entry level n p then λ q. last (got (listEnd (areNamed entry) level) q))
 
   -- how many, and then these: fields behind the word that says which they are
   abbrev pub namedAt : ℕ → ℕ → Reading Bytes

@@ -9,11 +9,11 @@ ghost use Rattle.buffer.specs.Wrote.{Wrote};
 ghost use Rattle.text_pass.specs.Passes.{Checked, Ready, Came, Counts};
 ghost use Rattle.text_pass.specs.Texts.{typeTextAt};
 ghost use Rattle.text_formal.specs.Labels.{Labelled, LabelWritten};
-ghost use Rattle.text_fields.specs.Texts.{isNamed, entryGap, listFront, listEnd, noFields, restAt, fieldAt, entriesAt, someAt, listAt};
+ghost use Rattle.text_fields.specs.Texts.{areNamed, entryGap, listFront, listEnd, noFields, restAt, fieldAt, entriesAt, someAt, listAt};
 use accepted_types::Spot;
 use encoding::WordScan;
 use text_formal::Label;
-use text_pass::Place;
+use text_pass::PartEnd;
 use text_type::Part;
 
 // What a list is of: named fields, which stand on lines of their own, or fields without names, one behind the other or on lines of their own.
@@ -25,7 +25,7 @@ pub enum Entry {
 
 // Whether they have names.
 fn is_named(entry: Entry) -> bool
-    ensures { λ r. ⌜ r ≡ isNamed entry ⌝ }
+    ensures { λ r. ⌜ r ≡ areNamed entry ⌝ }
 {
     match entry {
         Entry::Named => true,
@@ -62,14 +62,14 @@ fn count_rest(
     named: bool,
     at: usize,
     pos: usize,
-) -> Place
+) -> PartEnd
     requires { ⌜ Checked (now words) (now pairs) (now text) ⌝ }
     ensures { λ r. ⌜ Counts pos (restAt (now (words .entry)) (now (pairs .entry)) (now (text .entry)) named at) r ⌝ }
 {
     match count_label(words, pairs, text, named, at, pos) {
         Label::Open { next, pos: p } => text_pass::count_field_type(words, pairs, text, next, p),
-        Label::Whole { next, pos: p } => Place::At { next, pos: p },
-        Label::NoLabel(r) => Place::Stopped(r),
+        Label::Whole { next, pos: p } => PartEnd::At { next, pos: p },
+        Label::NoLabel(r) => PartEnd::Stopped(r),
     }
 }
 
@@ -81,12 +81,12 @@ fn count_field(
     named: bool,
     at: usize,
     pos: usize,
-) -> Place
+) -> PartEnd
     requires { ⌜ Checked (now words) (now pairs) (now text) ⌝ }
     ensures { λ r. ⌜ Counts pos (fieldAt (now (words .entry)) (now (pairs .entry)) (now (text .entry)) named at) r ⌝ }
 {
     let visibility = text_pass::count_visibility(words, at, pos);
-    let Place::At { next, pos: p } = visibility else {
+    let PartEnd::At { next, pos: p } = visibility else {
         return visibility;
     };
     count_rest(words, pairs, text, named, next, p)
@@ -146,7 +146,7 @@ fn count_entries(
     n: u32,
     at: usize,
     pos: usize,
-) -> Place
+) -> PartEnd
     requires { ⌜ Checked (now words) (now pairs) (now text) × (0 < n) × (level < 2 ^ 31) ⌝ }
     ensures { λ r. ⌜ Counts pos (entriesAt (now (words .entry)) (now (pairs .entry)) (now (text .entry)) entry level n at) r ⌝ }
 {
@@ -156,7 +156,7 @@ fn count_entries(
     let mut left = n;
     loop {
         let one = count_field(words, pairs, text, named, place, p);
-        let Place::At { next, pos: end } = one else {
+        let PartEnd::At { next, pos: end } = one else {
             return one;
         };
         left -= 1;
@@ -178,17 +178,17 @@ fn count_some(
     n: u32,
     at: usize,
     pos: usize,
-) -> Place
+) -> PartEnd
     requires { ⌜ Checked (now words) (now pairs) (now text) × (0 < n) × (level < 2 ^ 31) ⌝ }
     ensures { λ r. ⌜ Counts pos (someAt (now (words .entry)) (now (pairs .entry)) (now (text .entry)) entry level n at) r ⌝ }
 {
     let named = is_named(entry);
     let p = buffer::count_few(pos, front_length(named, level));
     let list = count_entries(words, pairs, text, entry, level, n, at, p);
-    let Place::At { next, pos: end } = list else {
+    let PartEnd::At { next, pos: end } = list else {
         return list;
     };
-    Place::At {
+    PartEnd::At {
         next,
         pos: buffer::count_few(end, end_length(named, level)),
     }
@@ -203,21 +203,21 @@ pub fn count_list(
     level: u32,
     at: usize,
     pos: usize,
-) -> Place
+) -> PartEnd
     requires { ⌜ Checked (now words) (now pairs) (now text) × (level < 2 ^ 31) ⌝ }
     ensures { λ r. ⌜ Counts pos (listAt (now (words .entry)) (now (pairs .entry)) (now (text .entry)) entry level at) r ⌝ }
 {
     match encoding::scan_word(words, at) {
         WordScan::Word { value, next } => {
             if value == 0 {
-                return Place::At {
+                return PartEnd::At {
                     next,
                     pos: buffer::count_few(pos, none_length(is_named(entry))),
                 };
             }
             count_some(words, pairs, text, entry, level, value, next, pos)
         }
-        WordScan::NoWord(r) => Place::Stopped(r),
+        WordScan::NoWord(r) => PartEnd::Stopped(r),
     }
 }
 

@@ -22,7 +22,7 @@ use Rattle.encoding.specs.HeadWords.{kids}
 use Rattle.encoding.specs.Types.{readTypes, readNode, readType}
 use Rattle.encoding.proofs.Inside.{head-lies}
 use Rattle.encoding.proofs.Types.{type-advances}
-use Rattle.text_measure.specs.Lengths.{ownLength, modeOf, Counted, exact, many}
+use Rattle.text_measure.specs.Lengths.{ownLength, modeOf, CutDown, exact, many}
 use Rattle.text_measure.specs.Levels.{shownLength, levelsAt, restAt, stacked}
 use Rattle.text_measure.proofs.Texts.{bind-assoc, bind-same, node-length}
 
@@ -107,12 +107,12 @@ module _ (ws pairs : List ℕ) (text : Bytes) (good : Good pairs text) where
       too-many d k n q (l .1) (omega (arith, l .0)) (omega (arith, l .0))
 
   -- so a count may be cut down
-  pub types-cut : {A : Type 0} (d : ℕ) {k n : ℕ} → Counted k n → (p : ℕ) (g : Tys Bytes → ℕ → Reading A) → length ws ≤ 8192 → 0 < p → p ≤ length ws
+  pub types-cut : {A : Type 0} (d : ℕ) {k n : ℕ} → CutDown k n → (p : ℕ) (g : Tys Bytes → ℕ → Reading A) → length ws ≤ 8192 → 0 < p → p ≤ length ws
       → (readTypes (types d) k p >>= g) ≡ (readTypes (types d) n p >>= g)
   types-cut d (exact e) p g f z h = rw e
   types-cut d {k} {n} (many a b) p g f z h = let i = too-many d k n p h (omega arith) (omega arith) in rw (i .first, i .second)
 
-  pub rest-cut : (d m : ℕ) {k n : ℕ} → Counted k n → (ls : List ℕ) (p total : ℕ) → length ws ≤ 8192 → 0 < p → p ≤ length ws
+  pub rest-cut : (d m : ℕ) {k n : ℕ} → CutDown k n → (ls : List ℕ) (p total : ℕ) → length ws ≤ 8192 → 0 < p → p ≤ length ws
       → restAt types d m k ls p total ≡ restAt types d m n ls p total
   unfolding restAt
   rest-cut d m (exact e) ls p total f z h = rw e

@@ -20,7 +20,7 @@ use Rattle.text_measure.specs.declared.PathMeasure.{PathMeasure}
 use Rattle.text_measure.specs.declared.PathMeasure.the-variants.{MeasuredPath, NoPath}
 use Rattle.text_measure.specs.declared.OwnScan.{OwnScan}
 use Rattle.text_measure.specs.declared.OwnScan.the-variants.{Leaf, Node, NoNode}
-use Rattle.text_measure.specs.Lengths.{pathLength, ownLength, modeOf, worded, namesPath, Counted, exact, many, PathScanned, read, unread, Scanned, leaf, node, none}
+use Rattle.text_measure.specs.Lengths.{pathLength, ownLength, modeOf, worded, namesPath, CutDown, exact, many, PathScanned, read, unread, Scanned, leaf, node, none}
 
 -- a path, behind its root and its count
 pub path-names : (bound : ℕ) (ws : List ℕ) (at : ℕ) {root p n q : ℕ} → readBelow 3 ws at ≡ got root p → readWord ws p ≡ got n q
@@ -55,11 +55,11 @@ module _ {ws pairs : List ℕ} {x : Reading PathAt} where
   path-stop {k = k} (unread {r} e) d = let f : r ≡ k = cc in rw f at e
 
 -- one type more, by a count that may be cut down
-pub counted-more : {k n : ℕ} → Counted k n → Counted (k + 1) (n + 1)
+pub counted-more : {k n : ℕ} → CutDown k n → CutDown (k + 1) (n + 1)
 counted-more {k} {n} (exact e) = let f : k + 1 ≡ n + 1 = omega arith in exact f
 counted-more {k} {n} (many h l) = let f : 8192 ≤ k + 1 = omega arith in let g : 8192 ≤ n + 1 = omega arith in many f g
 
-pub counted-some : {k n : ℕ} → Counted k n → 0 < n → 0 < k
+pub counted-some : {k n : ℕ} → CutDown k n → 0 < n → 0 < k
 counted-some (exact e) h = omega arith
 counted-some (many k l) h = omega arith
 
@@ -85,7 +85,7 @@ module _ (ws pairs : List ℕ) {x : Reading Head} where
   scanned-leaf h e d k b short = rw d (leaf e k b short)
 
   pub scanned-counted : (h : Head) {r : OwnScan} {n k b m : ℕ} → x ≡ got h n → r ≡ Node n k b m
-      → Counted k (kids h) → b ≡ ownLength ws (nameLength pairs) h → m ≡ modeOf h → 0 < k → k ≤ 2 ^ 15 → b ≤ 2 ^ 46 → Scanned ws pairs x r
+      → CutDown k (kids h) → b ≡ ownLength ws (nameLength pairs) h → m ≡ modeOf h → 0 < k → k ≤ 2 ^ 15 → b ≤ 2 ^ 46 → Scanned ws pairs x r
   scanned-counted h e d k b m some few short = rw d (node e k b m some few short)
 
   pub scanned-node : (h : Head) {r : OwnScan} {n k b m : ℕ} → x ≡ got h n → r ≡ Node n k b m

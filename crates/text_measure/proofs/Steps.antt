@@ -28,7 +28,7 @@ use Rattle.text_measure.specs.declared.OwnScan.the-variants.{Leaf, Node,
 use Rattle.text_measure.specs.declared.Pass.{Pass}
 use Rattle.text_measure.specs.declared.Step.{Step}
 use Rattle.text_measure.specs.declared.Step.the-variants.{On, Ended, Halt}
-use Rattle.text_measure.specs.Lengths.{measureOf, ownLength, modeOf, Counted, Scanned, leaf, node, none}
+use Rattle.text_measure.specs.Lengths.{measureOf, ownLength, modeOf, CutDown, Scanned, leaf, node, none}
 use Rattle.text_measure.specs.Levels.{shownLength, levelsAt, restAt, stacked, restOf, leaving, beside, under, levelOf, pushed, Outward, Kept, Stepped, on, ended, halt}
 use Rattle.text_measure.proofs.Rests.{level-due, level-mode, stacked-push, stacked-top, rest-above, rest-ended, rest-deep, rest-stop, rest-down, rest-cut}
 
@@ -46,7 +46,7 @@ pub record OwnLeaf (ws pairs : List ℕ) (mode : ℕ) (x : Reading Head) (next b
 pub record OwnNode (ws pairs : List ℕ) (mode : ℕ) (x : Reading Head) (next kids′ bytes below : ℕ) : Type 0 where
   pub head : Head
   pub read : x ≡ got head next
-  pub same-kids : Counted kids′ (kids head)
+  pub same-kids : CutDown kids′ (kids head)
   pub same-bytes : bytes ≡ ownLength ws (nameLength pairs) head
   pub same-below : below ≡ modeOf head
   pub some : 0 < kids′

@@ -93,9 +93,9 @@ modeOf Synonym = 2
 modeOf (Meta x) = 1
 
 -- a count of types as it is read, or cut down: more than `maxWords` of them find no words either way
-pub data Counted (k n : ℕ) : Type 0 where
-  exact : k ≡ n → Counted k n
-  many : maxWords ≤ k → maxWords ≤ n → Counted k n
+pub data CutDown (k n : ℕ) : Type 0 where
+  exact : k ≡ n → CutDown k n
+  many : maxWords ≤ k → maxWords ≤ n → CutDown k n
 
 -- the answer says what the reading of a path says, and its bytes are few enough that no sum over the words overflows
 pub data PathScanned (ws pairs : List ℕ) (x : Reading PathAt) : PathMeasure → Type 0 where
@@ -105,6 +105,6 @@ pub data PathScanned (ws pairs : List ℕ) (x : Reading PathAt) : PathMeasure �
 -- the answer says what the reading of a head says, with few enough types and bytes that no sum over the words overflows
 pub data Scanned (ws pairs : List ℕ) (x : Reading Head) : OwnScan → Type 0 where
   leaf : {h : Head} {n b : ℕ} → x ≡ got h n → kids h ≡ 0 → b ≡ ownLength ws (nameLength pairs) h → b ≤ 2 ^ 46 → Scanned ws pairs x (Leaf n b)
-  node : {h : Head} {n k b m : ℕ} → x ≡ got h n → Counted k (kids h) → b ≡ ownLength ws (nameLength pairs) h → m ≡ modeOf h → 0 < k → k ≤ 2 ^ 15 → b ≤ 2 ^ 46
+  node : {h : Head} {n k b m : ℕ} → x ≡ got h n → CutDown k (kids h) → b ≡ ownLength ws (nameLength pairs) h → m ≡ modeOf h → 0 < k → k ≤ 2 ^ 15 → b ≤ 2 ^ 46
       → Scanned ws pairs x (Node n k b m)
   none : {r : Refusal} → x ≡ stop r → Scanned ws pairs x (NoNode r)

@@ -12,7 +12,7 @@ ghost use Rattle.encoding.specs.Tested.{Good, nameLength};
 ghost use Rattle.encoding.specs.Heads.{readPath, pathHead, headAfter, readHead};
 ghost use Rattle.encoding.specs.Types.{rootOf, typeAt};
 ghost use Rattle.encoding.specs.declared.Head.the-variants.{Name, Apply, Tuple, Function, ArrayOf, Meta};
-ghost use Rattle.text_measure.specs.Lengths.{measureOf, pathMeasureOf, arrayLength, namesPath, worded, Counted, PathScanned, Scanned};
+ghost use Rattle.text_measure.specs.Lengths.{measureOf, pathMeasureOf, arrayLength, namesPath, worded, CutDown, PathScanned, Scanned};
 ghost use Rattle.text_measure.specs.Levels.{leaving, beside, under, pushed, Outward, Kept, Stepped};
 use encoding::PathAt;
 use encoding::Refusal;
@@ -228,7 +228,7 @@ const MOST_TYPES: u32 = MAX_WORDS as u32;
 
 // A count of types, cut down: more than these find no words, so which number it is makes no difference, and a level fits 16 bits.
 pub fn cut(count: u32) -> u64
-    ensures { λ r. ⌜ Counted r count × (r ≤ maxWords) ⌝ }
+    ensures { λ r. ⌜ CutDown r count × (r ≤ maxWords) ⌝ }
 {
     if MOST_TYPES < count {
         return MAX_WORDS as u64;

@@ -3,7 +3,7 @@ ghost use Prim.Native.Nat.{_<_};
 ghost use Rattle.text_pass.specs.Passes.{Checked, Ready, Went};
 ghost use Rattle.text_parameters.specs.Texts.{someConstraints, constraintsAt, parameterAt, someParameters, parametersAt};
 use encoding::WordScan;
-use text_pass::Place;
+use text_pass::PartEnd;
 
 // `n` constraints, one at least.
 fn lay_constraints(
@@ -15,7 +15,7 @@ fn lay_constraints(
     at: usize,
     out: &mut [u8],
     pos: usize,
-) -> Place
+) -> PartEnd
     requires { ⌜ Checked (now words) (now pairs) (now text) × (0 < n) × Ready write (now out) pos (someConstraints (now words) (now pairs) (now text) n at) ⌝ }
     ensures { λ r. ⌜ Went write (now (out .entry)) pos (someConstraints (now (words .entry)) (now (pairs .entry)) (now (text .entry)) n at) (now (out .exit)) r ⌝ }
 {
@@ -24,7 +24,7 @@ fn lay_constraints(
     let mut left = n;
     loop {
         let one = text_pass::lay_type(write, words, pairs, text, place, out, p);
-        let Place::At { next, pos: end } = one else {
+        let PartEnd::At { next, pos: end } = one else {
             return one;
         };
         left -= 1;
@@ -45,19 +45,19 @@ fn lay_constraint_list(
     at: usize,
     out: &mut [u8],
     pos: usize,
-) -> Place
+) -> PartEnd
     requires { ⌜ Checked (now words) (now pairs) (now text) × Ready write (now out) pos (constraintsAt (now words) (now pairs) (now text) at) ⌝ }
     ensures { λ r. ⌜ Went write (now (out .entry)) pos (constraintsAt (now (words .entry)) (now (pairs .entry)) (now (text .entry)) at) (now (out .exit)) r ⌝ }
 {
     match encoding::scan_word(words, at) {
         WordScan::Word { value, next } => {
             if value == 0 {
-                return Place::At { next, pos };
+                return PartEnd::At { next, pos };
             }
             let p = buffer::lay(write, b": ", out, pos);
             lay_constraints(write, words, pairs, text, value, next, out, p)
         }
-        WordScan::NoWord(r) => Place::Stopped(r),
+        WordScan::NoWord(r) => PartEnd::Stopped(r),
     }
 }
 
@@ -70,12 +70,12 @@ fn lay_parameter(
     at: usize,
     out: &mut [u8],
     pos: usize,
-) -> Place
+) -> PartEnd
     requires { ⌜ Checked (now words) (now pairs) (now text) × Ready write (now out) pos (parameterAt (now words) (now pairs) (now text) at) ⌝ }
     ensures { λ r. ⌜ Went write (now (out .entry)) pos (parameterAt (now (words .entry)) (now (pairs .entry)) (now (text .entry)) at) (now (out .exit)) r ⌝ }
 {
     let name = text_pass::lay_name(write, words, pairs, text, at, out, pos);
-    let Place::At { next, pos: p } = name else {
+    let PartEnd::At { next, pos: p } = name else {
         return name;
     };
     lay_constraint_list(write, words, pairs, text, next, out, p)
@@ -91,7 +91,7 @@ fn lay_parameters(
     at: usize,
     out: &mut [u8],
     pos: usize,
-) -> Place
+) -> PartEnd
     requires { ⌜ Checked (now words) (now pairs) (now text) × (0 < n) × Ready write (now out) pos (someParameters (now words) (now pairs) (now text) n at) ⌝ }
     ensures { λ r. ⌜ Went write (now (out .entry)) pos (someParameters (now (words .entry)) (now (pairs .entry)) (now (text .entry)) n at) (now (out .exit)) r ⌝ }
 {
@@ -100,7 +100,7 @@ fn lay_parameters(
     let mut left = n;
     loop {
         let one = lay_parameter(write, words, pairs, text, place, out, p);
-        let Place::At { next, pos: end } = one else {
+        let PartEnd::At { next, pos: end } = one else {
             return one;
         };
         left -= 1;
@@ -121,25 +121,25 @@ pub fn lay_parameter_list(
     at: usize,
     out: &mut [u8],
     pos: usize,
-) -> Place
+) -> PartEnd
     requires { ⌜ Checked (now words) (now pairs) (now text) × Ready write (now out) pos (parametersAt (now words) (now pairs) (now text) at) ⌝ }
     ensures { λ r. ⌜ Went write (now (out .entry)) pos (parametersAt (now (words .entry)) (now (pairs .entry)) (now (text .entry)) at) (now (out .exit)) r ⌝ }
 {
     match encoding::scan_word(words, at) {
         WordScan::Word { value, next } => {
             if value == 0 {
-                return Place::At { next, pos };
+                return PartEnd::At { next, pos };
             }
             let p = buffer::lay(write, b"<", out, pos);
             let list = lay_parameters(write, words, pairs, text, value, next, out, p);
-            let Place::At { next: end, pos: q } = list else {
+            let PartEnd::At { next: end, pos: q } = list else {
                 return list;
             };
-            Place::At {
+            PartEnd::At {
                 next: end,
                 pos: buffer::lay(write, b">", out, q),
             }
         }
-        WordScan::NoWord(r) => Place::Stopped(r),
+        WordScan::NoWord(r) => PartEnd::Stopped(r),
     }
 }

@@ -17,8 +17,8 @@ use Rattle.encoding.proofs.Tables.{impossible}
 use Rattle.encoding.proofs.Types.{bind-got}
 use Rattle.encoding.proofs.Reading.{map-got, map-stop, scan-got}
 use Rattle.accepted_types.specs.Accepted.{Readable, EndsAt}
-use Rattle.text_pass.specs.declared.Place.{Place}
-use Rattle.text_pass.specs.declared.Place.the-variants.{Stopped}
+use Rattle.text_pass.specs.declared.PartEnd.{PartEnd}
+use Rattle.text_pass.specs.declared.PartEnd.the-variants.{Stopped}
 use Rattle.text_pass.specs.Passes.{Chain, _then_, _later_, run, Ready, Came, Went, came, stopped}
 use Rattle.text_pass.proofs.Passes.{AlongChain, ready-as, ready-count, went-as, stops-here, was-stopped, chain-fits, chain-laid}
 use Rattle.text_pass.proofs.Splits.{followed, run-followed}
@@ -65,7 +65,7 @@ module _ {write : Bool} {o : List ℕ} {p : ℕ} {whole : Reading Bytes} {o₁ :
 -- ---- where it is shown
 
 -- what was read once is not refused
-pub later-never : {A : Type 0} {write : Bool} {o o′ : List ℕ} {p n : ℕ} {x : Reading Bytes} {r : Place} {k : Refusal} → EndsAt x n → Went write o p x o′ r → r ≡ Stopped k → A
+pub later-never : {A : Type 0} {write : Bool} {o o′ : List ℕ} {p n : ℕ} {x : Reading Bytes} {r : PartEnd} {k : Refusal} → EndsAt x n → Went write o p x o′ r → r ≡ Stopped k → A
 later-never e w d = impossible (let s = was-stopped w d .0 in cc (e .reads))
 
 -- it is read again from where it began, and the pass goes on where it had come to
@@ -80,7 +80,7 @@ module _ {write : Bool} {o : List ℕ} {p : ℕ} {whole : Reading Bytes} {o₁ :
 -- ---- counted in the order of the words
 
 -- a count depends on the length of a text alone
-counts-size : {o o′ : List ℕ} {p : ℕ} {r : Place} (x y : Reading Bytes) → mapReading length x ≡ mapReading length y → Went false o p x o′ r → Went false o p y o′ r
+counts-size : {o o′ : List ℕ} {p : ℕ} {r : PartEnd} (x y : Reading Bytes) → mapReading length x ≡ mapReading length y → Went false o p x o′ r → Went false o p y o′ r
 unfolding mapReading
 counts-size {o} {o′} {p} x (got c m) e (came {n = n} {p′ = q} d) =
     let f : got (length (d .bytes)) n ≡ got (length c) m = sym (map-got length (d .reads)) ∙ e in

@@ -41,8 +41,8 @@ use Rattle.accepted_types.specs.declared.Spot.{Spot}
 use Rattle.accepted_types.specs.Accepted.{Readable}
 use Rattle.text_type.specs.Written.{Room, Written}
 use Rattle.accepted_types.proofs.Accepted.{type-here}
-use Rattle.text_pass.specs.declared.Place.{Place}
-use Rattle.text_pass.specs.declared.Place.the-variants.{At, Stopped}
+use Rattle.text_pass.specs.declared.PartEnd.{PartEnd}
+use Rattle.text_pass.specs.declared.PartEnd.the-variants.{At, Stopped}
 use Rattle.text_pass.specs.Passes.{Chain, last, _then_, run, Checked, Ready, Came, Went, Counts, came}
 use Rattle.text_pass.specs.Texts.{visibilityAt, nameAt, typeTextAt, docAt}
 use Rattle.text_pass.proofs.Passes.{Runs, AlongChain, came-to, came-as, came-at, came-bytes, chain-fits, chain-laid, chain-start, counts-bytes, last-came, last-ready, ready-as, ready-bytes, stops-here, went-as, went-last, went-runs, went-then}
@@ -186,7 +186,7 @@ module _ (deep : ℕ) (ws pairs : List ℕ) (text : Bytes) (at : ℕ) where
       → Came false [] p (textWithin (suc deep) ws pairs text at) [] (at + 1) q
   plain-counts h k e c = came-as (sym (plain-text h k)) (came-bytes (at + 1) (laid-size refl c e))
 
-  pub named-counts : {p : ℕ} {r : Place} → at < length ws → getD ws at 0 ≡ identifierKind → Counts p (nameAt ws pairs text (at + 1)) r → Counts p (textWithin (suc deep) ws pairs text at) r
+  pub named-counts : {p : ℕ} {r : PartEnd} → at < length ws → getD ws at 0 ≡ identifierKind → Counts p (nameAt ws pairs text (at + 1)) r → Counts p (textWithin (suc deep) ws pairs text at) r
   named-counts h k w = went-as (sym (named-text h k)) w
 
 -- ---- borrows
@@ -207,7 +207,7 @@ module _ (ws pairs : List ℕ) (text : Bytes) (at : ℕ) (h : at < length ws) (k
   unfolding readType
   borrow-within = rw borrow-head (borrow-runs ws (nameBytes pairs text) (readType (nameCount pairs) ws (nameBytes pairs text) (maxDepth - 1)) (at + 1))
 
-  pub borrow-counts : {p : ℕ} {r : Place} → Counts (p + 1) (textWithin (maxDepth - 1) ws pairs text (at + 1)) r → Counts p (typeTextAt ws pairs text at) r
+  pub borrow-counts : {p : ℕ} {r : PartEnd} → Counts (p + 1) (textWithin (maxDepth - 1) ws pairs text (at + 1)) r → Counts p (typeTextAt ws pairs text at) r
   unfolding ascii
   borrow-counts w = went-runs borrow-within (went-then (counts-bytes refl) (went-last w))
 

@@ -14,8 +14,8 @@ use Rattle.encoding.specs.Reading.{Reading, got, stop, _>>=_}
 use Rattle.encoding.specs.Scans.{mapReading}
 use Rattle.encoding.specs.Declarations.{readList}
 use Rattle.accepted_types.specs.Accepted.{EndsAt}
-use Rattle.text_pass.specs.declared.Place.{Place}
-use Rattle.text_pass.specs.declared.Place.the-variants.{At, Stopped}
+use Rattle.text_pass.specs.declared.PartEnd.{PartEnd}
+use Rattle.text_pass.specs.declared.PartEnd.the-variants.{At, Stopped}
 use Rattle.text_pass.specs.Passes.{Chain, last, _then_, run, listed, listedSome, Ready, Came, Went, came, Along}
 use Rattle.text_pass.proofs.Passes.{Runs, AlongChain, ready-as, ready-runs, went-as, went-runs, came-nothing, came-to, stops-here, chain-fits, chain-laid, chain-next, chain-ready, chain-stop, last-ready, last-went, along-start}
 use Rattle.text_pass.proofs.Splits.{map-alike, nothing-behind}
@@ -192,7 +192,7 @@ module _ {A : Type 0} {shows : A → Bool} {text : A → Bytes} {item : ℕ → 
           pub some-item : Ready write o₂ p₂ (mapReading text (item place))
           some-item = chain-ready (chain-laid shown-chain l)
 
-          pub some-item-stop : {o₃ : List ℕ} {r : Place} {k : Refusal} → Went write o₂ p₂ (mapReading text (item place)) o₃ r → r ≡ Stopped k
+          pub some-item-stop : {o₃ : List ℕ} {r : PartEnd} {k : Refusal} → Went write o₂ p₂ (mapReading text (item place)) o₃ r → r ≡ Stopped k
               → Went write o p (listedSome shows text item first separator n at) o₃ r
           some-item-stop w e = chain-stop (chain-laid shown-chain l) w e
 

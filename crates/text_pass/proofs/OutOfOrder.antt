@@ -19,8 +19,8 @@ use Rattle.encoding.specs.Heads.{headAfter, readHead}
 use Rattle.encoding.specs.Types.{primitives, readNode, readType, typeAt}
 use Rattle.encoding.specs.Declarations.{visibilityOf, readVisibility, readName, readList}
 use Rattle.accepted_types.specs.Accepted.{EndsAt}
-use Rattle.text_pass.specs.declared.Place.{Place}
-use Rattle.text_pass.specs.declared.Place.the-variants.{Stopped}
+use Rattle.text_pass.specs.declared.PartEnd.{PartEnd}
+use Rattle.text_pass.specs.declared.PartEnd.the-variants.{Stopped}
 use Rattle.text_pass.specs.Passes.{last, _then_, _later_, listedSome, Ready, Came, Went}
 use Rattle.text_pass.specs.Texts.{visibilityAt, nameAt, typeTextAt}
 use Rattle.text_pass.proofs.Passes.{Runs, AlongChain, ready-count, chain-start, chain-ready, chain-next, chain-stop, last-fits, last-laid}
@@ -55,7 +55,7 @@ module _ (ws pairs : List ℕ) (text : Bytes) (at : ℕ) where
       visibility-needs : Ready write o p (visibilityAt ws n)
       visibility-needs = chain-ready (later-next start e)
 
-      visibility-refused : {o₁ : List ℕ} {r : Place} {k : Refusal} → Went write o p (visibilityAt ws n) o₁ r → r ≡ Stopped k → Went write o p fieldAt o₁ r
+      visibility-refused : {o₁ : List ℕ} {r : PartEnd} {k : Refusal} → Went write o p (visibilityAt ws n) o₁ r → r ≡ Stopped k → Went write o p fieldAt o₁ r
       visibility-refused w d = chain-stop (later-next start e) w d
 
       module _ {o₁ : List ℕ} {m p₁ : ℕ} (v : Came write o p (visibilityAt ws n) o₁ m p₁) where

@@ -12,8 +12,8 @@ use Rattle.encoding.specs.Refusals.{pick}
 use Rattle.encoding.specs.Reading.{Reading, got, stop, _>>=_}
 use Rattle.encoding.specs.Tested.{Good}
 use Rattle.text_type.specs.Written.{Room}
-use Rattle.text_pass.specs.declared.Place.{Place}
-use Rattle.text_pass.specs.declared.Place.the-variants.{At, Stopped}
+use Rattle.text_pass.specs.declared.PartEnd.{PartEnd}
+use Rattle.text_pass.specs.declared.PartEnd.the-variants.{At, Stopped}
 
 -- texts that stand one behind the other: each is read where the one before it ends. What is shown out of the order of the words is read by `later`, which shows nothing:
 -- what follows is given its bytes, and shows them as fixed bytes
@@ -58,15 +58,15 @@ pub record Came (write : Bool) (o : List ℕ) (p : ℕ) (x : Reading Bytes) (o�
   pub laid : Laid write o p bytes o′ p′
 
 -- a refusal leaves the buffer in a pass that counts; it is not met in one that writes
-pub data Went (write : Bool) (o : List ℕ) (p : ℕ) (x : Reading Bytes) (o′ : List ℕ) : Place → Type 0 where
+pub data Went (write : Bool) (o : List ℕ) (p : ℕ) (x : Reading Bytes) (o′ : List ℕ) : PartEnd → Type 0 where
   came : {n p′ : ℕ} → Came write o p x o′ n p′ → Went write o p x o′ (At n p′)
   stopped : {k : Refusal} → x ≡ stop k → (write ≡ false → o′ ≡ o) → Went write o p x o′ (Stopped k)
 
 -- what a pass says that only counts, from p on: it has no buffer
-abbrev pub Counts : ℕ → Reading Bytes → Place → Type 0
+abbrev pub Counts : ℕ → Reading Bytes → PartEnd → Type 0
 Counts p x r = Went false [] p x [] r
 
 -- how a pass over a text has come so far: what is left of it is the whole's end
 pub record Along (write : Bool) (o : List ℕ) (p : ℕ) (whole : Reading Bytes) (o′ : List ℕ) (p′ : ℕ) (left : Reading Bytes) : Type 0 where
   pub ready : Ready write o′ p′ left
-  pub ends : (o″ : List ℕ) (r : Place) → Went write o′ p′ left o″ r → Went write o p whole o″ r
+  pub ends : (o″ : List ℕ) (r : PartEnd) → Went write o′ p′ left o″ r → Went write o p whole o″ r

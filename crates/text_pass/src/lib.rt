@@ -30,7 +30,7 @@ use text_measure::Measure;
 use text_measure::PathMeasure;
 
 // Where a pass has come to, in the words and in the text; or the refusal that it met.
-pub enum Place {
+pub enum PartEnd {
     At { next: usize, pos: usize },
     Stopped(Refusal),
 }
@@ -113,16 +113,16 @@ pub fn count_name(
     before: usize,
     at: usize,
     pos: usize,
-) -> Place
+) -> PartEnd
     requires { ⌜ Checked (now words) (now pairs) (now text) × (before < 2 ^ 40) ⌝ }
     ensures { λ r. ⌜ Counts (pos + before) (nameAt (now (words .entry)) (now (pairs .entry)) (now (text .entry)) at) r ⌝ }
 {
     match encoding::scan_below(words, encoding::name_count(pairs), at) {
-        WordScan::Word { value, next } => Place::At {
+        WordScan::Word { value, next } => PartEnd::At {
             next,
             pos: buffer::count_few(pos, before + encoding::name_length(pairs, value)),
         },
-        WordScan::NoWord(r) => Place::Stopped(r),
+        WordScan::NoWord(r) => PartEnd::Stopped(r),
     }
 }
 
@@ -150,13 +150,13 @@ pub fn lay_name(
     at: usize,
     out: &mut [u8],
     pos: usize,
-) -> Place
+) -> PartEnd
     requires { ⌜ Checked (now words) (now pairs) (now text) × Ready write (now out) pos (nameAt (now words) (now pairs) (now text) at) ⌝ }
     ensures { λ r. ⌜ Went write (now (out .entry)) pos (nameAt (now (words .entry)) (now (pairs .entry)) (now (text .entry)) at) (now (out .exit)) r ⌝ }
 {
     if write {
         let end = write_name(words, pairs, text, at, out, pos);
-        return Place::At {
+        return PartEnd::At {
             next: at + 1,
             pos: end,
         };
@@ -165,16 +165,16 @@ pub fn lay_name(
 }
 
 // The type at `at`, measured.
-fn count_type(words: &[u32], pairs: &[u32], text: &[u8], at: usize, pos: usize) -> Place
+fn count_type(words: &[u32], pairs: &[u32], text: &[u8], at: usize, pos: usize) -> PartEnd
     requires { ⌜ Checked (now words) (now pairs) (now text) ⌝ }
     ensures { λ r. ⌜ Counts pos (typeTextAt (now (words .entry)) (now (pairs .entry)) (now (text .entry)) at) r ⌝ }
 {
     match text_measure::measure_type(words, pairs, text, at) {
-        Measure::Measured { next, bytes } => Place::At {
+        Measure::Measured { next, bytes } => PartEnd::At {
             next,
             pos: buffer::count_on(pos, bytes),
         },
-        Measure::Stopped(r) => Place::Stopped(r),
+        Measure::Stopped(r) => PartEnd::Stopped(r),
     }
 }
 
@@ -187,13 +187,13 @@ pub fn lay_type(
     at: usize,
     out: &mut [u8],
     pos: usize,
-) -> Place
+) -> PartEnd
     requires { ⌜ Checked (now words) (now pairs) (now text) × Ready write (now out) pos (typeTextAt (now words) (now pairs) (now text) at) ⌝ }
     ensures { λ r. ⌜ Went write (now (out .entry)) pos (typeTextAt (now (words .entry)) (now (pairs .entry)) (now (text .entry)) at) (now (out .exit)) r ⌝ }
 {
     if write {
         let spot = text_type::write_type(words, pairs, text, at, out, pos);
-        return Place::At {
+        return PartEnd::At {
             next: spot.next,
             pos: spot.pos,
         };
@@ -202,16 +202,16 @@ pub fn lay_type(
 }
 
 // The borrow at `at`, counted. The measuring pass is given the whole of it, since the borrow is one of the 64 levels.
-fn count_borrow(words: &[u32], pairs: &[u32], text: &[u8], at: usize, pos: usize) -> Place
+fn count_borrow(words: &[u32], pairs: &[u32], text: &[u8], at: usize, pos: usize) -> PartEnd
     requires { ⌜ Checked (now words) (now pairs) (now text) × (at < length (now words)) × (getD (now words) at 0 ≡ borrowedKind) ⌝ }
     ensures { λ r. ⌜ Counts pos (typeTextAt (now (words .entry)) (now (pairs .entry)) (now (text .entry)) at) r ⌝ }
 {
     if words.len() <= at + 1 {
-        return Place::Stopped(Refusal::EndsEarly);
+        return PartEnd::Stopped(Refusal::EndsEarly);
     }
     let w = words[at + 1];
     if w < PLAIN_KINDS {
-        return Place::At {
+        return PartEnd::At {
             next: at + 2,
             pos: buffer::count_few(pos, 1 + encoding::primitive_length(w)),
         };
@@ -223,16 +223,16 @@ fn count_borrow(words: &[u32], pairs: &[u32], text: &[u8], at: usize, pos: usize
 }
 
 // The type at `at` of a field, counted: most have a plain type, a name or a borrow of one, for which the measuring pass is not called.
-pub fn count_field_type(words: &[u32], pairs: &[u32], text: &[u8], at: usize, pos: usize) -> Place
+pub fn count_field_type(words: &[u32], pairs: &[u32], text: &[u8], at: usize, pos: usize) -> PartEnd
     requires { ⌜ Checked (now words) (now pairs) (now text) ⌝ }
     ensures { λ r. ⌜ Counts pos (typeTextAt (now (words .entry)) (now (pairs .entry)) (now (text .entry)) at) r ⌝ }
 {
     if words.len() <= at {
-        return Place::Stopped(Refusal::EndsEarly);
+        return PartEnd::Stopped(Refusal::EndsEarly);
     }
     let w = words[at];
     if w < PLAIN_KINDS {
-        return Place::At {
+        return PartEnd::At {
             next: at + 1,
             pos: buffer::count_few(pos, encoding::primitive_length(w)),
         };
@@ -324,34 +324,34 @@ pub fn lay_path(
     at: usize,
     out: &mut [u8],
     pos: usize,
-) -> Place
+) -> PartEnd
     requires { ⌜ Checked (now words) (now pairs) (now text) × Ready write (now out) pos (pathTextAt (now words) (now pairs) (now text) at) ⌝ }
     ensures { λ r. ⌜ Went write (now (out .entry)) pos (pathTextAt (now (words .entry)) (now (pairs .entry)) (now (text .entry)) at) (now (out .exit)) r ⌝ }
 {
     match text_measure::measure_path(words, pairs, text, at) {
-        PathMeasure::MeasuredPath { path, next, bytes } => Place::At {
+        PathMeasure::MeasuredPath { path, next, bytes } => PartEnd::At {
             next,
             pos: lay_known_path(write, words, pairs, text, path, bytes, out, pos),
         },
-        PathMeasure::NoPath(r) => Place::Stopped(r),
+        PathMeasure::NoPath(r) => PartEnd::Stopped(r),
     }
 }
 
 // A visibility, counted.
-pub fn count_visibility(words: &[u32], at: usize, pos: usize) -> Place
+pub fn count_visibility(words: &[u32], at: usize, pos: usize) -> PartEnd
     ensures { λ r. ⌜ Counts pos (visibilityAt (now (words .entry)) at) r ⌝ }
 {
     match encoding::scan_below(words, VISIBILITIES, at) {
         WordScan::Word { value, next } => {
             if value != PUB {
-                return Place::At { next, pos };
+                return PartEnd::At { next, pos };
             }
-            Place::At {
+            PartEnd::At {
                 next,
                 pos: buffer::count_few(pos, 4),
             }
         }
-        WordScan::NoWord(r) => Place::Stopped(r),
+        WordScan::NoWord(r) => PartEnd::Stopped(r),
     }
 }
 
@@ -367,13 +367,13 @@ pub fn write_visibility(words: &[u32], at: usize, out: &mut [u8], pos: usize) ->
 }
 
 // A visibility.
-pub fn lay_visibility(write: bool, words: &[u32], at: usize, out: &mut [u8], pos: usize) -> Place
+pub fn lay_visibility(write: bool, words: &[u32], at: usize, out: &mut [u8], pos: usize) -> PartEnd
     requires { ⌜ Ready write (now out) pos (visibilityAt (now words) at) ⌝ }
     ensures { λ r. ⌜ Went write (now (out .entry)) pos (visibilityAt (now (words .entry)) at) (now (out .exit)) r ⌝ }
 {
     if write {
         let end = write_visibility(words, at, out, pos);
-        return Place::At {
+        return PartEnd::At {
             next: at + 1,
             pos: end,
         };
@@ -389,19 +389,19 @@ pub fn count_doc(
     level: u32,
     at: usize,
     pos: usize,
-) -> Place
+) -> PartEnd
     requires { ⌜ Checked (now words) (now pairs) (now text) ⌝ }
     ensures { λ r. ⌜ Counts pos (docAt (now (words .entry)) (now (pairs .entry)) (now (text .entry)) level at) r ⌝ }
 {
     match encoding::scan_below(words, encoding::name_count(pairs), at) {
         WordScan::Word { value, next } => {
             let mut none = [0u8; 0];
-            Place::At {
+            PartEnd::At {
                 next,
                 pos: lay_known_doc(false, pairs, text, value, level, &mut none, pos),
             }
         }
-        WordScan::NoWord(r) => Place::Stopped(r),
+        WordScan::NoWord(r) => PartEnd::Stopped(r),
     }
 }
 
@@ -431,13 +431,13 @@ pub fn lay_doc(
     at: usize,
     out: &mut [u8],
     pos: usize,
-) -> Place
+) -> PartEnd
     requires { ⌜ Checked (now words) (now pairs) (now text) × Ready write (now out) pos (docAt (now words) (now pairs) (now text) level at) ⌝ }
     ensures { λ r. ⌜ Went write (now (out .entry)) pos (docAt (now (words .entry)) (now (pairs .entry)) (now (text .entry)) level at) (now (out .exit)) r ⌝ }
 {
     if write {
         let end = write_doc(words, pairs, text, level, at, out, pos);
-        return Place::At {
+        return PartEnd::At {
             next: at + 1,
             pos: end,
         };

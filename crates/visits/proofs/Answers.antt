@@ -31,14 +31,14 @@ use Rattle.accept_declaration.specs.declared.Whole.{Whole}
 use Rattle.accept_declaration.specs.declared.Whole.the-variants.{AType, ADeclaration}
 use Rattle.visits.specs.Visited.{visited, visitedFrom, positions, typeVisits, declarationVisits}
 use Rattle.visits.specs.Calls.{filled}
-use Rattle.visits.specs.Passes.{Due, Visited, heldVisits, Fills, AllVisited, wholeVisits}
+use Rattle.visits.specs.Passes.{TypesDue, Visited, heldVisits, FillsWords, AllVisited, wholeVisits}
 use Rattle.accept_declaration.specs.Ends.{Held, heldAt}
 use Rattle.visits.proofs.Lists.{listOf}
 
 module _ (ws pairs : List ℕ) (text : Bytes) where
   -- ---- an accepted type, as one type that is due
 
-  pub type-due : length ws ≤ 8192 → Readable (typeAt ws pairs text 0) → Due ws pairs text 0 1 0
+  pub type-due : length ws ≤ 8192 → Readable (typeAt ws pairs text 0) → TypesDue ws pairs text 0 1 0
   type-due h t = record { few = h; inside = omega arith; counted = omega arith; there = record { value = cons (t .value) nil; end = t .end; reads = one-read (typeAt ws pairs text) 0 (t .reads) } }
 
   -- and its list laid down
@@ -64,7 +64,7 @@ module _ (ws pairs : List ℕ) (text : Bytes) where
       omega (arith, v .wrote .next, w .wrote .next, ap (λ (x : Held what). length (heldVisits what x)) e)
 
   module _ (what : Whole) (o : List ℕ) where
-    module _ (f : Fills what ws pairs text) where
+    module _ (f : FillsWords what ws pairs text) where
       whole-read : {o₁ o₂ : List ℕ} {p : ℕ} (v : AllVisited what ws pairs text o₁ o₂ p) → v .end ≡ length ws
       whole-read v = let m : length ws ≡ v .end = cc (f .reads, v .reads) in sym m
 
@@ -82,7 +82,7 @@ module _ (ws pairs : List ℕ) (text : Bytes) where
 
   -- by what acceptance said: the tree ends where the words do, or before, or it is refused
   module _ (what : Whole) {s : Scan} (e : s ≡ ended (heldAt what ws pairs text)) where
-    pub fills : {n : ℕ} → s ≡ At n → n ≡ length ws → Fills what ws pairs text
+    pub fills : {n : ℕ} → s ≡ At n → n ≡ length ws → FillsWords what ws pairs text
     fills d h = let t = scan-got (heldAt what ws pairs text) e d in record { value = t .value; reads = t .reads ∙ ap (got (t .value)) h }
 
     pub visits-left : (o : List ℕ) {n : ℕ} → s ≡ At n → (n ≡ length ws → ⊥) → _≡_ {A = VisitAnswer × List ℕ} (Refused LeftOver, o) (filled o (wholeVisits what ws pairs text))
@@ -91,7 +91,7 @@ module _ (ws pairs : List ℕ) (text : Bytes) where
     pub visits-stop : (o : List ℕ) {k : Refusal} → s ≡ Halted k → _≡_ {A = VisitAnswer × List ℕ} (Refused k, o) (filled o (wholeVisits what ws pairs text))
     visits-stop o d = filled-stop Count Refused o (heldVisits what) (length ws) (heldAt what ws pairs text) (scan-stop (heldAt what ws pairs text) e d)
 
-  pub fills-readable : {what : Whole} → Fills what ws pairs text → Readable (heldAt what ws pairs text)
+  pub fills-readable : {what : Whole} → FillsWords what ws pairs text → Readable (heldAt what ws pairs text)
   fills-readable f = record { value = f .value; end = length ws; reads = f .reads }
 
   -- ---- the tables are tested first

@@ -34,7 +34,7 @@ use Rattle.declaration_walk.specs.declared.Walk.{Walk}
 use Rattle.declaration_walk.specs.declared.Start.{Start}
 use Rattle.declaration_walk.specs.declared.Start.the-variants.{NotBegun}
 use Rattle.declaration_walk.specs.declared.Next.the-variants.{OwnWords, TypeDue, Ended, Halted}
-use Rattle.declaration_walk.specs.Pieces.{Piece, type, owned, runs, counted, typePiece, fieldPieces, namelessPieces, fieldsPieces}
+use Rattle.declaration_walk.specs.Pieces.{Piece, type, ownPieces, runs, counted, typePiece, fieldPieces, namelessPieces, fieldsPieces}
 use Rattle.declaration_walk.specs.Walks.{leftAt, moved, inField, FieldNext, fieldType, pastField, Stepped, type-due, end, Opening, opened, readOpening, started}
 use Rattle.declaration_walk.proofs.Steps.{own-step, due-step, end-step, halt-step, field-opens, fields-left}
 use Rattle.declaration_walk.proofs.OpeningRuns.{opening-run}
@@ -42,12 +42,12 @@ use Rattle.declaration_walk.proofs.Passes.{BegunAt, not-begun}
 use Rattle.declaration_walk.proofs.Behind.{behind-got, whole-left}
 use Rattle.visits.specs.Visited.{isEntered, visitedFrom, visitedAll, visitedPieces, visitedDeclaration, positions}
 use Rattle.accept_declaration.specs.declared.Whole.the-variants.{ADeclaration}
-use Rattle.visits.specs.Passes.{Passed, Ahead, Going, Done, nothing, fieldsAlone, EntersField, Entered, AllVisited, Due, Visited}
+use Rattle.visits.specs.Passes.{TypePassed, Ahead, Going, Done, nothing, fieldsAlone, EntersField, Entered, AllVisited, TypesDue, Visited}
 use Rattle.visits.proofs.Lists.{positions-append}
 
 module _ {N : Type 0} (enters : Role → Bool) where
   -- own words are passed over
-  visited-owned : (ks : List (Token N)) (qs : List (Piece N)) (p : ℕ) → visitedPieces enters p (owned ks ++ qs) ≡ visitedPieces enters (p + length ks) qs
+  visited-owned : (ks : List (Token N)) (qs : List (Piece N)) (p : ℕ) → visitedPieces enters p (ownPieces ks ++ qs) ≡ visitedPieces enters (p + length ks) qs
   unfolding visitedPieces
   visited-owned [] qs p = rw (add-zero p)
   visited-owned (k ∷ ks) qs p =
@@ -55,7 +55,7 @@ module _ {N : Type 0} (enters : Role → Bool) where
       visited-owned ks qs (p + 1) ∙ ap (λ i. visitedPieces enters i qs) e
 
   -- behind own words that end at n
-  pub visited-behind : (nm : ℕ → N) (ks : List (Token ℕ)) (qs : List (Piece N)) (p n : ℕ) {ps : List (Piece N)} → ps ≡ owned (map (renamedToken nm) ks) ++ qs → n ≡ p + length ks
+  pub visited-behind : (nm : ℕ → N) (ks : List (Token ℕ)) (qs : List (Piece N)) (p n : ℕ) {ps : List (Piece N)} → ps ≡ ownPieces (map (renamedToken nm) ks) ++ qs → n ≡ p + length ks
       → visitedPieces enters p ps ≡ visitedPieces enters n qs
   visited-behind nm ks qs p n e d =
       ap (visitedPieces enters p) e ∙ visited-owned (map (renamedToken nm) ks) qs p
@@ -77,13 +77,13 @@ module _ {N : Type 0} (enters : Role → Bool) where
 -- ---- a type that is passed
 
 -- the one type that is due was accepted
-pub due-one : (ws pairs : List ℕ) (text : Bytes) (at : ℕ) {pos : ℕ} → Due ws pairs text at 1 pos → Readable (typeAt ws pairs text at)
+pub due-one : (ws pairs : List ℕ) (text : Bytes) (at : ℕ) {pos : ℕ} → TypesDue ws pairs text at 1 pos → Readable (typeAt ws pairs text at)
 due-one ws pairs text at d =
     let f = first-of ws pairs text 1 at (omega arith) (d .there .reads) in
     record { value = f .left; end = f .middle; reads = f .reads }
 
 module _ (ws pairs : List ℕ) (text : Bytes) (a : Role) (at : ℕ) where
-  pub passed-entered : isEntered a ≡ true → {o o′ : List ℕ} {pos : ℕ} {s : Spot} → Visited ws pairs text at 1 o pos o′ s → Passed ws pairs text a at o pos o′ s
+  pub passed-entered : isEntered a ≡ true → {o o′ : List ℕ} {pos : ℕ} {s : Spot} → Visited ws pairs text at 1 o pos o′ s → TypePassed ws pairs text a at o pos o′ s
   unfolding visitedFrom
   passed-entered e {o} {o′} {pos} {s} v =
       let f = first-of ws pairs text 1 at (omega arith) (v .reads) in
@@ -92,7 +92,7 @@ module _ (ws pairs : List ℕ) (text : Bytes) (a : Role) (at : ℕ) where
       let shown : visitedFrom at (f .left) ≡ pick (isEntered a) (visitedFrom at (f .left)) [] = sym (ap (λ b. pick b (visitedFrom at (f .left)) []) e) in
       record { tpe = f .left; reads = f .reads ∙ ap (got (f .left)) (n .1); wrote = wrote-as (ap positions (one ∙ shown)) (v .wrote); counted = v .counted }
 
-  pub passed-over : isEntered a ≡ false → {o : List ℕ} {pos n : ℕ} → Due ws pairs text at 1 pos → EndsAt (typeAt ws pairs text at) n → Passed ws pairs text a at o pos o (record { next = n; pos = pos })
+  pub passed-over : isEntered a ≡ false → {o : List ℕ} {pos n : ℕ} → TypesDue ws pairs text at 1 pos → EndsAt (typeAt ws pairs text at) n → TypePassed ws pairs text a at o pos o (record { next = n; pos = pos })
   passed-over e {o} {pos} d t =
       let l = type-lies ws pairs text at (d .inside) (t .reads) in
       let none : [] ≡ positions (pick (isEntered a) (visitedFrom at (t .value)) []) = sym (ap (λ b. positions (pick b (visitedFrom at (t .value)) [])) e) in
@@ -205,7 +205,7 @@ module _ (ws pairs : List ℕ) (text : Bytes) where
         let b = behind-got (typePiece a (t .value)) (leftAt ws pairs text (moved w′ (t .end))) (t .rest) in
         record { tpe = t .value; next = t .end; others = b .left; here = t .first; left = b .reads; parts = b .parts }
 
-    pub going-due : {w : Walk} {a : Role} {w′ : Walk} {o′ : List ℕ} {p : ℕ} → Going ws pairs text w₀ o pos w o′ p → Stepped (nameCount pairs) ws w (TypeDue a w′) → Due ws pairs text (w .place) 1 p
+    pub going-due : {w : Walk} {a : Role} {w′ : Walk} {o′ : List ℕ} {p : ℕ} → Going ws pairs text w₀ o pos w o′ p → Stepped (nameCount pairs) ws w (TypeDue a w′) → TypesDue ws pairs text (w .place) 1 p
     going-due {w} g s =
         let t = typed g s in
         record { few = g .few; inside = g .inside; counted = g .counted; there = record { value = cons (t .tpe) nil; end = t .next; reads = one-read (typeAt ws pairs text) (w .place) (t .here) } }
@@ -218,7 +218,7 @@ module _ (ws pairs : List ℕ) (text : Bytes) where
         ∙ rw e
 
     pub going-type : {w : Walk} {a : Role} {w′ : Walk} {o′ o″ : List ℕ} {p : ℕ} {spot : Spot} → Going ws pairs text w₀ o pos w o′ p → Stepped (nameCount pairs) ws w (TypeDue a w′)
-        → Passed ws pairs text a (w .place) o′ p o″ spot → Gone w (moved w′ (spot .next)) o″ (spot .pos)
+        → TypePassed ws pairs text a (w .place) o′ p o″ spot → Gone w (moved w′ (spot .next)) o″ (spot .pos)
     going-type {w} {a} {w′} {o′} {o″} {p} {spot} g s v =
         let t = typed g s in
         let q : t .next ≡ spot .next = cc (t .here, v .reads) in
@@ -249,7 +249,7 @@ module _ (ws pairs : List ℕ) (text : Bytes) where
     field-own {w} g f = going-own g (field-opens (nameCount pairs) ws (nameBytes pairs text) (typeAt ws pairs text) w (g .left) f)
 
     -- its type,
-    pub field-due : {w : Walk} {o′ : List ℕ} {p : ℕ} → Going ws pairs text w₀ o pos w o′ p → FieldNext w → Due ws pairs text (fieldType w) 1 p
+    pub field-due : {w : Walk} {o′ : List ℕ} {p : ℕ} → Going ws pairs text w₀ o pos w o′ p → FieldNext w → TypesDue ws pairs text (fieldType w) 1 p
     field-due g f = going-due (field-own g f .next) (type-due (omega arith))
 
     -- and what follows it

@@ -28,7 +28,7 @@ use Rattle.accepted_types.specs.Accepted.{Readable, EndsAt}
 use Rattle.accepted_types.proofs.Accepted.{type-here, synonym-head}
 use Rattle.accepted_types.proofs.Skipping.{first-of, types-fit}
 use Rattle.visits.specs.Visited.{visitedFrom, visitedAll}
-use Rattle.visits.specs.Passes.{Due, Visited}
+use Rattle.visits.specs.Passes.{TypesDue, Visited}
 use Rattle.visits.proofs.Lists.{append, types-join, positions-append, listOf, visited-join, visited-node}
 
 -- the list of a type and of those behind it, by the types that follow its head
@@ -96,7 +96,7 @@ module _ (ws pairs : List ℕ) (text : Bytes) where
     end-words : next ≡ place + words (TSynonym display base)
 
 module _ {ws pairs : List ℕ} {text : Bytes} {at due : ℕ} {o : List ℕ} {pos : ℕ} where
-  pub visit-start : Due ws pairs text at due pos → Visiting ws pairs text at due o pos at due o pos
+  pub visit-start : TypesDue ws pairs text at due pos → Visiting ws pairs text at due o pos at due o pos
   visit-start d = record {
     all = d .there .value;
     rest = d .there .value;
@@ -200,7 +200,7 @@ module _ {ws pairs : List ℕ} {text : Bytes} {at due : ℕ} {o : List ℕ} {pos
             (e, visit-here, head-due, l, omega (arith, s .few, v .few))
 
         -- of a synonym the display is visited,
-        pub visit-display : getD ws place 0 ≡ 23 → Due ws pairs text (place + 1) 1 p″
+        pub visit-display : getD ws place 0 ≡ 23 → TypesDue ws pairs text (place + 1) 1 p″
         visit-display k =
             let s = synonymous k in
             record {
@@ -252,7 +252,7 @@ module _ {ws pairs : List ℕ} {text : Bytes} {at due : ℕ} {o : List ℕ} {pos
         }
 
     -- what is due may be left to another pass
-    pub visit-due : Due ws pairs text place left p
+    pub visit-due : TypesDue ws pairs text place left p
     visit-due = record { few = v .few; inside = v .inside; counted = v .counted; there = record { value = v .rest; end = v .end; reads = v .due-reads } }
 
     pub visit-rest : {o″ : List ℕ} {spot : Spot} → Visited ws pairs text place left o′ p o″ spot → Visited ws pairs text at due o pos o″ spot

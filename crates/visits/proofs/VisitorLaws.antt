@@ -10,7 +10,7 @@ use Rattle.encoding.specs.Forms.{plain, present}
 use Rattle.tree_words.specs.Encode.{Token, words}
 use Rattle.tree_words.specs.Places.{Place}
 use Rattle.declaration_walk.specs.declared.Role.the-variants.{Constraint, StructField, CaseField, Aliased}
-use Rattle.declaration_walk.specs.Pieces.{Piece, own, type, runs, owned, titleTokens, useTokens, counted, typePiece, parameterPieces, fieldPieces, namelessPieces, fieldsPieces, casePieces, heading, front, rest, pieces}
+use Rattle.declaration_walk.specs.Pieces.{Piece, own, type, runs, ownPieces, titleTokens, useTokens, counted, typePiece, parameterPieces, fieldPieces, namelessPieces, fieldsPieces, casePieces, heading, front, rest, pieces}
 use Rattle.visits.specs.Fold.{FoldLeft, Fold, VisitTypeParams, VisitFields, VisitModMapping}
 use Rattle.visits.specs.Visited.{isEntered, visitedFrom, visitedPieces, visitedDeclaration}
 use Rattle.visits.proofs.FoldLaws.{along, behind, from-visited}
@@ -34,7 +34,7 @@ module _ {N A : Type 0} (f : A → Ty N → A) where
   through-append acc (own k ∷ ps) qs = through-append acc ps qs
   through-append acc (type r t ∷ ps) qs = through-append (pick (isEntered r) (Fold f acc t) acc) ps qs
 
-  through-owned : (acc : A) (ks : List (Token N)) (qs : List (Piece N)) → through acc (owned ks ++ qs) ≡ through acc qs
+  through-owned : (acc : A) (ks : List (Token N)) (qs : List (Piece N)) → through acc (ownPieces ks ++ qs) ≡ through acc qs
   unfolding through
   through-owned acc [] qs = refl
   through-owned acc (k ∷ ks) qs = through-owned acc ks qs

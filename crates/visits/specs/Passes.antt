@@ -27,7 +27,7 @@ use Rattle.visits.specs.Visited.{isEntered, visited, visitedFrom, visite
 -- ---- types
 
 -- `due` types stand at `at`, and no more positions were laid down than words passed
-pub record Due (ws pairs : List ℕ) (text : Bytes) (at due pos : ℕ) : Type 0 where
+pub record TypesDue (ws pairs : List ℕ) (text : Bytes) (at due pos : ℕ) : Type 0 where
   pub few : length ws ≤ maxWords
   pub inside : at ≤ length ws
   pub counted : pos ≤ at
@@ -43,7 +43,7 @@ pub record Visited (ws pairs : List ℕ) (text : Bytes) (at due : ℕ) (o : List
 -- ---- declarations
 
 -- a type was passed, and its list laid down if its role is entered
-pub record Passed (ws pairs : List ℕ) (text : Bytes) (a : Role) (at : ℕ) (o : List ℕ) (pos : ℕ) (o′ : List ℕ) (s : Spot) : Type 0 where
+pub record TypePassed (ws pairs : List ℕ) (text : Bytes) (a : Role) (at : ℕ) (o : List ℕ) (pos : ℕ) (o′ : List ℕ) (s : Spot) : Type 0 where
   pub tpe : Ty Bytes
   pub reads : typeAt ws pairs text at ≡ got tpe (s .next)
   pub wrote : Wrote o pos (positions (pick (isEntered a) (visitedFrom at tpe) [])) o′ (s .pos)
@@ -93,7 +93,7 @@ heldVisits AType t = positions (visited (place 0 t))
 heldVisits ADeclaration d = positions (visitedDeclaration d)
 
 -- what an encoding holds fills its words
-pub record Fills (what : Whole) (ws pairs : List ℕ) (text : Bytes) : Type 0 where
+pub record FillsWords (what : Whole) (ws pairs : List ℕ) (text : Bytes) : Type 0 where
   pub value : Held what
   pub reads : heldAt what ws pairs text ≡ got value (length ws)
 

@@ -12,16 +12,16 @@ ghost use Rattle.encoding.specs.Declarations.{declarationAt};
 ghost use Rattle.accepted_types.specs.Accepted.{Readable};
 ghost use Rattle.visits.specs.Visited.{isEntered, typeVisits, declarationVisits};
 ghost use Rattle.visits.specs.Calls.{filled};
-ghost use Rattle.visits.specs.Passes.{Due, Visited, Passed, Ahead, Going, EntersField, Done, Entered, AllVisited, Fills, wholeVisits};
+ghost use Rattle.visits.specs.Passes.{TypesDue, Visited, TypePassed, Ahead, Going, EntersField, Done, Entered, AllVisited, FillsWords, wholeVisits};
 ghost use Rattle.accept_declaration.specs.Ends.{heldAt};
 ghost use Rattle.accept_declaration.specs.declared.Whole.the-variants.{AType, ADeclaration};
+use accept_declaration::Whole;
 use accepted_types::Spot;
 use declaration_walk::After;
 use declaration_walk::Next;
 use declaration_walk::Role;
 use declaration_walk::Start;
 use declaration_walk::Walk;
-use accept_declaration::Whole;
 use encoding::Check;
 use encoding::Refusal;
 use encoding::Scan;
@@ -56,7 +56,7 @@ fn visit_types(
     out: &mut [u32],
     pos: usize,
 ) -> Spot
-    requires { ⌜ Due (now words) (now pairs) (now text) at due pos ⌝ }
+    requires { ⌜ TypesDue (now words) (now pairs) (now text) at due pos ⌝ }
     ensures { λ r. ⌜ Visited (now (words .entry)) (now (pairs .entry)) (now (text .entry)) at due (now (out .entry)) pos (now (out .exit)) r ⌝ }
 {
     let mut place = at;
@@ -91,7 +91,7 @@ fn visit_type(
     out: &mut [u32],
     pos: usize,
 ) -> Spot
-    requires { ⌜ Due (now words) (now pairs) (now text) at 1 pos ⌝ }
+    requires { ⌜ TypesDue (now words) (now pairs) (now text) at 1 pos ⌝ }
     ensures { λ r. ⌜ Visited (now (words .entry)) (now (pairs .entry)) (now (text .entry)) at 1 (now (out .entry)) pos (now (out .exit)) r ⌝ }
 {
     let mut place = at;
@@ -141,8 +141,8 @@ fn pass_type(
     out: &mut [u32],
     pos: usize,
 ) -> Spot
-    requires { ⌜ Due (now words) (now pairs) (now text) at 1 pos ⌝ }
-    ensures { λ r. ⌜ Passed (now (words .entry)) (now (pairs .entry)) (now (text .entry)) role at (now (out .entry)) pos (now (out .exit)) r ⌝ }
+    requires { ⌜ TypesDue (now words) (now pairs) (now text) at 1 pos ⌝ }
+    ensures { λ r. ⌜ TypePassed (now (words .entry)) (now (pairs .entry)) (now (text .entry)) role at (now (out .entry)) pos (now (out .exit)) r ⌝ }
 {
     if is_entered(role) {
         return visit_types(words, pairs, text, at, 1, out, pos);
@@ -292,7 +292,7 @@ fn fill_short(
     text: &[u8],
     out: &mut [u32],
 ) -> VisitAnswer
-    requires { ⌜ (length (now words) ≤ maxWords) × Fills what (now words) (now pairs) (now text) ⌝ }
+    requires { ⌜ (length (now words) ≤ maxWords) × FillsWords what (now words) (now pairs) (now text) ⌝ }
     ensures { λ r. ⌜ (r, now (out .exit)) ≡ filled (now (out .entry)) (wholeVisits what (now (words .entry)) (now (pairs .entry)) (now (text .entry))) ⌝ }
 {
     let mut none = [0u32; 0];
@@ -346,7 +346,7 @@ pub fn type_visit(words: &[u32], pairs: &[u32], text: &[u8], out: &mut [u32]) ->
     ensures { λ r. ⌜ (r, now (out .exit)) ≡ filled (now (out .entry)) (typeVisits (now (words .entry)) (now (pairs .entry)) (now (text .entry))) ⌝ }
 {
     match encoding::check_tables(words, pairs, text) {
-        Check::Passed => fill_type(words, pairs, text, out),
+        Check::TypePassed => fill_type(words, pairs, text, out),
         Check::Failed(r) => VisitAnswer::Refused(r),
     }
 }
@@ -356,7 +356,7 @@ pub fn declaration_visit(words: &[u32], pairs: &[u32], text: &[u8], out: &mut [u
     ensures { λ r. ⌜ (r, now (out .exit)) ≡ filled (now (out .entry)) (declarationVisits (now (words .entry)) (now (pairs .entry)) (now (text .entry))) ⌝ }
 {
     match encoding::check_tables(words, pairs, text) {
-        Check::Passed => fill_declaration(words, pairs, text, out),
+        Check::TypePassed => fill_declaration(words, pairs, text, out),
         Check::Failed(r) => VisitAnswer::Refused(r),
     }
 }

@@ -1,4 +1,4 @@
-use Rattle.known_paths.specs.Classes.{arity, pathLength}
+use Rattle.known_paths.specs.Classes.{arity, nameCountOf}
 use Rattle.known_paths.proofs.form_of.Statement.{statement}
 use borrow.Author.Needs.{needs}
 use Rattle.known_paths.proofs.form_of.Tie as tie
@@ -58,39 +58,39 @@ of-form-requires-9 : tie.Need-of-form-requires-9
 of-form-requires-9 c κs = search needs
 
 returns : tie.Need-returns
-unfolding arity pathLength
+unfolding arity nameCountOf
 returns c = rw (c .before .enum-told .given .1) (c .of-form .ensures)
 
 returns-2 : tie.Need-returns-2
-unfolding arity pathLength
+unfolding arity nameCountOf
 returns-2 c = rw (c .before .enum-told2 .given .1) (c .of-form2 .ensures)
 
 returns-3 : tie.Need-returns-3
-unfolding arity pathLength
+unfolding arity nameCountOf
 returns-3 c = rw (c .before .enum-told3 .given .1) (c .of-form3 .ensures)
 
 returns-4 : tie.Need-returns-4
-unfolding arity pathLength
+unfolding arity nameCountOf
 returns-4 c = rw (c .before .enum-told4 .given .1) (c .of-form4 .ensures)
 
 returns-5 : tie.Need-returns-5
-unfolding arity pathLength
+unfolding arity nameCountOf
 returns-5 c = rw (c .before .enum-told5 .given .1) (c .of-form5 .ensures)
 
 returns-6 : tie.Need-returns-6
-unfolding arity pathLength
+unfolding arity nameCountOf
 returns-6 c = rw (c .before .enum-told6 .given .1) (c .of-form6 .ensures)
 
 returns-7 : tie.Need-returns-7
-unfolding arity pathLength
+unfolding arity nameCountOf
 returns-7 c = rw (c .before .enum-told7 .given .1) (c .of-form7 .ensures)
 
 returns-8 : tie.Need-returns-8
-unfolding arity pathLength
+unfolding arity nameCountOf
 returns-8 c = rw (c .before .enum-told8 .given .1) (c .of-form8 .ensures)
 
 returns-9 : tie.Need-returns-9
-unfolding arity pathLength
+unfolding arity nameCountOf
 returns-9 c = rw (c .before .enum-told9 .given .1) (c .of-form9 .ensures)
 
 pub form-of-spec : {M : Type 1} → statement M

@@ -1,6 +1,6 @@
 use Rattle.encoding.specs.Tables.{fixedNames}
 use Rattle.rast.specs.Bytes.{ascii}
-use Rattle.known_paths.specs.Classes.{inClass, pathLength}
+use Rattle.known_paths.specs.Classes.{inClass, nameCountOf}
 use Rattle.known_paths.specs.Paths.{BoxPath, MaybeUninitPath}
 use Rattle.known_paths.proofs.Paths.{class-member}
 use Rattle.known_paths.proofs.is_in_class.Statement.{statement}
@@ -91,28 +91,28 @@ unfolding inClass MaybeUninitPath fixedNames
 returns-3 c = rw (c .before .before .before .enum-told3 .given .1) (c .is-in-std2 .ensures)
 
 returns-4 : tie.Need-returns-4
-unfolding pathLength
-returns-4 c = c .is-runtime-class .ensures ∙ class-member _ (ap pathLength (c .before .enum-told4 .given .1)) _
+unfolding nameCountOf
+returns-4 c = c .is-runtime-class .ensures ∙ class-member _ (ap nameCountOf (c .before .enum-told4 .given .1)) _
 
 returns-5 : tie.Need-returns-5
-unfolding pathLength
-returns-5 c = c .is-runtime-class2 .ensures ∙ class-member _ (ap pathLength (c .before .enum-told5 .given .1)) _
+unfolding nameCountOf
+returns-5 c = c .is-runtime-class2 .ensures ∙ class-member _ (ap nameCountOf (c .before .enum-told5 .given .1)) _
 
 returns-6 : tie.Need-returns-6
-unfolding pathLength
-returns-6 c = c .is-runtime-class3 .ensures ∙ class-member _ (ap pathLength (c .before .enum-told6 .given .1)) _
+unfolding nameCountOf
+returns-6 c = c .is-runtime-class3 .ensures ∙ class-member _ (ap nameCountOf (c .before .enum-told6 .given .1)) _
 
 returns-7 : tie.Need-returns-7
-unfolding pathLength
-returns-7 c = c .is-runtime-class4 .ensures ∙ class-member _ (ap pathLength (c .before .enum-told7 .given .1)) _
+unfolding nameCountOf
+returns-7 c = c .is-runtime-class4 .ensures ∙ class-member _ (ap nameCountOf (c .before .enum-told7 .given .1)) _
 
 returns-8 : tie.Need-returns-8
-unfolding pathLength
-returns-8 c = c .is-runtime-class5 .ensures ∙ class-member _ (ap pathLength (c .before .enum-told8 .given .1)) _
+unfolding nameCountOf
+returns-8 c = c .is-runtime-class5 .ensures ∙ class-member _ (ap nameCountOf (c .before .enum-told8 .given .1)) _
 
 returns-9 : tie.Need-returns-9
-unfolding pathLength
-returns-9 c = c .is-runtime-class6 .ensures ∙ class-member _ (ap pathLength (c .before .enum-told9 .given .1)) _
+unfolding nameCountOf
+returns-9 c = c .is-runtime-class6 .ensures ∙ class-member _ (ap nameCountOf (c .before .enum-told9 .given .1)) _
 
 pub is-in-class-spec : {M : Type 1} → statement M
 is-in-class-spec =

@@ -1,6 +1,6 @@
 use Rattle.encoding.specs.Reading.{Reading}
 use Rattle.rebuild_type.proofs.Calls.{attempt-denied, attempt-filled, attempt-fits, attempt-full}
-use Rattle.rebuild_type.specs.Calls.{Laid}
+use Rattle.rebuild_type.specs.Calls.{RebuiltWords}
 use Rattle.rebuild_type.specs.Laid.{mapping}
 use Rattle.rebuild_calls.proofs.Wholes.{limit-is}
 use Rattle.rebuild_calls.specs.Wholes.{laidBy}
@@ -11,7 +11,7 @@ use Rattle.rebuild_calls.proofs.attempt.Statement.{statement}
 use Rattle.rebuild_calls.proofs.attempt.Tie as tie
 
 -- the tree
-abbrev tree : tie.Start → Reading Laid
+abbrev tree : tie.Start → Reading RebuiltWords
 tree s = laidBy (s .args .what) (s .args .words .now) (s .args .pairs .now) (mapping (s .args .rules .now) (s .args .pairs .now) (s .args .text .now))
 
 room-of-requires : tie.Need-room-of-requires

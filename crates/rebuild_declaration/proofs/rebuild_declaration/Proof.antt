@@ -24,8 +24,8 @@ enum-told c = search needs
 returns : tie.Need-returns
 returns c = absurd (always-begun (c .before .before .before .before .before .before .before .before .before .args .words .now) (c .before .before .before .before .before .before .before .before .before .args .pairs .now) (c .before .before .before .before .before .before .before .before .before .args .text .now) (c .before .before .before .before .before .before .before .before .before .pre .2) (c .before .before .before .name-count .ensures) (c .before .before .start-walk .ensures) (c .enum-told .given .1))
 
-lay-requires : tie.Need-lay-requires
-lay-requires c κs = let k = opened (c .before .before) in (omega (arith, k .inside), omega arith, c .before .before .before .before .before .before .before .before .before .before .before .pre .3)
+add-words-requires : tie.Need-add-words-requires
+add-words-requires c κs = let k = opened (c .before .before) in (omega (arith, k .inside), omega arith, c .before .before .before .before .before .before .before .before .before .before .before .pre .3)
 
 enum-known-p : tie.Need-enum-known-p
 enum-known-p c = search needs
@@ -33,7 +33,7 @@ enum-known-p c = search needs
 rebuild-rest-requires : tie.Need-rebuild-rest-requires
 rebuild-rest-requires c κs =
     let s = c .before .before .before .before .before .before .before .before .before .before .before .before .before .before .before .before .before .before in
-    opening-ready (s .args .words .now) (s .args .pairs .now) (s .args .text .now) (s .pre .2) (opened (c .before .before .before .before .before .before .before .before .before)) (c .before .before .before .before .before .before .lay .ensures) (s .pre .0) (s .pre .1) (s .pre .3) (c .before .before .p .given .1)
+    opening-ready (s .args .words .now) (s .args .pairs .now) (s .args .text .now) (s .pre .2) (opened (c .before .before .before .before .before .before .before .before .before)) (c .before .before .before .before .before .before .add-words .ensures) (s .pre .0) (s .pre .1) (s .pre .3) (c .before .before .p .given .1)
 
 enum-told-2 : tie.Need-enum-told-2
 enum-told-2 c = search needs
@@ -44,7 +44,7 @@ same-length c = search needs
 returns-2 : tie.Need-returns-2
 returns-2 c =
     let s = c .before .before .before .before .before .before .before .before .before .before .before .before .before .before .before .before .before .before .before .before .before in
-    opening-rest (s .args .words .now) (s .args .pairs .now) (s .args .text .now) (s .pre .2) (opened (c .before .before .before .before .before .before .before .before .before .before .before .before)) (c .before .before .before .before .before .before .before .before .before .lay .ensures) (mapping (s .args .rules .now) (s .args .pairs .now) (s .args .text .now)) (c .before .before .before .before .before .p .given .1) (c .before .before .rebuild-rest .ensures)
+    opening-rest (s .args .words .now) (s .args .pairs .now) (s .args .text .now) (s .pre .2) (opened (c .before .before .before .before .before .before .before .before .before .before .before .before)) (c .before .before .before .before .before .before .before .before .before .add-words .ensures) (mapping (s .args .rules .now) (s .args .pairs .now) (s .args .text .now)) (c .before .before .before .before .before .p .given .1) (c .before .before .rebuild-rest .ensures)
 
 same-length-2 : tie.Need-same-length-2
 same-length-2 c = search needs
@@ -52,7 +52,7 @@ same-length-2 c = search needs
 returns-3 : tie.Need-returns-3
 returns-3 c =
     let s = c .before .before .before .before .before .before .before .before .before .before .before .before .before .before .before .before in
-    opening-over (s .args .words .now) (s .args .pairs .now) (s .args .text .now) (s .pre .2) (opened (c .before .before .before .before .before .before .before)) (c .before .before .before .before .lay .ensures) (mapping (s .args .rules .now) (s .args .pairs .now) (s .args .text .now)) (c .enum-told2 .given .1)
+    opening-over (s .args .words .now) (s .args .pairs .now) (s .args .text .now) (s .pre .2) (opened (c .before .before .before .before .before .before .before)) (c .before .before .before .before .add-words .ensures) (mapping (s .args .rules .now) (s .args .pairs .now) (s .args .text .now)) (c .enum-told2 .given .1)
 
 pub rebuild-declaration-spec : {M : Type 1} → statement M
 rebuild-declaration-spec =
@@ -63,7 +63,7 @@ rebuild-declaration-spec =
     enum-known-walk
     enum-told
     returns
-    lay-requires
+    add-words-requires
     enum-known-p
     rebuild-rest-requires
     enum-told-2

@@ -15,8 +15,8 @@ abbrev μ-loop : tie.MeasureT-loop
 loop-holds : tie.Need-loop-holds Inv-loop μ-loop
 loop-holds c = going-starts (c .before .before .before .before .before .pre)
 
-lay-piece-requires : tie.Need-lay-piece-requires Inv-loop μ-loop
-lay-piece-requires c κs = c .before .loop .inv .ready
+add-piece-requires : tie.Need-add-piece-requires Inv-loop μ-loop
+add-piece-requires c κs = c .before .loop .inv .ready
 
 enum-known-next : tie.Need-enum-known-next Inv-loop μ-loop
 enum-known-next c = search needs
@@ -25,10 +25,10 @@ larger-requires : tie.Need-larger-requires Inv-loop μ-loop
 larger-requires c κs = search needs
 
 loop-less : tie.Need-loop-less Inv-loop μ-loop
-loop-less c = let g = going-on (c .before .before .before .before .before .before .before .before .loop .inv) (c .before .before .before .before .before .before .lay-piece .ensures) (c .before .before .next .given .1) (c .larger .ensures) in omega (arith, g .1, g .0 .ready .inside)
+loop-less c = let g = going-on (c .before .before .before .before .before .before .before .before .loop .inv) (c .before .before .before .before .before .before .add-piece .ensures) (c .before .before .next .given .1) (c .larger .ensures) in omega (arith, g .1, g .0 .ready .inside)
 
 loop-again : tie.Need-loop-again Inv-loop μ-loop
-loop-again c = going-on (c .before .before .before .before .before .before .before .before .loop .inv) (c .before .before .before .before .before .before .lay-piece .ensures) (c .before .before .next .given .1) (c .larger .ensures) .0
+loop-again c = going-on (c .before .before .before .before .before .before .before .before .loop .inv) (c .before .before .before .before .before .before .add-piece .ensures) (c .before .before .next .given .1) (c .larger .ensures) .0
 
 enum-told : tie.Need-enum-told Inv-loop μ-loop
 enum-told c = search needs
@@ -37,7 +37,7 @@ same-length : tie.Need-same-length Inv-loop μ-loop
 same-length c = search needs
 
 returns : tie.Need-returns Inv-loop μ-loop
-returns c = going-ends (c .before .before .before .before .before .before .loop .inv) (c .before .before .before .before .lay-piece .ensures) (c .enum-told .given .1)
+returns c = going-ends (c .before .before .before .before .before .before .loop .inv) (c .before .before .before .before .add-piece .ensures) (c .enum-told .given .1)
 
 enum-told-2 : tie.Need-enum-told-2 Inv-loop μ-loop
 enum-told-2 c = search needs
@@ -46,7 +46,7 @@ same-length-2 : tie.Need-same-length-2 Inv-loop μ-loop
 same-length-2 c = search needs
 
 returns-2 : tie.Need-returns-2 Inv-loop μ-loop
-returns-2 c = going-full (c .before .before .before .before .before .before .loop .inv) (c .before .before .before .before .lay-piece .ensures) (c .enum-told2 .given .1)
+returns-2 c = going-full (c .before .before .before .before .before .before .loop .inv) (c .before .before .before .before .add-piece .ensures) (c .enum-told2 .given .1)
 
 pub rebuild-rest-spec : {M : Type 1} → statement M
 rebuild-rest-spec =
@@ -55,7 +55,7 @@ rebuild-rest-spec =
     Inv-loop
     μ-loop
     loop-holds
-    lay-piece-requires
+    add-piece-requires
     enum-known-next
     larger-requires
     loop-less

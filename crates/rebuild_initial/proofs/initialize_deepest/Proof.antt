@@ -1,12 +1,12 @@
 use mathlib.Core.Bool.{true}
-use Rattle.rebuild_initial.specs.Initialized.{Whole}
+use Rattle.rebuild_initial.specs.Initialized.{FillsWhole}
 use Rattle.rebuild_initial.proofs.Filling.{deepest-whole, not-whole, whole-filled}
 use borrow.Author.Needs.{needs}
 use Rattle.rebuild_initial.proofs.initialize_deepest.Statement.{statement}
 use Rattle.rebuild_initial.proofs.initialize_deepest.Tie as tie
 
 -- a type fills the words
-whole : (c : tie.After-enum-told) → Whole (c .before .before .before .before .before .before .before .args .words .now) (c .before .before .before .before .before .before .before .args .pairs .now) true
+whole : (c : tie.After-enum-told) → FillsWhole (c .before .before .before .before .before .before .before .args .words .now) (c .before .before .before .before .before .before .before .args .pairs .now) true
 whole c = let a = c .before .before .before .before .before .before .before .args in deepest-whole (a .words .now) (a .pairs .now) (a .text .now) (c .before .before .accept-within .ensures) (c .enum-told .given .1)
 
 accept-within-requires : tie.Need-accept-within-requires

@@ -1,7 +1,7 @@
 use Rattle.encoding.specs.Tables.{nameBytes}
 use Rattle.rebuild_rules.proofs.Links.{along-behind, among-along}
 use Rattle.rebuild_rules.proofs.Steps.{from-at, from-some}
-use Rattle.rebuild_rules.specs.Table.{isFound}
+use Rattle.rebuild_rules.specs.Table.{isFoundRule}
 use mathlib.Core.Path.{_∙_, ap}
 use native.Mathlib.Omega.{arith}
 use borrow.Author.Needs.{needs}
@@ -26,13 +26,13 @@ find-along-requires c κs =
     let s = c .before .before .before .before .before .before in let a = s .args in let g = from-at (s .pre .1) (s .pre .3) (c .before .before .entry .ensures) (c .before .entry2 .ensures) in
     (s .pre .0, s .pre .1, s .pre .2, g .some, g .inside, along-behind (a .rules .now) (a .table .now) (a .k) (s .pre .2) (a .i) (s .pre .3) (c .before .before .entry .ensures) (c .entry3 .ensures))
 
-is-found-requires : tie.Need-is-found-requires
-is-found-requires c κs = search needs
+is-found-rule-requires : tie.Need-is-found-rule-requires
+is-found-rule-requires c κs = search needs
 
 returns : tie.Need-returns
 returns c =
     let s = c .before .before .before .before .before .before .before .before in let a = s .args in
-    c .is-found .ensures ∙ ap isFound (c .before .find-along .ensures) ∙ among-along (nameBytes (a .pairs .now) (a .text .now)) (a .rules .now) (a .table .now) (s .pre .1) (s .pre .2) (a .i) (s .pre .3) (from-at (s .pre .1) (s .pre .3) (c .before .before .before .before .entry .ensures) (c .before .before .before .entry2 .ensures)) (c .before .before .before .before .entry .ensures) (c .before .before .entry3 .ensures)
+    c .is-found-rule .ensures ∙ ap isFoundRule (c .before .find-along .ensures) ∙ among-along (nameBytes (a .pairs .now) (a .text .now)) (a .rules .now) (a .table .now) (s .pre .1) (s .pre .2) (a .i) (s .pre .3) (from-at (s .pre .1) (s .pre .3) (c .before .before .before .before .entry .ensures) (c .before .before .before .entry2 .ensures)) (c .before .before .before .before .entry .ensures) (c .before .before .entry3 .ensures)
 
 pub is-among-spec : {M : Type 1} → statement M
 is-among-spec =
@@ -43,5 +43,5 @@ is-among-spec =
     sub-count
     entry-requires-3
     find-along-requires
-    is-found-requires
+    is-found-rule-requires
     returns)

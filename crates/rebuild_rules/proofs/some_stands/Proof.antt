@@ -1,7 +1,7 @@
 use Rattle.encoding.specs.Tables.{nameBytes}
 use Rattle.rebuild_rules.proofs.Links.{Search, along-first, search-here, search-less, search-none, search-on, search-within, some-along, togo}
 use Rattle.rebuild_rules.proofs.Steps.{stands-missed}
-use Rattle.rebuild_rules.specs.Table.{isFound, slot, someStands, stands}
+use Rattle.rebuild_rules.specs.Table.{isFoundRule, slot, someStands, stands}
 use lib.ListN.{drop, getD}
 use mathlib.Core.Path.{_∙_, sym}
 use native.Mathlib.Omega.{arith}
@@ -11,7 +11,7 @@ use Rattle.rebuild_rules.proofs.some_stands.Tie as tie
 
 abbrev Inv-loop : tie.InvT-loop
 Inv-loop rules pairs text table k words at next₀ next =
-    Search isFound rules table k (slot (getD words at 0)) (stands (nameBytes pairs text) rules table (drop at words)) (someStands (nameBytes pairs text) rules table 0 k (drop at words)) next
+    Search isFoundRule rules table k (slot (getD words at 0)) (stands (nameBytes pairs text) rules table (drop at words)) (someStands (nameBytes pairs text) rules table 0 k (drop at words)) next
 
 abbrev μ-loop : tie.MeasureT-loop
 μ-loop rules pairs text table k words at next₀ next = togo k next
@@ -42,7 +42,7 @@ stands-at-requires c κs =
     (s .pre .0, s .pre .1, search-within (c .before .loop .inv) (c .loop-test .taken), s .pre .3)
 
 returns : tie.Need-returns Inv-loop μ-loop
-unfolding isFound
+unfolding isFoundRule
 returns c = search-here (c .before .before .before .loop .inv) (c .before .before .loop-test .taken) (sym (c .before .stands-at .ensures) ∙ c .if1 .taken)
 
 entry-requires : tie.Need-entry-requires Inv-loop μ-loop
@@ -59,7 +59,7 @@ loop-again c =
     search-on (c .before .before .before .before .loop .inv) (c .before .before .before .loop-test .taken) (s .pre .2) (c .entry .ensures) (stands-missed (nameBytes (a .pairs .now) (a .text .now)) (a .rules .now) (a .table .now) (s .pre .1) (a .words .now) (a .at) (s .pre .3)) (sym (c .before .before .stands-at .ensures) ∙ c .before .if1 .left)
 
 returns-2 : tie.Need-returns-2 Inv-loop μ-loop
-unfolding isFound
+unfolding isFoundRule
 returns-2 c = search-none (c .before .loop .inv) (omega (arith, c .loop-test .left))
 
 pub some-stands-spec : {M : Type 1} → statement M

@@ -26,8 +26,8 @@ use Rattle.rebuild_type.proofs.rebuild_types.Reads as rebuild-types
 use Rattle.rebuild_type.proofs.rebuild_types.Kinds as rebuild-types-kinds
 use Rattle.rebuild_type.proofs.+rebuild_below+rebuild_next+rebuild_parts+rebuild_types.Lts-rebuild_types as rebuild-types-lts
 use Rattle.encoding.proofs.pass_head.Reads as pass-head-reads
-use Rattle.rebuild_type.proofs.lay.Reads as lay-reads
-use Rattle.rebuild_type.proofs.lay_plain.Reads as lay-plain-reads
+use Rattle.rebuild_type.proofs.add_words.Reads as add-words-reads
+use Rattle.rebuild_type.proofs.add_plain.Reads as add-plain-reads
 use Rattle.rebuild_type.proofs.settle.Reads as settle-reads
 use Rattle.rebuild_rules.proofs.first_link.Reads as first-link-reads
 use Rattle.rebuild_rules.proofs.larger.Reads as larger-reads
@@ -101,7 +101,7 @@ abbrev rebuild-next-calls : ℕ → rebuild-next-lts.Claims
 rebuild-next-calls t = (first-link-reads.Asked, first-link-reads.Learnt, rebuild-parts-below t, rebuild-parts.Post, settle-reads.Asked, settle-reads.Learnt)
 
 abbrev rebuild-parts-calls : ℕ → rebuild-parts-lts.Claims
-rebuild-parts-calls t = (lay-plain-reads.Asked, lay-plain-reads.Learnt, pass-head-reads.Asked, pass-head-reads.Learnt, lay-reads.Asked, lay-reads.Learnt, rebuild-below-below t, rebuild-below.Post)
+rebuild-parts-calls t = (add-plain-reads.Asked, add-plain-reads.Learnt, pass-head-reads.Asked, pass-head-reads.Learnt, add-words-reads.Asked, add-words-reads.Learnt, rebuild-below-below t, rebuild-below.Post)
 
 abbrev rebuild-types-calls : ℕ → rebuild-types-lts.Claims
 rebuild-types-calls t = (rebuild-next-below t, rebuild-next.Post, larger-reads.Asked, larger-reads.Learnt)
@@ -214,8 +214,8 @@ rebuild-parts-shared-slice-read-word t c =
     let a = s .args in
     omega (arith, tree-here (a .words .now) (a .pairs .now) (a .at) (s .pre .1 .2 .reads))
 
-rebuild-parts-lay-plain-requires : (t : ℕ) → rebuild-parts-lts.Need-lay-plain-requires (rebuild-parts-calls t) (rebuild-parts-at t) rebuild-parts.Post
-rebuild-parts-lay-plain-requires t c κs =
+rebuild-parts-add-plain-requires : (t : ℕ) → rebuild-parts-lts.Need-add-plain-requires (rebuild-parts-calls t) (rebuild-parts-at t) rebuild-parts.Post
+rebuild-parts-add-plain-requires t c κs =
     let s = c .before .before .before .before .before .before .before .before in
     let a = s .args in
     (omega (arith, tree-here (a .words .now) (a .pairs .now) (a .at) (s .pre .1 .2 .reads)), s .pre .1 .3, s .pre .1 .4)
@@ -228,7 +228,7 @@ rebuild-parts-returns t c =
     let s = c .before .before .before .before .before .before .before .before .before .before .before in
     let a = s .args in
     let m = mapping (a .rules .now) (a .pairs .now) (a .text .now) in
-    plain-parts (a .words .now) (a .pairs .now) (a .at) m (s .pre .1 .2 .reads) (c .before .before .before .before .if1 .taken) (s .pre .1 .4) (c .before .before .lay-plain .ensures)
+    plain-parts (a .words .now) (a .pairs .now) (a .at) m (s .pre .1 .2 .reads) (c .before .before .before .before .if1 .taken) (s .pre .1 .4) (c .before .before .add-plain .ensures)
 
 rebuild-parts-pass-head-requires : (t : ℕ) → rebuild-parts-lts.Need-pass-head-requires (rebuild-parts-calls t) (rebuild-parts-at t) rebuild-parts.Post
 rebuild-parts-pass-head-requires t c κs =
@@ -236,16 +236,16 @@ rebuild-parts-pass-head-requires t c κs =
     let a = s .args in
     (head-here (a .words .now) (a .pairs .now) (a .at) (s .pre .1 .2 .reads), omega arith, omega (arith, few-below (a .words .now) (a .pairs .now) (a .at) (s .pre .1 .2 .reads)))
 
-rebuild-parts-sub-lay : (t : ℕ) → rebuild-parts-lts.Need-sub-lay (rebuild-parts-calls t) (rebuild-parts-at t) rebuild-parts.Post
-rebuild-parts-sub-lay t c =
+rebuild-parts-sub-add-words : (t : ℕ) → rebuild-parts-lts.Need-sub-add-words (rebuild-parts-calls t) (rebuild-parts-at t) rebuild-parts.Post
+rebuild-parts-sub-add-words t c =
     let s = c .before .before .before .before .before .before .before .before in
     let a = s .args in
     let m = mapping (a .rules .now) (a .pairs .now) (a .text .now) in
     let w = own-fits (a .words .now) (a .pairs .now) (a .at) m (s .pre .1 .2 .reads) (c .pass-head .ensures .0) in
     omega (arith, w .0)
 
-rebuild-parts-lay-requires : (t : ℕ) → rebuild-parts-lts.Need-lay-requires (rebuild-parts-calls t) (rebuild-parts-at t) rebuild-parts.Post
-rebuild-parts-lay-requires t c κs =
+rebuild-parts-add-words-requires : (t : ℕ) → rebuild-parts-lts.Need-add-words-requires (rebuild-parts-calls t) (rebuild-parts-at t) rebuild-parts.Post
+rebuild-parts-add-words-requires t c κs =
     let s = c .before .before .before .before .before .before .before .before .before in
     let a = s .args in
     let m = mapping (a .rules .now) (a .pairs .now) (a .text .now) in
@@ -266,7 +266,7 @@ rebuild-parts-returns-2 t c =
     let s = c .before .before .before .before .before .before .before .before .before .before .before .before .before .before in
     let a = s .args in
     let m = mapping (a .rules .now) (a .pairs .now) (a .text .now) in
-    let l = lays-over (c .before .before .before .before .lay .ensures) (c .enum-told .given .1) in
+    let l = lays-over (c .before .before .before .before .add-words .ensures) (c .enum-told .given .1) in
     parts-over (a .words .now) (a .pairs .now) (a .at) m (s .pre .1 .2 .reads) (c .before .before .before .before .before .before .pass-head .ensures .0) (l .0) (l .1)
 
 rebuild-parts-rebuild-below-requires : (t : ℕ) → rebuild-parts-lts.Need-rebuild-below-requires (rebuild-parts-calls t) (rebuild-parts-at t) rebuild-parts.Post
@@ -276,7 +276,7 @@ rebuild-parts-rebuild-below-requires t c κs =
     let m = mapping (a .rules .now) (a .pairs .now) (a .text .now) in
     let w = own-fits (a .words .now) (a .pairs .now) (a .at) m (s .pre .1 .2 .reads) (c .before .before .before .before .before .before .before .before .pass-head .ensures .0) in
     let d : c .before .before .before .before .before .before .before .before .pass-head .result .due ≡ typesBelow (a .words .now) (a .at) = omega (arith, c .before .before .before .before .before .before .before .before .pass-head .ensures .1) in
-    let l = lays-to (c .before .before .before .before .before .before .lay .ensures) (c .before .before .p .given .1) in
+    let l = lays-to (c .before .before .before .before .before .before .add-words .ensures) (c .before .before .p .given .1) in
     (omega (arith, s .pre .0, w .0, w .1), (s .pre .1 .0, s .pre .1 .1, w .1, below-reads (a .words .now) (a .pairs .now) (a .at) m (s .pre .1 .2 .reads) (c .before .before .before .before .before .before .before .before .pass-head .ensures .0) d, l .0, omega (arith, l .1 .kept, s .pre .1 .4)))
 
 rebuild-parts-same-length-3 : (t : ℕ) → rebuild-parts-lts.Need-same-length-3 (rebuild-parts-calls t) (rebuild-parts-at t) rebuild-parts.Post
@@ -288,7 +288,7 @@ rebuild-parts-returns-3 t c =
     let a = s .args in
     let m = mapping (a .rules .now) (a .pairs .now) (a .text .now) in
     let d : c .before .before .before .before .before .before .before .before .before .before .before .pass-head .result .due ≡ typesBelow (a .words .now) (a .at) = omega (arith, c .before .before .before .before .before .before .before .before .before .before .before .pass-head .ensures .1) in
-    let l = lays-to (c .before .before .before .before .before .before .before .before .before .lay .ensures) (c .before .before .before .before .before .p .given .1) in
+    let l = lays-to (c .before .before .before .before .before .before .before .before .before .add-words .ensures) (c .before .before .before .before .before .p .given .1) in
     parts-then (a .words .now) (a .pairs .now) (a .at) m (s .pre .1 .2 .reads) (c .before .before .before .before .before .before .before .before .before .before .before .pass-head .ensures .0) d (l .1) (c .before .before .rebuild-below .ensures)
 
 abbrev rebuild-types-Inv-loop : rebuild-types-lts.InvT-loop
@@ -384,12 +384,12 @@ pub +rebuild-below+rebuild-next+rebuild-parts+rebuild-types-spec : {M : Type 1} 
     rebuild-parts.Post
     (rebuild-parts-mul-word t)
     (rebuild-parts-shared-slice-read-word t)
-    (rebuild-parts-lay-plain-requires t)
+    (rebuild-parts-add-plain-requires t)
     (rebuild-parts-same-length t)
     (rebuild-parts-returns t)
     (rebuild-parts-pass-head-requires t)
-    (rebuild-parts-sub-lay t)
-    (rebuild-parts-lay-requires t)
+    (rebuild-parts-sub-add-words t)
+    (rebuild-parts-add-words-requires t)
     (rebuild-parts-enum-known-p t)
     (rebuild-parts-enum-told t)
     (rebuild-parts-same-length-2 t)

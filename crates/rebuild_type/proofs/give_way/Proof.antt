@@ -14,8 +14,8 @@ sub-count : tie.Need-sub-count
 sub-count c =
     let s = c .before .before .before .before .before in to-ends (c .before .entry .ensures) (c .entry2 .ensures) (s .pre .0) (s .pre .1)
 
-lay-requires : tie.Need-lay-requires
-lay-requires c κs =
+add-words-requires : tie.Need-add-words-requires
+add-words-requires c κs =
     let s = c .before .before .before .before .before .before in (to-inside (c .before .before .entry .ensures) (c .before .entry2 .ensures) (s .pre .0) (s .pre .1), s .pre .3, s .pre .4)
 
 enum-known-pos : tie.Need-enum-known-pos
@@ -33,13 +33,13 @@ same-length : tie.Need-same-length
 same-length c = search needs
 
 returns : tie.Need-returns
-returns c = gives-to (c .before .before .before .before .before .before .before .before .before .entry .ensures) (c .before .before .before .before .before .before .before .before .entry2 .ensures) (c .before .before .before .before .before .before .lay .ensures) (c .before .before .pos .given .1) (c .depth-in .ensures)
+returns c = gives-to (c .before .before .before .before .before .before .before .before .before .entry .ensures) (c .before .before .before .before .before .before .before .before .entry2 .ensures) (c .before .before .before .before .before .before .add-words .ensures) (c .before .before .pos .given .1) (c .depth-in .ensures)
 
 same-length-2 : tie.Need-same-length-2
 same-length-2 c = search needs
 
 returns-2 : tie.Need-returns-2
-returns-2 c = gives-over (c .before .before .before .before .before .before .before .entry .ensures) (c .before .before .before .before .before .before .entry2 .ensures) (c .before .before .before .before .lay .ensures) (c .enum-told .given .1)
+returns-2 c = gives-over (c .before .before .before .before .before .before .before .entry .ensures) (c .before .before .before .before .before .before .entry2 .ensures) (c .before .before .before .before .add-words .ensures) (c .enum-told .given .1)
 
 pub give-way-spec : {M : Type 1} → statement M
 give-way-spec =
@@ -48,7 +48,7 @@ give-way-spec =
     entry-requires
     entry-requires-2
     sub-count
-    lay-requires
+    add-words-requires
     enum-known-pos
     depth-in-requires
     enum-told

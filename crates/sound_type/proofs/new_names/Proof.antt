@@ -4,14 +4,14 @@ use Prim.Native.Nat.{_+_, _-_}
 use mathlib.Core.Path.{refl, _∙_}
 use Rattle.encoding.specs.Tables.{nameBytes, nameCount}
 use Rattle.encoding.proofs.Reading.{below-out, below-end}
-use Rattle.sound_type.specs.Judging.{Known, Onward}
+use Rattle.sound_type.specs.Judging.{Known, NamesOnward}
 use Rattle.sound_type.proofs.Names.{judged-all, judged-sound, was-fine, was-poor, was-no-name}
 use Rattle.sound_type.proofs.Paths.{onward-here, onward-then, onward-more, path-leaf, path-poor, path-stop}
 use Rattle.sound_type.proofs.new_names.Statement.{statement}
 use Rattle.sound_type.proofs.new_names.Tie as tie
 
 abbrev Inv-loop : tie.InvT-loop
-Inv-loop words pairs text known₀ start ask end i₀ known i = Onward (nameCount pairs) words (nameBytes pairs text) ask i₀ end i × Known pairs text known
+Inv-loop words pairs text known₀ start ask end i₀ known i = NamesOnward (nameCount pairs) words (nameBytes pairs text) ask i₀ end i × Known pairs text known
 
 abbrev μ-loop : tie.MeasureT-loop
 μ-loop words pairs text known₀ start ask end i₀ known i = end - i

@@ -6,7 +6,7 @@ use Rattle.encoding.specs.Tables.{nameBytes, nameCount}
 use Rattle.encoding.proofs.Reading.{word-got, word-stop}
 use Rattle.encoding.proofs.Inside.{below-there}
 use Rattle.text_measure.proofs.Scans.{below-got}
-use Rattle.sound_type.specs.Judging.{Onward}
+use Rattle.sound_type.specs.Judging.{NamesOnward}
 use Rattle.sound_type.proofs.Names.{judged-nothing}
 use Rattle.sound_type.proofs.Paths.{onward-here, onward-more, path-leaf, path-stop}
 use borrow.Author.Needs.{needs}
@@ -14,7 +14,7 @@ use Rattle.sound_type.proofs.unjudged_names.Statement.{statement}
 use Rattle.sound_type.proofs.unjudged_names.Tie as tie
 
 abbrev Inv-loop : tie.InvT-loop
-Inv-loop words pairs text bound end i₀ i = Onward (nameCount pairs) words (nameBytes pairs text) 0 i₀ end i
+Inv-loop words pairs text bound end i₀ i = NamesOnward (nameCount pairs) words (nameBytes pairs text) 0 i₀ end i
 
 abbrev μ-loop : tie.MeasureT-loop
 μ-loop words pairs text bound end i₀ i = end - i

@@ -1,6 +1,6 @@
 use Prim.Native.Nat.{ℕ}
 use mathlib.Core.List.{List}
-use Rattle.text_doc.specs.declared.Piece.{Piece}
+use Rattle.text_doc.specs.declared.DocPiece.{DocPiece}
 use Rattle.text_doc.specs.Steps.{copied, pieceText}
 use Rattle.buffer.specs.Laid.{Fits, Laid}
 use Rattle.buffer.proofs.Passes.{fits-as, fits-behind, fits-front, laid-as, laid-then}
@@ -14,10 +14,10 @@ use Rattle.text_doc.proofs.lay_piece.Statement.{statement}
 use Rattle.text_doc.proofs.lay_piece.Tie as tie
 
 -- the text of the piece, by which piece it is
-fits : (c : tie.Start) {k : Piece} → c .args .piece ≡ k → Fits (c .args .write) (c .args .out .now) (c .args .pos) (pieceText (indent (c .args .level)) (drop (c .args .at) (c .args .doc .now)) k)
+fits : (c : tie.Start) {k : DocPiece} → c .args .piece ≡ k → Fits (c .args .write) (c .args .out .now) (c .args .pos) (pieceText (indent (c .args .level)) (drop (c .args .at) (c .args .doc .now)) k)
 fits c e = fits-as (ap (pieceText (indent (c .args .level)) (drop (c .args .at) (c .args .doc .now))) e) (c .pre .1)
 
-laid : (c : tie.Start) {k : Piece} {o : List ℕ} {p : ℕ} → c .args .piece ≡ k → Laid (c .args .write) (c .args .out .now) (c .args .pos) (pieceText (indent (c .args .level)) (drop (c .args .at) (c .args .doc .now)) k) o p
+laid : (c : tie.Start) {k : DocPiece} {o : List ℕ} {p : ℕ} → c .args .piece ≡ k → Laid (c .args .write) (c .args .out .now) (c .args .pos) (pieceText (indent (c .args .level)) (drop (c .args .at) (c .args .doc .now)) k) o p
     → Laid (c .args .write) (c .args .out .now) (c .args .pos) (pieceText (indent (c .args .level)) (drop (c .args .at) (c .args .doc .now)) (c .args .piece)) o p
 laid c e l = laid-as (ap (pieceText (indent (c .args .level)) (drop (c .args .at) (c .args .doc .now))) (sym e)) l
 

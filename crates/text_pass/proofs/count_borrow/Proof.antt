@@ -3,7 +3,7 @@ use mathlib.Core.Path.{_≡_, _∙_, ap}
 use native.Mathlib.Omega.{arith}
 use Rattle.buffer.specs.Laid.{clamp}
 use Rattle.encoding.specs.Words.{maxDepth}
-use Rattle.text_pass.specs.declared.Place.{Place}
+use Rattle.text_pass.specs.declared.PartEnd.{PartEnd}
 use Rattle.text_pass.specs.Passes.{Counts, came}
 use Rattle.text_pass.specs.Texts.{nameAt, typeTextAt}
 use Rattle.text_pass.proofs.Leaves.{borrow-counts, ended-text, named-counts, plain-counts, textWithin}
@@ -13,7 +13,7 @@ use Rattle.text_pass.proofs.count_borrow.Statement.{statement}
 use Rattle.text_pass.proofs.count_borrow.Tie as tie
 
 -- what is borrowed, counted behind the "&"
-behind : (c : tie.Start) {r : Place} →
+behind : (c : tie.Start) {r : PartEnd} →
     let a = c .args in
     Counts (a .pos + 1) (textWithin (maxDepth - 1) (a .words .now) (a .pairs .now) (a .text .now) (a .at + 1)) r → Counts (a .pos) (typeTextAt (a .words .now) (a .pairs .now) (a .text .now) (a .at)) r
 behind c w = borrow-counts (c .args .words .now) (c .args .pairs .now) (c .args .text .now) (c .args .at) (c .pre .1) (c .pre .2) w

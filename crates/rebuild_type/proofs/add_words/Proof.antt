@@ -2,8 +2,8 @@ use Rattle.rebuild_type.proofs.Growing.{part-laid, part-over}
 use mathlib.Core.Path.{refl}
 use native.Mathlib.Omega.{arith}
 use borrow.Author.Needs.{needs}
-use Rattle.rebuild_type.proofs.lay.Statement.{statement}
-use Rattle.rebuild_type.proofs.lay.Tie as tie
+use Rattle.rebuild_type.proofs.add_words.Statement.{statement}
+use Rattle.rebuild_type.proofs.add_words.Tie as tie
 
 sub-if1 : tie.Need-sub-if1
 sub-if1 c = search needs
@@ -26,8 +26,8 @@ returns-2 c =
     let a = c .before .before .before .before .before .before .before .args in
     part-laid (a .out .now) (a .src .now) (a .pos) (a .start) (a .count) (c .before .before .before .before .before .before .before .pre .0) (omega (arith, c .before .before .before .before .if1 .left, c .before .before .before .before .before .before .before .pre .1)) (c .before .before .before .before .before .before .before .pre .2) (c .before .before .copy-few .ensures) refl
 
-pub lay-spec : {M : Type 1} → statement M
-lay-spec =
+pub add-words-spec : {M : Type 1} → statement M
+add-words-spec =
     tie.close
     (tie.spec
     sub-if1

@@ -1,8 +1,8 @@
 use Rattle.rebuild_type.proofs.Growing.{word-laid, word-over}
 use native.Mathlib.Omega.{arith}
 use borrow.Author.Needs.{needs}
-use Rattle.rebuild_type.proofs.lay_plain.Statement.{statement}
-use Rattle.rebuild_type.proofs.lay_plain.Tie as tie
+use Rattle.rebuild_type.proofs.add_plain.Statement.{statement}
+use Rattle.rebuild_type.proofs.add_plain.Tie as tie
 
 returns : tie.Need-returns
 returns c = let s = c .before in let a = s .args in word-over (a .out .now) (a .word) (a .pos) (a .at) (c .if1 .taken)
@@ -25,6 +25,6 @@ same-length c = search needs
 returns-2 : tie.Need-returns-2
 returns-2 c = let s = c .before in let a = s .args in word-laid (a .out .now) (a .word) (a .pos) (a .at) (omega (arith, c .if1 .left)) (s .pre .2)
 
-pub lay-plain-spec : {M : Type 1} → statement M
-lay-plain-spec =
+pub add-plain-spec : {M : Type 1} → statement M
+add-plain-spec =
     tie.close (tie.spec returns mul-out slice-write-out add-t7 add-t9 same-length returns-2)

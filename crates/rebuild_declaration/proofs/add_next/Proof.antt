@@ -1,8 +1,8 @@
 use Rattle.rebuild_declaration.proofs.Steps.{OwnLaid, TypeLeft, never-halts, nothing-left, own-full, own-further, own-laid, type-full, type-further, type-left}
 use native.Mathlib.Omega.{arith}
 use borrow.Author.Needs.{needs}
-use Rattle.rebuild_declaration.proofs.lay_next.Statement.{statement}
-use Rattle.rebuild_declaration.proofs.lay_next.Tie as tie
+use Rattle.rebuild_declaration.proofs.add_next.Statement.{statement}
+use Rattle.rebuild_declaration.proofs.add_next.Tie as tie
 
 -- the own words before the next step, and the type that is due
 own : (c : tie.After-next) → let s = c .before .before .before .before .before .before .before .before .before in OwnLaid (s .args .words .now) (s .args .pairs .now) (s .args .walk) (c .next .given .0 .0)
@@ -23,8 +23,8 @@ enum-known-next c = search needs
 sub-count : tie.Need-sub-count
 sub-count c = let k = own (c .before .before) in omega (arith, k .further)
 
-lay-requires : tie.Need-lay-requires
-lay-requires c κs =
+add-words-requires : tie.Need-add-words-requires
+add-words-requires c κs =
     let s = c .before .before .before .before .before .before .before .before .before .before .before .before .pre in
     let k = own (c .before .before .before) in
     (omega (arith, k .further, k .inside), s .within, s .room)
@@ -63,13 +63,13 @@ same-length : tie.Need-same-length
 same-length c = search needs
 
 returns : tie.Need-returns
-returns c = own-further (c .before .before .before .before .before .before .before .before .before .before .before .before .before .before .before .before .before .before .pre) (own (c .before .before .before .before .before .before .before .before .before)) (c .before .before .before .before .before .lay .ensures) (c .before .p .given .1)
+returns c = own-further (c .before .before .before .before .before .before .before .before .before .before .before .before .before .before .before .before .before .before .pre) (own (c .before .before .before .before .before .before .before .before .before)) (c .before .before .before .before .before .add-words .ensures) (c .before .p .given .1)
 
 same-length-2 : tie.Need-same-length-2
 same-length-2 c = search needs
 
 returns-2 : tie.Need-returns-2
-returns-2 c = own-full (c .before .before .before .before .before .before .before .before .before .before .before .before .before .before .before .before .before .pre) (own (c .before .before .before .before .before .before .before .before)) (c .before .before .before .before .lay .ensures) (c .enum-told .given .1)
+returns-2 c = own-full (c .before .before .before .before .before .before .before .before .before .before .before .before .before .before .before .before .before .pre) (own (c .before .before .before .before .before .before .before .before)) (c .before .before .before .before .add-words .ensures) (c .enum-told .given .1)
 
 same-length-3 : tie.Need-same-length-3
 same-length-3 c = search needs
@@ -89,15 +89,15 @@ returns-5 c = nothing-left (c .before .before .before .before .before .before .b
 returns-6 : tie.Need-returns-6
 returns-6 c = absurd (never-halts (c .before .before .before .before .before .before .before .before .before .pre) (c .before .before .before .name-count .ensures) (c .before .before .next-piece .ensures) (c .enum-told4 .given .1))
 
-pub lay-next-spec : {M : Type 1} → statement M
-lay-next-spec =
+pub add-next-spec : {M : Type 1} → statement M
+add-next-spec =
     tie.close
     (tie.spec
     name-count-requires
     next-piece-requires
     enum-known-next
     sub-count
-    lay-requires
+    add-words-requires
     enum-known-p
     enum-told
     enum-known-next-2

@@ -3,8 +3,8 @@ use Rattle.rebuild_declaration.proofs.Steps.{Among, among-ahead, among-
 use lib.ListN.{length}
 use native.Mathlib.Omega.{arith}
 use borrow.Author.Needs.{needs}
-use Rattle.rebuild_declaration.proofs.lay_fields.Statement.{statement}
-use Rattle.rebuild_declaration.proofs.lay_fields.Tie as tie
+use Rattle.rebuild_declaration.proofs.add_fields.Statement.{statement}
+use Rattle.rebuild_declaration.proofs.add_fields.Tie as tie
 
 abbrev Inv-loop : tie.InvT-loop
 Inv-loop words pairs text rules table k out₀ pos limit w₀ p₀ deepest₀ out w p deepest = Among words pairs text rules table k w₀ limit out₀ pos out w p deepest
@@ -15,8 +15,8 @@ abbrev μ-loop : tie.MeasureT-loop
 loop-holds : tie.Need-loop-holds Inv-loop μ-loop
 loop-holds c = let s = c .before .before .before .before .before .pre in record { going = going-starts (s .0); behind = omega arith; due = s .1 }
 
-lay-field-requires : tie.Need-lay-field-requires Inv-loop μ-loop
-lay-field-requires c κs = let i = c .before .loop .inv in (i .going .ready, i .due)
+add-field-requires : tie.Need-add-field-requires Inv-loop μ-loop
+add-field-requires c κs = let i = c .before .loop .inv in (i .going .ready, i .due)
 
 enum-known-next : tie.Need-enum-known-next Inv-loop μ-loop
 enum-known-next c = search needs
@@ -34,28 +34,28 @@ same-length : tie.Need-same-length Inv-loop μ-loop
 same-length c = search needs
 
 returns : tie.Need-returns Inv-loop μ-loop
-returns c = among-full (c .before .before .before .before .before .before .loop .inv) (c .before .before .before .before .lay-field .ensures) (c .enum-told .given .1)
+returns c = among-full (c .before .before .before .before .before .before .loop .inv) (c .before .before .before .before .add-field .ensures) (c .enum-told .given .1)
 
 same-length-2 : tie.Need-same-length-2 Inv-loop μ-loop
 same-length-2 c = search needs
 
 returns-2 : tie.Need-returns-2 Inv-loop μ-loop
-returns-2 c = among-ends (c .before .before .before .before .before .before .before .before .before .before .before .loop .inv) (c .before .before .before .before .before .before .before .before .before .lay-field .ensures) (c .before .before .before .before .before .next .given .1) (c .before .before .before .past-field .ensures) (c .before .before .larger .ensures)
+returns-2 c = among-ends (c .before .before .before .before .before .before .before .before .before .before .before .loop .inv) (c .before .before .before .before .before .before .before .before .before .add-field .ensures) (c .before .before .before .before .before .next .given .1) (c .before .before .before .past-field .ensures) (c .before .before .larger .ensures)
 
 loop-less : tie.Need-loop-less Inv-loop μ-loop
-loop-less c = let h = among-ahead (c .before .before .before .before .before .before .before .before .before .before .before .loop .inv) (c .before .before .before .before .before .before .before .before .before .lay-field .ensures) (c .before .before .before .before .before .next .given .1) (c .before .before .before .past-field .ensures) (c .before .before .larger .ensures) in omega (arith, h .0, h .1)
+loop-less c = let h = among-ahead (c .before .before .before .before .before .before .before .before .before .before .before .loop .inv) (c .before .before .before .before .before .before .before .before .before .add-field .ensures) (c .before .before .before .before .before .next .given .1) (c .before .before .before .past-field .ensures) (c .before .before .larger .ensures) in omega (arith, h .0, h .1)
 
 loop-again : tie.Need-loop-again Inv-loop μ-loop
-loop-again c = among-next (c .before .before .before .before .before .before .before .before .before .before .before .loop .inv) (c .before .before .before .before .before .before .before .before .before .lay-field .ensures) (c .before .before .before .before .before .next .given .1) (c .before .before .before .past-field .ensures) (c .before .before .larger .ensures) (c .if1 .left)
+loop-again c = among-next (c .before .before .before .before .before .before .before .before .before .before .before .loop .inv) (c .before .before .before .before .before .before .before .before .before .add-field .ensures) (c .before .before .before .before .before .next .given .1) (c .before .before .before .past-field .ensures) (c .before .before .larger .ensures) (c .if1 .left)
 
-pub lay-fields-spec : {M : Type 1} → statement M
-lay-fields-spec =
+pub add-fields-spec : {M : Type 1} → statement M
+add-fields-spec =
     tie.close
     (tie.spec
     Inv-loop
     μ-loop
     loop-holds
-    lay-field-requires
+    add-field-requires
     enum-known-next
     past-field-requires
     larger-requires
