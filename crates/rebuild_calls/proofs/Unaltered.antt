@@ -116,14 +116,14 @@ module _ (ws pairs : List ℕ) (text : Bytes) where
   none-given q t r = refl
 
   -- a tree that stays so is given by the words
-  same-given : {A : Type 0} (add-words : (Ty ℕ → Ty ℕ) → A → RebuiltWords) (deep : A → ℕ) (x : Reading A) {a : A} → (x ≡ got a (length ws) → add-words (mappingOf pairs text []) a ≡ sameWords ws (deep a))
+  same-given : {A : Type 0} (build : (Ty ℕ → Ty ℕ) → A → RebuiltWords) (deep : A → ℕ) (x : Reading A) {a : A} → (x ≡ got a (length ws) → build (mappingOf pairs text []) a ≡ sameWords ws (deep a))
       → unless (checkTables ws pairs text) (whole (length ws) x) ≡ given a
-      → unless (checkAll ws (0 ∷ []) pairs text) (ruledBy (λ rs. add-words (mappingOf pairs text rs)) (whole (length ws) x) (rulesOf (0 ∷ []) pairs text)) ≡ given (sameWords ws (deep a))
+      → unless (checkAll ws (0 ∷ []) pairs text) (ruledBy (λ rs. build (mappingOf pairs text rs)) (whole (length ws) x) (rulesOf (0 ∷ []) pairs text)) ≡ given (sameWords ws (deep a))
   unfolding unless
-  same-given add-words deep x k e =
+  same-given build deep x k e =
       let p = given-whole (checkTables ws pairs text) (length ws) x e in
       rw (check-tables ws (0 ∷ []) pairs text (omega arith), p .0)
-      (both-given (λ rs. add-words (mappingOf pairs text rs)) [] (length ws) x (rulesOf (0 ∷ []) pairs text) (p .1) refl (no-rules pairs text) ∙ ap given (k (p .1)))
+      (both-given (λ rs. build (mappingOf pairs text rs)) [] (length ws) x (rulesOf (0 ∷ []) pairs text) (p .1) refl (no-rules pairs text) ∙ ap given (k (p .1)))
 
   pub unaltered : {t : Ty ℕ} → treeOf ws pairs text ≡ given t → typeRebuilt ws pairs text (0 ∷ []) ≡ given (sameWords ws (depth t))
   unfolding treeOf typeRebuilt

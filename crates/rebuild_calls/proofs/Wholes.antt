@@ -100,28 +100,28 @@ module _ (what : Whole) (ws pairs : List ℕ) (text : Bytes) {s : Scan} (a : s �
   laid-ends m e d = tree-ends what ws pairs m ∙ sym accepts ∙ e ∙ ap At d
 
   module _ (rules o : List ℕ) where
-    abbrev add-words : List Rule → Tree what → RebuiltWords
-    add-words rs = laidTree what (mappingOf pairs text rs)
+    abbrev build : List Rule → Tree what → RebuiltWords
+    build rs = laidTree what (mappingOf pairs text rs)
 
-    asked : {p : RebuildAnswer × List ℕ} → p ≡ laidDown o (ruledBy add-words (whole (length ws) (treeIn what ws pairs)) (rulesOf rules pairs text)) → p ≡ laidDown o (wholeRebuilt what ws pairs text rules)
+    asked : {p : RebuildAnswer × List ℕ} → p ≡ laidDown o (ruledBy build (whole (length ws) (treeIn what ws pairs)) (rulesOf rules pairs text)) → p ≡ laidDown o (wholeRebuilt what ws pairs text rules)
     asked e = e ∙ ap (laidDown o) (rebuilt-tree what ws pairs text rules)
 
     pub whole-stops : {k : Refusal} → s ≡ Halted k → _≡_ {A = RebuildAnswer × List ℕ} (Refused k, o) (laidDown o (wholeRebuilt what ws pairs text rules))
-    whole-stops e = asked (tree-stops add-words o (length ws) (treeIn what ws pairs) (rulesOf rules pairs text) (scan-stop (treeIn what ws pairs) accepts e))
+    whole-stops e = asked (tree-stops build o (length ws) (treeIn what ws pairs) (rulesOf rules pairs text) (scan-stop (treeIn what ws pairs) accepts e))
 
     module _ {n : ℕ} (e : s ≡ At n) where
       reads : EndsAt (treeIn what ws pairs) n
       reads = end-got (treeIn what ws pairs) accepts e
 
       pub whole-over : (n ≡ length ws → ⊥) → _≡_ {A = RebuildAnswer × List ℕ} (Refused LeftOver, o) (laidDown o (wholeRebuilt what ws pairs text rules))
-      whole-over d = asked (tree-over add-words o (length ws) (treeIn what ws pairs) (rulesOf rules pairs text) (reads .reads) d)
+      whole-over d = asked (tree-over build o (length ws) (treeIn what ws pairs) (rulesOf rules pairs text) (reads .reads) d)
 
       pub whole-refused : {k : Refusal} → n ≡ length ws → rulesOf rules pairs text ≡ refused k → _≡_ {A = RebuildAnswer × List ℕ} (Refused k, o) (laidDown o (wholeRebuilt what ws pairs text rules))
-      whole-refused d c = asked (rules-stop-it add-words o (length ws) (treeIn what ws pairs) (rulesOf rules pairs text) (reads .reads) d c)
+      whole-refused d c = asked (rules-stop-it build o (length ws) (treeIn what ws pairs) (rulesOf rules pairs text) (reads .reads) d c)
 
       pub whole-answered : {o′ : List ℕ} {r : RebuildAnswer} → n ≡ length ws → rulesOf rules pairs text ≡ given (ruleList (rulesOf rules pairs text))
           → Fills (laidBy what ws pairs (mapping rules pairs text)) o o′ r → (r, o′) ≡ laidDown o (wholeRebuilt what ws pairs text rules)
       unfolding mapping
       whole-answered {o′} {r} d c f =
-          asked (whole-filled add-words (length ws) (treeIn what ws pairs) (rulesOf rules pairs text) (reads .reads) d c
+          asked (whole-filled build (length ws) (treeIn what ws pairs) (rulesOf rules pairs text) (reads .reads) d c
           (subst (λ x. Fills x o o′ r) (laid-tree what ws pairs (mapping rules pairs text)) f))
