@@ -5,6 +5,7 @@ use lib.Dec.{eqb}
 use Rattle.rast.specs.Bytes.{Bytes}
 use Rattle.rast.specs.Tree.{Ty}
 use Rattle.rast.specs.Declaration.{Declaration, TypeParamDecl, Formal, Field, NamelessField, Fields, EnumCase, Struct, Enum, TypeSynonym}
+use Rattle.encoding.specs.Words.{visibilityCount, namedKind}
 use Rattle.encoding.specs.declared.Scan.{Scan}
 use Rattle.encoding.specs.declared.Scan.the-variants.{At, Refused}
 use Rattle.encoding.specs.Refusals.{pick}
@@ -26,7 +27,7 @@ thenAt (Refused r) f = Refused r
 
 -- a use: visibility and path
 abbrev pub useEnd : ℕ → List ℕ → ℕ → Scan
-useEnd bound ws at = thenAt (ended (readBelow 2 ws at)) λ p. ended (readPath bound ws p)
+useEnd bound ws at = thenAt (ended (readBelow visibilityCount ws at)) λ p. ended (readPath bound ws p)
 
 module _ (ws pairs : List ℕ) (text : Bytes) where
   abbrev pub parameterAt : ℕ → Reading (TypeParamDecl Bytes)
@@ -43,10 +44,10 @@ module _ (ws pairs : List ℕ) (text : Bytes) where
 
   -- a field of a kind (0 named, 1 nameless), and n of them
   abbrev pub fieldEnd : ℕ → ℕ → Scan
-  fieldEnd kind at = pick (eqb kind 0) (ended (fieldAt at)) (ended (namelessAt at))
+  fieldEnd kind at = pick (eqb kind namedKind) (ended (fieldAt at)) (ended (namelessAt at))
 
   abbrev pub eachFieldEnd : ℕ → ℕ → ℕ → Scan
-  eachFieldEnd kind n at = pick (eqb kind 0) (ended (readList fieldAt n at)) (ended (readList namelessAt n at))
+  eachFieldEnd kind n at = pick (eqb kind namedKind) (ended (readList fieldAt n at)) (ended (readList namelessAt n at))
 
   abbrev pub fieldsAt : ℕ → Reading (Fields Bytes)
   fieldsAt at = readFields (nameCount pairs) ws (nameBytes pairs text) (typeAt ws pairs text) at

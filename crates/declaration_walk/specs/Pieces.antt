@@ -5,6 +5,7 @@ use mathlib.Core.List.{List, [], _∷_, _++_, map}
 use lib.ListN.{length}
 use Rattle.rast.specs.Tree.{Ty}
 use Rattle.rast.specs.Declaration.{Visibility, PUB, PRIV, Attribute, TypeParamDecl, Field, NamelessField, Fields, NamedFields, NamelessFields, EnumCase, Use, Declaration, StructDecl, EnumDecl, TypeDecl, UseDecl}
+use Rattle.encoding.specs.Words.{pubWord, privWord, namedKind, namelessKind}
 use Rattle.encoding.specs.Forms.{Form, Entries, plain}
 use Rattle.tree_words.specs.Encode.{Token, word, name, tokenWord, pathTokens, tokens}
 use Rattle.declaration_walk.specs.declared.Role.{Role}
@@ -16,8 +17,8 @@ pub data Piece (N : Type 0) : Type 0 where
 
 -- 0 PUB, 1 PRIV
 unfoldable pub visibilityWord : Visibility → ℕ
-visibilityWord PUB = 0
-visibilityWord PRIV = 1
+visibilityWord PUB = pubWord
+visibilityWord PRIV = privWord
 
 -- what f gives for each of some things, one behind the other
 unfoldable pub runs : {A B : Type 0} → (A → List B) → List A → List B
@@ -64,8 +65,8 @@ module _ {N : Type 0} where
 
   -- fields: 0 named or 1 nameless; n; n fields
   unfoldable pub fieldsPieces : Role → Fields N → List (Piece N)
-  fieldsPieces r (NamedFields xs) = own (word 0) ∷ counted (fieldPieces r) xs
-  fieldsPieces r (NamelessFields xs) = own (word 1) ∷ counted (namelessPieces r) xs
+  fieldsPieces r (NamedFields xs) = own (word namedKind) ∷ counted (fieldPieces r) xs
+  fieldsPieces r (NamelessFields xs) = own (word namelessKind) ∷ counted (namelessPieces r) xs
 
   -- a case of an enum: doc, name, fields
   unfoldable pub casePieces : EnumCase N → List (Piece N)

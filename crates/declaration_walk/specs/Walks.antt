@@ -6,6 +6,7 @@ use lib.Dec.{eqb}
 use Rattle.rast.specs.Bytes.{Bytes}
 use Rattle.rast.specs.Tree.{Ty}
 use Rattle.rast.specs.Declaration.{Attribute}
+use Rattle.encoding.specs.Words.{visibilityCount, namedKind, fieldKinds}
 use Rattle.encoding.specs.declared.Refusal.{Refusal}
 use Rattle.encoding.specs.declared.Refusal.the-variants.{UnknownWord}
 use Rattle.encoding.specs.Refusals.{pick}
@@ -53,7 +54,7 @@ module _ {N : Type 0} (form : Form) (bound : ℕ) (ws : List ℕ) (nm : ℕ → 
   -- n fields of a role, named if the kind is 0
   unfoldable pub someFields : Role → ℕ → ℕ → ℕ → Reading (List (Piece N))
   someFields r kind n p =
-      pick (eqb kind 0) (many (readField bound ws nm type) (fieldPieces r) n p) (many (readNamelessField bound ws nm type) (namelessPieces r) n p)
+      pick (eqb kind namedKind) (many (readField bound ws nm type) (fieldPieces r) n p) (many (readNamelessField bound ws nm type) (namelessPieces r) n p)
 
   -- behind the parameters: fields and then cases; cases; a type; or the fields and cases that are due
   unfoldable pub bodyOf : Walk → After → ℕ → Reading (List (Piece N))
@@ -118,7 +119,7 @@ abbrev pub FieldNext : Walk → Type 0
 FieldNext w = (w .types ≡ 0) × (w .parameters ≡ 0) × (w .after ≡ NoMore) × (0 < w .fields)
 
 abbrev pub fieldType : Walk → ℕ
-fieldType w = pick (eqb (w .kind) 0) (w .place + 2) (w .place + 1)
+fieldType w = pick (eqb (w .kind) namedKind) (w .place + 2) (w .place + 1)
 
 abbrev pub pastField : Walk → ℕ → Walk
 pastField w q = record { place = q; role = w .role; types = 0; parameters = 0; after = NoMore; kind = w .kind; fields = w .fields - 1; cases = w .cases }
@@ -128,18 +129,18 @@ pub data Stepped (bound : ℕ) (ws : List ℕ) (w : Walk) : Next → Type 0 wher
   type-due : 0 < w .types → Stepped bound ws w (TypeDue (w .role) (pastType w))
   parameter : {x m q : ℕ} → w .types ≡ 0 → 0 < w .parameters → readEntry bound ws (w .place) ≡ got (x, m) q → Stepped bound ws w (OwnWords (inParameter w m q))
   no-parameter : {r : Refusal} → w .types ≡ 0 → 0 < w .parameters → readEntry bound ws (w .place) ≡ stop r → Stepped bound ws w (Halted r)
-  fields : {r : Role} {k n q : ℕ} → w .types ≡ 0 → w .parameters ≡ 0 → w .after ≡ FieldList r → readEntry 2 ws (w .place) ≡ got (k, n) q → Stepped bound ws w (OwnWords (inFields w r k n q))
-  no-fields : {a : Role} {r : Refusal} → w .types ≡ 0 → w .parameters ≡ 0 → w .after ≡ FieldList a → readEntry 2 ws (w .place) ≡ stop r → Stepped bound ws w (Halted r)
+  fields : {r : Role} {k n q : ℕ} → w .types ≡ 0 → w .parameters ≡ 0 → w .after ≡ FieldList r → readEntry fieldKinds ws (w .place) ≡ got (k, n) q → Stepped bound ws w (OwnWords (inFields w r k n q))
+  no-fields : {a : Role} {r : Refusal} → w .types ≡ 0 → w .parameters ≡ 0 → w .after ≡ FieldList a → readEntry fieldKinds ws (w .place) ≡ stop r → Stepped bound ws w (Halted r)
   cases : {n q : ℕ} → w .types ≡ 0 → w .parameters ≡ 0 → w .after ≡ CaseList → readWord ws (w .place) ≡ got n q → Stepped bound ws w (OwnWords (inCases n q))
   no-cases : {r : Refusal} → w .types ≡ 0 → w .parameters ≡ 0 → w .after ≡ CaseList → readWord ws (w .place) ≡ stop r → Stepped bound ws w (Halted r)
   alias : w .types ≡ 0 → w .parameters ≡ 0 → w .after ≡ OneType → Stepped bound ws w (TypeDue Aliased (pastAlias w))
-  field : {v x q : ℕ} → w .types ≡ 0 → w .parameters ≡ 0 → w .after ≡ NoMore → 0 < w .fields → w .kind ≡ 0 → readTwo 2 bound ws (w .place) ≡ got (v, x) q
+  field : {v x q : ℕ} → w .types ≡ 0 → w .parameters ≡ 0 → w .after ≡ NoMore → 0 < w .fields → w .kind ≡ namedKind → readTwo visibilityCount bound ws (w .place) ≡ got (v, x) q
       → Stepped bound ws w (OwnWords (inField w q))
-  no-field : {r : Refusal} → w .types ≡ 0 → w .parameters ≡ 0 → w .after ≡ NoMore → 0 < w .fields → w .kind ≡ 0 → readTwo 2 bound ws (w .place) ≡ stop r
+  no-field : {r : Refusal} → w .types ≡ 0 → w .parameters ≡ 0 → w .after ≡ NoMore → 0 < w .fields → w .kind ≡ namedKind → readTwo visibilityCount bound ws (w .place) ≡ stop r
       → Stepped bound ws w (Halted r)
-  nameless : {v q : ℕ} → w .types ≡ 0 → w .parameters ≡ 0 → w .after ≡ NoMore → 0 < w .fields → (w .kind ≡ 0 → ⊥) → readBelow 2 ws (w .place) ≡ got v q
+  nameless : {v q : ℕ} → w .types ≡ 0 → w .parameters ≡ 0 → w .after ≡ NoMore → 0 < w .fields → (w .kind ≡ namedKind → ⊥) → readBelow visibilityCount ws (w .place) ≡ got v q
       → Stepped bound ws w (OwnWords (inField w q))
-  no-nameless : {r : Refusal} → w .types ≡ 0 → w .parameters ≡ 0 → w .after ≡ NoMore → 0 < w .fields → (w .kind ≡ 0 → ⊥) → readBelow 2 ws (w .place) ≡ stop r
+  no-nameless : {r : Refusal} → w .types ≡ 0 → w .parameters ≡ 0 → w .after ≡ NoMore → 0 < w .fields → (w .kind ≡ namedKind → ⊥) → readBelow visibilityCount ws (w .place) ≡ stop r
       → Stepped bound ws w (Halted r)
   case : {d x q : ℕ} → w .types ≡ 0 → w .parameters ≡ 0 → w .after ≡ NoMore → w .fields ≡ 0 → 0 < w .cases → readTwo bound bound ws (w .place) ≡ got (d, x) q
       → Stepped bound ws w (OwnWords (inCase w q))
@@ -169,7 +170,7 @@ readTitle bound ws k after p =
 
 unfoldable pub readUsing : ℕ → ℕ → List ℕ → ℕ → Reading Opening
 readUsing k bound ws p =
-    readBelow 2 ws p >>= λ v q. readPath bound ws q >>= λ x r.
+    readBelow visibilityCount ws p >>= λ v q. readPath bound ws q >>= λ x r.
     got (record { tokens = useTokens k (record { visibility = visibilityOf v; path = pathOf ws (λ i. i) x }); parameters = 0; after = NoMore }) r
 
 unfoldable pub openingAfter : Form → ℕ → List ℕ → ℕ → ℕ → Reading Opening

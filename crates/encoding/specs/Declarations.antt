@@ -6,6 +6,7 @@ use lib.ListN.{length}
 use Rattle.rast.specs.Bytes.{Bytes}
 use Rattle.rast.specs.Tree.{Ty}
 use Rattle.rast.specs.Declaration.{Visibility, PUB, PRIV, Attribute, TypeParamDecl, Formal, Field, NamelessField, Fields, NamedFields, NamelessFields, EnumCase, Struct, Enum, TypeSynonym, Use, Declaration, StructDecl, EnumDecl, TypeDecl, UseDecl}
+use Rattle.encoding.specs.Words.{pubWord, visibilityCount, namedKind, fieldKinds}
 use Rattle.encoding.specs.declared.Refusal.the-variants.{UnknownWord}
 use Rattle.encoding.specs.Refusals.{pick, Answer, unless}
 use Rattle.encoding.specs.Reading.{Reading, got, stop, _>>=_, readWord, readBelow, whole}
@@ -25,10 +26,10 @@ readCounted ws item at = readWord ws at >>= λ n p. readList item n p
 
 -- 0 PUB, 1 PRIV
 unfoldable pub visibilityOf : ℕ → Visibility
-visibilityOf v = pick (eqb v 0) PUB PRIV
+visibilityOf v = pick (eqb v pubWord) PUB PRIV
 
 unfoldable pub readVisibility : List ℕ → ℕ → Reading Visibility
-readVisibility ws at = readBelow 2 ws at >>= λ v p. got (visibilityOf v) p
+readVisibility ws at = readBelow visibilityCount ws at >>= λ v p. got (visibilityOf v) p
 
 -- `bound` is the number of names, `name` what each stands for, `type` reads a type that stands inside no other
 module _ {N : Type 0} (bound : ℕ) (ws : List ℕ) (name : ℕ → N) (type : ℕ → Reading (Ty N)) where
@@ -56,8 +57,8 @@ module _ {N : Type 0} (bound : ℕ) (ws : List ℕ) (name : ℕ → N) (type : �
   -- 0 named, 1 nameless
   unfoldable pub readFields : ℕ → Reading (Fields N)
   readFields at =
-      readBelow 2 ws at >>= λ k p.
-      pick (eqb k 0) (readCounted ws readField p >>= λ xs q. got (NamedFields xs) q) (readCounted ws readNamelessField p >>= λ xs q. got (NamelessFields xs) q)
+      readBelow fieldKinds ws at >>= λ k p.
+      pick (eqb k namedKind) (readCounted ws readField p >>= λ xs q. got (NamedFields xs) q) (readCounted ws readNamelessField p >>= λ xs q. got (NamelessFields xs) q)
 
   -- "doc, name, fields" of a case
   unfoldable pub readCase : ℕ → Reading (EnumCase N)

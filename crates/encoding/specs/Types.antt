@@ -6,7 +6,7 @@ use lib.Dec.{eqb, leb}
 use lib.ListN.{length, getD, take, drop}
 use Rattle.rast.specs.Bytes.{Bytes}
 use Rattle.rast.specs.Tree.{Path, Global, Crate, Self, MSels, PrimitiveTy, U8, U16, U32, U64, U128, I8, I16, I32, I64, I128, USIZE, Bool·, Ty, Tys, Primitive, TIdentifier, TypeFromPath, TypeApp, Borrowed, BorrowedMut, ImplType, DynType, TupleType, FnType, IntersectionType, Array, TSynonym, TMetaData, nil, cons}
-use Rattle.encoding.specs.Words.{maxDepth}
+use Rattle.encoding.specs.Words.{maxDepth, globalRoot, crateRoot}
 use Rattle.encoding.specs.declared.Refusal.the-variants.{TooDeep}
 use Rattle.encoding.specs.declared.PathAt.{PathAt}
 use Rattle.encoding.specs.declared.Head.{Head}
@@ -22,7 +22,7 @@ primitives = U8 ∷ U16 ∷ U32 ∷ U64 ∷ U128 ∷ I8 ∷ I16 ∷ I32 ∷ I64 
 
 -- 0 Global, 1 Crate, 2 Self
 unfoldable pub rootOf : {N : Type 0} → ℕ → Path N
-rootOf r = pick (eqb r 0) Global (pick (eqb r 1) Crate Self)
+rootOf r = pick (eqb r globalRoot) Global (pick (eqb r crateRoot) Crate Self)
 
 unfoldable pub pathOf : {N : Type 0} → List ℕ → (ℕ → N) → PathAt → Path N
 pathOf ws name p = MSels (rootOf (p .root)) (map name (take (p .count) (drop (p .start) ws)))

@@ -51,9 +51,56 @@ metaDataKind = 24
 abbrev pub flagCount : ℕ
 flagCount = 4
 
--- how many roots of paths there are: Global, Crate, Self
+-- roots of paths: Global, Crate and Self, and how many there are
+abbrev pub globalRoot : ℕ
+globalRoot = 0
+
+abbrev pub crateRoot : ℕ
+crateRoot = 1
+
+abbrev pub selfRoot : ℕ
+selfRoot = 2
+
 abbrev pub rootCount : ℕ
 rootCount = 3
+
+-- visibilities, 0 PUB and 1 PRIV; kinds of field lists, 0 named and 1 nameless
+abbrev pub pubWord : ℕ
+pubWord = 0
+
+abbrev pub privWord : ℕ
+privWord = 1
+
+abbrev pub visibilityCount : ℕ
+visibilityCount = 2
+
+abbrev pub namedKind : ℕ
+namedKind = 0
+
+abbrev pub namelessKind : ℕ
+namelessKind = 1
+
+abbrev pub fieldKinds : ℕ
+fieldKinds = 2
+
+-- fixed names that definitions write
+abbrev pub stdName : ℕ
+stdName = 1
+
+abbrev pub memName : ℕ
+memName = 8
+
+abbrev pub maybeUninitName : ℕ
+maybeUninitName = 9
+
+abbrev pub dafnyRuntimeName : ℕ
+dafnyRuntimeName = 10
+
+abbrev pub objectName : ℕ
+objectName = 11
+
+abbrev pub ptrName : ℕ
+ptrName = 12
 
 -- the first name number that is a pair's: as many fixed names there are
 abbrev pub firstPair : ℕ

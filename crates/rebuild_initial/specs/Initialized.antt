@@ -9,7 +9,7 @@ use lib.ListN.{length, getD, take, drop}
 use Rattle.rast.specs.Bytes.{Bytes, _and_}
 use Rattle.rast.specs.Tree.{Path, Ty}
 use Rattle.rast.specs.DeclarationToString.{Expand}
-use Rattle.encoding.specs.Words.{fromPathKind, typeAppKind}
+use Rattle.encoding.specs.Words.{fromPathKind, typeAppKind, globalRoot, stdName, memName, maybeUninitName, dafnyRuntimeName, objectName, ptrName}
 use Rattle.encoding.specs.Refusals.{pick, Answer, mapAnswer}
 use Rattle.encoding.specs.Reading.{Reading, got, whole}
 use Rattle.encoding.specs.Tables.{nameBytes, nameCount}
@@ -49,10 +49,10 @@ typeWithin deep words pairs text = readType (nameCount pairs) words (nameBytes p
 
 -- the words of `Object` or `Ptr` of a type, and of `MaybeUninit` of a type, before those of the type
 abbrev pub pointerWords : ℕ → List ℕ
-pointerWords name = typeAppKind ∷ 1 ∷ fromPathKind ∷ 0 ∷ 2 ∷ 10 ∷ name ∷ []
+pointerWords name = typeAppKind ∷ 1 ∷ fromPathKind ∷ globalRoot ∷ 2 ∷ dafnyRuntimeName ∷ name ∷ []
 
 abbrev pub uninitWords : List ℕ
-uninitWords = typeAppKind ∷ 1 ∷ fromPathKind ∷ 0 ∷ 3 ∷ 1 ∷ 8 ∷ 9 ∷ []
+uninitWords = typeAppKind ∷ 1 ∷ fromPathKind ∷ globalRoot ∷ 3 ∷ stdName ∷ memName ∷ maybeUninitName ∷ []
 
 -- the words of the whole: the array's own words stand from `start` to `element`, its element's from there to `end`
 abbrev pub initialWords : List ℕ → ℕ → ℕ → ℕ → ℕ → List ℕ
@@ -65,11 +65,11 @@ newArray bytes t = when (IsObjectOrPointer (renamed bytes t)) (andThen (argument
 
 -- the name of the pointer: 11 `Object`, 12 `Ptr`
 pub record Named (bytes : ℕ → Bytes) (x : Reading (Ty ℕ)) (name : ℕ) : Type 0 where
-  pub names : (t : Ty ℕ) (n : ℕ) → x ≡ got t n → name ≡ pick (IsObject (renamed bytes t)) 11 12
+  pub names : (t : Ty ℕ) (n : ℕ) → x ≡ got t n → name ≡ pick (IsObject (renamed bytes t)) objectName ptrName
 
 -- that of an `Object` whose words begin at `place`: behind wrappers it becomes a `Ptr`
 unfoldable pub pointerName : ℕ → ℕ
-pointerName place = pick (eqb place 0) 11 12
+pointerName place = pick (eqb place 0) objectName ptrName
 
 -- ---- the pointer
 

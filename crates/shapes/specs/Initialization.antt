@@ -4,21 +4,22 @@ use mathlib.Core.Option.{Option, some, none}
 use Rattle.rast.specs.Bytes.{Bytes}
 use Rattle.rast.specs.Tree.{Global, PMemberSelect, Ty, Primitive, TIdentifier, TypeFromPath, TypeApp, Borrowed, BorrowedMut, ImplType, DynType, TupleType, FnType, IntersectionType, Array, TSynonym, TMetaData, nil, cons}
 use Rattle.rast.specs.DeclarationToString.{Expand}
+use Rattle.encoding.specs.Words.{stdName, memName, maybeUninitName, dafnyRuntimeName, objectName, ptrName}
 use Rattle.encoding.specs.Refusals.{pick}
 use Rattle.tree_words.specs.Renamed.{renamed}
 use Rattle.known_paths.specs.Matches.{argument, unsized}
 use Rattle.known_paths.specs.Steps.{when, andThen, orElse}
 use Rattle.shapes.specs.Shapes.{IsObject, IsObjectOrPointer, IsMultiArray}
 
--- `MaybeUninitType`, `ObjectType`, `PtrType`: their names are fixed (1 std, 8 mem, 9 MaybeUninit, 10 dafny_runtime, 11 Object, 12 Ptr)
+-- `MaybeUninitType`, `ObjectType`, `PtrType`: their names are fixed ones
 unfoldable pub MaybeUninitType : Ty ℕ → Ty ℕ
-MaybeUninitType underlying = TypeApp (TypeFromPath (PMemberSelect (PMemberSelect (PMemberSelect Global 1) 8) 9)) (cons underlying nil)
+MaybeUninitType underlying = TypeApp (TypeFromPath (PMemberSelect (PMemberSelect (PMemberSelect Global stdName) memName) maybeUninitName)) (cons underlying nil)
 
 unfoldable pub ObjectType : Ty ℕ → Ty ℕ
-ObjectType underlying = TypeApp (TypeFromPath (PMemberSelect (PMemberSelect Global 10) 11)) (cons underlying nil)
+ObjectType underlying = TypeApp (TypeFromPath (PMemberSelect (PMemberSelect Global dafnyRuntimeName) objectName)) (cons underlying nil)
 
 unfoldable pub PtrType : Ty ℕ → Ty ℕ
-PtrType underlying = TypeApp (TypeFromPath (PMemberSelect (PMemberSelect Global 10) 12)) (cons underlying nil)
+PtrType underlying = TypeApp (TypeFromPath (PMemberSelect (PMemberSelect Global dafnyRuntimeName) ptrName)) (cons underlying nil)
 
 -- `TypeApp(baseName, [MaybeUninitType(a)])` for an application
 unfoldable pub appliedToUninit : Ty ℕ → Ty ℕ → Option (Ty ℕ)

@@ -8,6 +8,7 @@ use Rattle.rast.specs.Tree.{Ty}
 use Rattle.rast.specs.Indent.{IND, indent, SeqToString}
 use Rattle.rast.specs.Declaration.{Fields, EnumCase}
 use Rattle.rast.specs.DeclarationToString.{Fields·ToString, structFieldsText, EnumCase·ToString, Use·ToString, Declaration·ToString}
+use Rattle.encoding.specs.Words.{namedKind}
 use Rattle.encoding.specs.Refusals.{pick}
 use Rattle.encoding.specs.Reading.{Reading, got}
 use Rattle.encoding.specs.Scans.{mapReading}
@@ -29,7 +30,7 @@ keywordText head = pick (eqb head (present .structHead)) (ascii "pub struct ") (
 
 -- what a list of fields is of, by the word before it
 abbrev pub entryOf : Bool → ℕ → Entry
-entryOf inCase kind = pick (eqb kind 0) Named (namelessEntry inCase)
+entryOf inCase kind = pick (eqb kind namedKind) Named (namelessEntry inCase)
 
 -- the fields of a struct have a semicolon behind them, if they have no names
 unfoldable pub fieldsEnd : Entry → Bytes

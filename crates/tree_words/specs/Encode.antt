@@ -5,7 +5,7 @@ use mathlib.Core.List.{List, [], _∷_, _++_, map}
 use mathlib.Core.Option.{Option, some, none}
 use lib.ListN.{length}
 use Rattle.rast.specs.Tree.{Path, Global, Crate, Self, PMemberSelect, PrimitiveTy, U8, U16, U32, U64, U128, I8, I16, I32, I64, I128, USIZE, Bool·, Ty, Tys, Primitive, TIdentifier, TypeFromPath, TypeApp, Borrowed, BorrowedMut, ImplType, DynType, TupleType, FnType, IntersectionType, Array, TSynonym, TMetaData, nil, cons, count}
-use Rattle.encoding.specs.Words.{identifierKind, fromPathKind, typeAppKind, borrowedKind, borrowedMutKind, implKind, dynKind, tupleKind, fnKind, intersectionKind, arrayKind, synonymKind, metaDataKind}
+use Rattle.encoding.specs.Words.{identifierKind, fromPathKind, typeAppKind, borrowedKind, borrowedMutKind, implKind, dynKind, tupleKind, fnKind, intersectionKind, arrayKind, synonymKind, metaDataKind, globalRoot, crateRoot, selfRoot}
 
 -- one word: a number, a name, or an array's size
 pub data Token (N : Type 0) : Type 0 where
@@ -45,9 +45,9 @@ flagsWord true true = 3
 module _ {N : Type 0} where
   -- the first word of a path: 0 Global, 1 Crate, 2 Self
   unfoldable pub rootWord : Path N → ℕ
-  rootWord Global = 0
-  rootWord Crate = 1
-  rootWord Self = 2
+  rootWord Global = globalRoot
+  rootWord Crate = crateRoot
+  rootWord Self = selfRoot
   rootWord (PMemberSelect p x) = rootWord p
 
   -- its names
