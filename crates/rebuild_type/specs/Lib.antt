@@ -1,3 +1,3 @@
-pub mod RebuiltWords
+pub mod Laid
 pub mod Calls
 pub mod Attempts

@@ -346,7 +346,7 @@ pub fn type_visit(words: &[u32], pairs: &[u32], text: &[u8], out: &mut [u32]) ->
     ensures { λ r. ⌜ (r, now (out .exit)) ≡ filled (now (out .entry)) (typeVisits (now (words .entry)) (now (pairs .entry)) (now (text .entry))) ⌝ }
 {
     match encoding::check_tables(words, pairs, text) {
-        Check::TypePassed => fill_type(words, pairs, text, out),
+        Check::Passed => fill_type(words, pairs, text, out),
         Check::Failed(r) => VisitAnswer::Refused(r),
     }
 }
@@ -356,7 +356,7 @@ pub fn declaration_visit(words: &[u32], pairs: &[u32], text: &[u8], out: &mut [u
     ensures { λ r. ⌜ (r, now (out .exit)) ≡ filled (now (out .entry)) (declarationVisits (now (words .entry)) (now (pairs .entry)) (now (text .entry))) ⌝ }
 {
     match encoding::check_tables(words, pairs, text) {
-        Check::TypePassed => fill_declaration(words, pairs, text, out),
+        Check::Passed => fill_declaration(words, pairs, text, out),
         Check::Failed(r) => VisitAnswer::Refused(r),
     }
 }
