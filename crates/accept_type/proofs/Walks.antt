@@ -1,4 +1,4 @@
--- The walk as a pass of `measure`: its levels and its start.
+-- The walk as a pass of `text_measure`: its levels and its start.
 use Prim.Native.Nat.{ℕ, zero, suc, _+_, _*_, _-_, _/_, _≤_, _<_}
 use mathlib.Core.Path.{_≡_, refl, ap, sym, _∙_}
 use mathlib.Core.List.{List, [], _∷_}

@@ -1,1 +1,2 @@
+-- Laws of attributes: their texts from those of their parts.
 pub mod Attributes

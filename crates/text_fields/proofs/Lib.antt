@@ -1,1 +1,2 @@
+-- Laws of fields: their texts from those of their parts.
 pub mod Fields
