@@ -4,3 +4,4 @@ pub mod Depths
 pub mod Still
 pub mod Equality
 pub mod Examples
+pub mod Strings
