@@ -40,7 +40,7 @@ use Rattle.known_paths.specs.Steps.{when, andThen, orElse, typeAtIndex, argumen
 use Rattle.known_paths.proofs.Applying.{first-found, first-other}
 use Rattle.shapes.specs.Parts.{expandedAt, expanded, ObjectOrPointerUnderlying}
 use Rattle.shapes.specs.Shapes.{IsObject, IsPointer, IsObjectOrPointer, IsMultiArray}
-use Rattle.shapes.specs.Initialization.{MaybeUninitType, appliedToUninit, newUnderlying}
+use Rattle.shapes.specs.Initialization.{ownNumber, MaybeUninitType, appliedToUninit, newUnderlying}
 use Rattle.shapes.proofs.Pointers.{expanded-tree, multi-array-is, pointer-found}
 use Rattle.rebuild_type.proofs.Growing.{front-taken}
 use Rattle.rebuild_initial.specs.declared.Initial.{Initial}
@@ -59,11 +59,11 @@ pub one-depth : (p : Path ℕ) (a : Ty ℕ) → 0 < depth a → depth (TypeApp (
 unfolding depth deepest
 one-depth p a h = omega (arith, h)
 
-uninit-words : (a : Ty ℕ) → encode (MaybeUninitType a) ≡ uninitWords ++ encode a
+uninit-words : (a : Ty ℕ) → encode (MaybeUninitType ownNumber a) ≡ uninitWords ++ encode a
 unfolding MaybeUninitType encode tokens pathTokens rootWord names tokenWord
 uninit-words a = one-words (PMemberSelect (PMemberSelect (PMemberSelect Global 1) 8) 9) a
 
-uninit-depth : (a : Ty ℕ) → 0 < depth a → depth (MaybeUninitType a) ≡ 1 + depth a
+uninit-depth : (a : Ty ℕ) → 0 < depth a → depth (MaybeUninitType ownNumber a) ≡ 1 + depth a
 unfolding MaybeUninitType
 uninit-depth a h = one-depth (PMemberSelect (PMemberSelect (PMemberSelect Global 1) 8) 9) a h
 
@@ -124,7 +124,7 @@ module _ (f : ℕ → Bytes) where
   no-size (some x) e = impossible (cc)
 
   -- an array with a size stays
-  sized-stays : (u : Ty ℕ) (z : Option ℕ) {x : Bytes} → renamedSize f z ≡ some x → newUnderlying f (Array u z) ≡ none
+  sized-stays : (u : Ty ℕ) (z : Option ℕ) {x : Bytes} → renamedSize f z ≡ some x → newUnderlying ownNumber (renamed f) (Array u z) ≡ none
   unfolding renamedSize newUnderlying unsized andThen orElse when IsMultiArray applied Expand renamed
   sized-stays u none e = impossible (cc)
   sized-stays u (some y) e = refl
@@ -134,16 +134,16 @@ module _ (f : ℕ → Bytes) where
   not-unsized = array-cases (λ s. (kind (renamed f s) ≡ 22 → ⊥) → unsized s ≡ none) (λ u z h. absurd (h refl)) (λ s k n h. n)
 
   -- what becomes of a type that is no array
-  new-none : (s : Ty ℕ) → unsized s ≡ none → IsMultiArray (renamed f s) ≡ false → newUnderlying f s ≡ none
+  new-none : (s : Ty ℕ) → unsized s ≡ none → IsMultiArray (renamed f s) ≡ false → newUnderlying ownNumber (renamed f) s ≡ none
   unfolding newUnderlying andThen orElse when
   new-none s e d = rw (e, d) refl
 
   new-multi : (s : Ty ℕ) (p : Path ℕ) (a : Ty ℕ) → unsized s ≡ none → IsMultiArray (renamed f s) ≡ true → Expand s ≡ TypeApp (TypeFromPath p) (cons a nil)
-      → newUnderlying f s ≡ some (TypeApp (TypeFromPath p) (cons (MaybeUninitType a) nil))
+      → newUnderlying ownNumber (renamed f) s ≡ some (TypeApp (TypeFromPath p) (cons (MaybeUninitType ownNumber a) nil))
   unfolding newUnderlying andThen orElse when argument typeIn appliedToUninit
   new-multi s p a e d k = rw (e, d, k) refl
 
-  new-behind : (t : Ty ℕ) {p : Path ℕ} {a : Ty ℕ} → IsObjectOrPointer (renamed f t) ≡ true → Expand t ≡ TypeApp (TypeFromPath p) (cons a nil) → newArray f t ≡ newUnderlying f a
+  new-behind : (t : Ty ℕ) {p : Path ℕ} {a : Ty ℕ} → IsObjectOrPointer (renamed f t) ≡ true → Expand t ≡ TypeApp (TypeFromPath p) (cons a nil) → newArray f t ≡ newUnderlying ownNumber (renamed f) a
   unfolding newArray when andThen argument typeIn
   new-behind t y e = rw (y, e) refl
 
@@ -208,7 +208,7 @@ module _ (ws pairs : List ℕ) (text : Bytes) where
     pub size-here : getD ws at 0 ≡ 22 → at + 1 < length ws
     size-here h = array-of ws pairs text at (type-read at (r .reads)) h .0
 
-    pub new-unsized : getD ws at 0 ≡ 22 → getD ws (at + 1) 0 ≡ 0 → Becomes (newUnderlying bytes) 1 ws pairs at (OfArray at (at + 2))
+    pub new-unsized : getD ws at 0 ≡ 22 → getD ws (at + 1) 0 ≡ 0 → Becomes (newUnderlying ownNumber (renamed bytes)) 1 ws pairs at (OfArray at (at + 2))
     unfolding sizeOf newUnderlying unsized andThen orElse encode tokens tokenWord depth
     new-unsized h k =
         let m = array-of ws pairs text at (type-read at (r .reads)) h .1 in
@@ -217,10 +217,10 @@ module _ (ws pairs : List ℕ) (text : Bytes) where
         let s : tree ≡ Array (a .element) none = a .made ∙ ap (Array (a .element)) (no-size bytes (a .size) (a .sized)) in
         go (a .element) (r .reads ∙ ap (λ t. got t (r .end)) s)
       where
-        deep : (u : Ty ℕ) → depth (MaybeUninitType u) ≡ 1 + depth u → depth (Array (MaybeUninitType u) none) ≡ 2 + depth u
+        deep : (u : Ty ℕ) → depth (MaybeUninitType ownNumber u) ≡ 1 + depth u → depth (Array (MaybeUninitType ownNumber u) none) ≡ 2 + depth u
         deep u d = omega (arith, d)
 
-        go : (u : Ty ℕ) → treeAt ws pairs at ≡ got (Array u none) (r .end) → Becomes (newUnderlying bytes) 1 ws pairs at (OfArray at (at + 2))
+        go : (u : Ty ℕ) → treeAt ws pairs at ≡ got (Array u none) (r .end) → Becomes (newUnderlying ownNumber (renamed bytes)) 1 ws pairs at (OfArray at (at + 2))
         go u e =
             let d = array-below ws pairs at e in
             let t = tree-here ws pairs (at + 2) d in
@@ -231,12 +231,12 @@ module _ (ws pairs : List ℕ) (text : Bytes) where
               tree = Array u none;
               end = r .end;
               reads = e;
-              by = pieces-of ws pairs 1 (Array u none) (r .end) (newUnderlying bytes (Array u none)) (Array (MaybeUninitType u) none) u at (at + 2) refl (omega arith) (omega (arith, t)) d
+              by = pieces-of ws pairs 1 (Array u none) (r .end) (newUnderlying ownNumber (renamed bytes) (Array u none)) (Array (MaybeUninitType ownNumber u) none) u at (at + 2) refl (omega arith) (omega (arith, t)) d
                   (ap (λ l. 22 ∷ 0 ∷ l) (uninit-words u) ∙ ap (λ l. l ++ (uninitWords ++ encode u)) (sym front))
                   (deep u (uninit-depth u (deep-some ws pairs (at + 2) d))) (omega arith);
             }
 
-    pub new-sized : getD ws at 0 ≡ 22 → (getD ws (at + 1) 0 ≡ 0 → ⊥) → Becomes (newUnderlying bytes) 1 ws pairs at Unchanged
+    pub new-sized : getD ws at 0 ≡ 22 → (getD ws (at + 1) 0 ≡ 0 → ⊥) → Becomes (newUnderlying ownNumber (renamed bytes)) 1 ws pairs at Unchanged
     unfolding sizeOf
     new-sized h k =
         let m = array-of ws pairs text at (type-read at (r .reads)) h .1 in
@@ -246,7 +246,7 @@ module _ (ws pairs : List ℕ) (text : Bytes) where
           tree = r .value;
           end = r .end;
           reads = r .reads;
-          by = unchanged (ap (newUnderlying bytes) (a .made) ∙ sized-stays bytes (a .element) (a .size) (a .sized));
+          by = unchanged (ap (newUnderlying ownNumber (renamed bytes)) (a .made) ∙ sized-stays bytes (a .element) (a .size) (a .sized));
         }
 
     -- no array: what `Expand` gives is asked
@@ -260,7 +260,7 @@ module _ (ws pairs : List ℕ) (text : Bytes) where
       multi : isFound m ≡ IsMultiArray type
       multi = ap isFound said ∙ first-found ArrayClass (place start (Expand type)) ∙ sym (multi-array-is type)
 
-      pub new-no-part : m ≡ NoPart → Becomes (newUnderlying bytes) 1 ws pairs at Unchanged
+      pub new-no-part : m ≡ NoPart → Becomes (newUnderlying ownNumber (renamed bytes)) 1 ws pairs at Unchanged
       new-no-part e = record {
         tree = r .value;
         end = r .end;
@@ -268,7 +268,7 @@ module _ (ws pairs : List ℕ) (text : Bytes) where
         by = unchanged (new-none bytes tree no-array (sym multi ∙ ap isFound e));
       }
 
-      pub new-part : {element : ℕ} → m ≡ At element → Becomes (newUnderlying bytes) 1 ws pairs at (OfArray start element)
+      pub new-part : {element : ℕ} → m ≡ At element → Becomes (newUnderlying ownNumber (renamed bytes)) 1 ws pairs at (OfArray start element)
       unfolding isOf arity first argumentOf
       new-part {element} e =
           let o = opened ws pairs bytes at tree (r .reads) in
@@ -285,7 +285,7 @@ module _ (ws pairs : List ℕ) (text : Bytes) where
           (new-multi bytes tree (a .path) (a .argument) no-array y (a .made)) (a .made)
         where
           go : (p : Path ℕ) (a : Ty ℕ) → treeAt ws pairs start ≡ got (TypeApp (TypeFromPath p) (cons a nil)) (r .end) → start + 2 + words (TypeFromPath p) ≡ element
-              → newUnderlying bytes tree ≡ some (TypeApp (TypeFromPath p) (cons (MaybeUninitType a) nil)) → Expand tree ≡ TypeApp (TypeFromPath p) (cons a nil) → Becomes (newUnderlying bytes) 1 ws pairs at (OfArray start element)
+              → newUnderlying ownNumber (renamed bytes) tree ≡ some (TypeApp (TypeFromPath p) (cons (MaybeUninitType ownNumber a) nil)) → Expand tree ≡ TypeApp (TypeFromPath p) (cons a nil) → Becomes (newUnderlying ownNumber (renamed bytes)) 1 ws pairs at (OfArray start element)
           go p a q i k m =
               let b = apply-below ws pairs start q in
               let c : treeAt ws pairs element ≡ got a (r .end) = ap (treeAt ws pairs) (sym i) ∙ b in
@@ -296,10 +296,10 @@ module _ (ws pairs : List ℕ) (text : Bytes) where
               let front : take (element - start) (drop start ws) ≡ own = front-taken (drop start ws) own (encode a) (element - start) (length (own ++ encode a)) (rw (one-words p a) at (w .words)) (sym z) (omega (arith, z, length-append own (encode a))) in
               let s = deep-some ws pairs element c in
               let d = uninit-depth a s in
-              let g : encode (TypeApp (TypeFromPath p) (cons (MaybeUninitType a) nil)) ≡ take (element - start) (drop start ws) ++ (uninitWords ++ encode a) =
-              one-words p (MaybeUninitType a) ∙ ap (λ l. own ++ l) (uninit-words a) ∙ ap (λ l. l ++ (uninitWords ++ encode a)) (sym front) in
-              let j : depth (TypeApp (TypeFromPath p) (cons (MaybeUninitType a) nil)) ≡ 2 + depth a = one-depth p (MaybeUninitType a) (omega (arith, d)) ∙ omega (arith, d) in
-              record { tree = r .value; end = r .end; reads = r .reads; by = pieces-of ws pairs 1 tree (r .end) (newUnderlying bytes tree) (TypeApp (TypeFromPath p) (cons (MaybeUninitType a) nil)) a start element k (omega (arith, i)) (omega (arith, t)) c g j (argument-deep tree p a s m) }
+              let g : encode (TypeApp (TypeFromPath p) (cons (MaybeUninitType ownNumber a) nil)) ≡ take (element - start) (drop start ws) ++ (uninitWords ++ encode a) =
+              one-words p (MaybeUninitType ownNumber a) ∙ ap (λ l. own ++ l) (uninit-words a) ∙ ap (λ l. l ++ (uninitWords ++ encode a)) (sym front) in
+              let j : depth (TypeApp (TypeFromPath p) (cons (MaybeUninitType ownNumber a) nil)) ≡ 2 + depth a = one-depth p (MaybeUninitType ownNumber a) (omega (arith, d)) ∙ omega (arith, d) in
+              record { tree = r .value; end = r .end; reads = r .reads; by = pieces-of ws pairs 1 tree (r .end) (newUnderlying ownNumber (renamed bytes) tree) (TypeApp (TypeFromPath p) (cons (MaybeUninitType ownNumber a) nil)) a start element k (omega (arith, i)) (omega (arith, t)) c g j (argument-deep tree p a s m) }
 
   -- ---- under the pointer
 
@@ -326,7 +326,7 @@ module _ (ws pairs : List ℕ) (text : Bytes) where
     record Pointed (at : ℕ) : Type 0 where
       tree : Ty ℕ
       reads : treeAt ws pairs at ≡ got tree (r .end)
-      new : newArray bytes held ≡ newUnderlying bytes tree
+      new : newArray bytes held ≡ newUnderlying ownNumber (renamed bytes) tree
       deep : 1 + depth tree ≤ depth held
 
     points : {at : ℕ} → m ≡ At at → Pointed at
@@ -348,11 +348,11 @@ module _ (ws pairs : List ℕ) (text : Bytes) where
     pub pointed-readable : {at : ℕ} → m ≡ At at → Readable (treeAt ws pairs at)
     pointed-readable e = let p = points e in record { value = p .tree; end = r .end; reads = p .reads }
 
-    pub pointed-becomes : {at : ℕ} {c : Initial} → m ≡ At at → Becomes (newUnderlying bytes) 1 ws pairs at c → Becomes (newArray bytes) 2 ws pairs 0 c
+    pub pointed-becomes : {at : ℕ} {c : Initial} → m ≡ At at → Becomes (newUnderlying ownNumber (renamed bytes)) 1 ws pairs at c → Becomes (newArray bytes) 2 ws pairs 0 c
     pointed-becomes {at} {c} e b =
         let p = points e in
         let i : b .tree ≡ p .tree = cc (p .reads, b .reads) in
         let j : b .end ≡ r .end = cc (p .reads, b .reads) in
-        let n : newUnderlying bytes (b .tree) ≡ newArray bytes held = ap (newUnderlying bytes) i ∙ sym (p .new) in
+        let n : newUnderlying ownNumber (renamed bytes) (b .tree) ≡ newArray bytes held = ap (newUnderlying ownNumber (renamed bytes)) i ∙ sym (p .new) in
         let k = pieces-below held (omega (arith, p .deep, ap depth i)) (b .by) in
-        record { tree = r .value; end = r .end; reads = r .reads; by = subst (λ v. Pieces ws pairs 2 held (r .end) v c) n (subst (λ q. Pieces ws pairs 2 held q (newUnderlying bytes (b .tree)) c) j k) }
+        record { tree = r .value; end = r .end; reads = r .reads; by = subst (λ v. Pieces ws pairs 2 held (r .end) v c) n (subst (λ q. Pieces ws pairs 2 held q (newUnderlying ownNumber (renamed bytes) (b .tree)) c) j k) }

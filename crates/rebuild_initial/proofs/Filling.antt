@@ -40,7 +40,7 @@ use Rattle.known_paths.specs.Matches.{argument}
 use Rattle.known_paths.specs.Steps.{when, andThen}
 use Rattle.shapes.specs.Accepted.{acceptance}
 use Rattle.shapes.specs.Shapes.{IsObject, IsObjectOrPointer}
-use Rattle.shapes.specs.Initialization.{ObjectType, PtrType, orThis, newUnderlying, TypeAtInitialization}
+use Rattle.shapes.specs.Initialization.{ownNumber, ObjectType, PtrType, orThis, newUnderlying, TypeAtInitialization}
 use Rattle.rebuild_type.specs.declared.RebuildAnswer.{RebuildAnswer}
 use Rattle.rebuild_type.specs.declared.RebuildAnswer.the-variants.{Length, Refused}
 use Rattle.rebuild_type.specs.Calls.{RebuiltWords, roomOf, zeros, laidDown}
@@ -57,22 +57,22 @@ use Rattle.rebuild_initial.proofs.Changes.{one-words, one-depth}
 
 module _ (bytes : ℕ → Bytes) (t : Ty ℕ) where
   abbrev pointed : Ty ℕ → Ty ℕ
-  pointed v = pick (IsObject (renamed bytes t)) (ObjectType v) (PtrType v)
+  pointed v = pick (IsObject (renamed bytes t)) (ObjectType ownNumber v) (PtrType ownNumber v)
 
-  initial-is : TypeAtInitialization bytes t ≡ orThis t (andThen (newArray bytes t) λ v. some (pointed v))
+  initial-is : TypeAtInitialization ownNumber (renamed bytes) t ≡ orThis t (andThen (newArray bytes t) λ v. some (pointed v))
   unfolding TypeAtInitialization newArray when andThen
-  initial-is = ap (orThis t) (go (IsObjectOrPointer (renamed bytes t)) (argument 0 (Expand t)) (newUnderlying bytes))
+  initial-is = ap (orThis t) (go (IsObjectOrPointer (renamed bytes t)) (argument 0 (Expand t)) (newUnderlying ownNumber (renamed bytes)))
     where
       go : (b : Bool) (x : Option (Ty ℕ)) (g : Ty ℕ → Option (Ty ℕ)) → when b (andThen x λ s. andThen (g s) λ v. some (pointed v)) ≡ andThen (when b (andThen x g)) λ v. some (pointed v)
       go true none g = refl
       go true (some s) g = refl
       go false x g = refl
 
-  initial-same : newArray bytes t ≡ none → TypeAtInitialization bytes t ≡ t
+  initial-same : newArray bytes t ≡ none → TypeAtInitialization ownNumber (renamed bytes) t ≡ t
   unfolding orThis andThen
   initial-same e = initial-is ∙ rw e refl
 
-  initial-new : {v : Ty ℕ} → newArray bytes t ≡ some v → TypeAtInitialization bytes t ≡ pointed v
+  initial-new : {v : Ty ℕ} → newArray bytes t ≡ some v → TypeAtInitialization ownNumber (renamed bytes) t ≡ pointed v
   unfolding orThis andThen
   initial-new e = initial-is ∙ rw e refl
 
@@ -80,7 +80,7 @@ module _ (bytes : ℕ → Bytes) (t : Ty ℕ) where
   unfolding ObjectType PtrType encode tokens pathTokens rootWord names tokenWord
   pointed-words v = go (IsObject (renamed bytes t))
     where
-      go : (b : Bool) → encode (pick b (ObjectType v) (PtrType v)) ≡ pointerWords (pick b 11 12) ++ encode v
+      go : (b : Bool) → encode (pick b (ObjectType ownNumber v) (PtrType ownNumber v)) ≡ pointerWords (pick b 11 12) ++ encode v
       go true = one-words (PMemberSelect (PMemberSelect Global 10) 11) v
       go false = one-words (PMemberSelect (PMemberSelect Global 10) 12) v
 
@@ -88,7 +88,7 @@ module _ (bytes : ℕ → Bytes) (t : Ty ℕ) where
   unfolding ObjectType PtrType
   pointed-depth v h = go (IsObject (renamed bytes t))
     where
-      go : (b : Bool) → depth (pick b (ObjectType v) (PtrType v)) ≡ 1 + depth v
+      go : (b : Bool) → depth (pick b (ObjectType ownNumber v) (PtrType ownNumber v)) ≡ 1 + depth v
       go true = one-depth (PMemberSelect (PMemberSelect Global 10) 11) v h
       go false = one-depth (PMemberSelect (PMemberSelect Global 10) 12) v h
 
@@ -127,9 +127,9 @@ module _ (ws pairs : List ℕ) (text : Bytes) where
     pub reads : treeAt ws pairs 0 ≡ got tree last
     pub own : start ≤ element
     pub inner : element ≤ end
-    pub words : encode (TypeAtInitialization bytes tree) ≡ initialWords ws (pick (IsObject (renamed bytes tree)) 11 12) start element end
-    pub size : length (encode (TypeAtInitialization bytes tree)) ≡ 15 + (end - start)
-    pub deeper : depth (TypeAtInitialization bytes tree) ≡ 3 + deep
+    pub words : encode (TypeAtInitialization ownNumber (renamed bytes) tree) ≡ initialWords ws (pick (IsObject (renamed bytes tree)) 11 12) start element end
+    pub size : length (encode (TypeAtInitialization ownNumber (renamed bytes) tree)) ≡ 15 + (end - start)
+    pub deeper : depth (TypeAtInitialization ownNumber (renamed bytes) tree) ≡ 3 + deep
 
   -- the element stands there, up to the end of the words
   pub element-shallow : {start element : ℕ} {deepest : Bool} → FillsWhole ws pairs deepest → Becomes (newArray bytes) 2 ws pairs 0 (OfArray start element) → Shallow ws pairs element deepest
@@ -153,7 +153,7 @@ module _ (ws pairs : List ℕ) (text : Bytes) where
           let part : take (length ws - element) (drop element ws) ≡ encode u =
           (let n : length ws - element ≡ length (encode u) = omega (arith, a .1, i, j) in rw n (a .0 .words)) in
           let q = initial-new bytes (b .tree) e in
-          let all : encode (TypeAtInitialization bytes (b .tree)) ≡ initialWords ws (pick (IsObject (renamed bytes (b .tree))) 11 12) start element (length ws) =
+          let all : encode (TypeAtInitialization ownNumber (renamed bytes) (b .tree)) ≡ initialWords ws (pick (IsObject (renamed bytes (b .tree))) 11 12) start element (length ws) =
           ap encode q ∙ pointed-words bytes (b .tree) v ∙ ap (λ x. pointerWords (pick (IsObject (renamed bytes (b .tree))) 11 12) ++ x) (z ∙ ap (λ x. take (element - start) (drop start ws) ++ (uninitWords ++ x)) (sym part)) in
           record {
             tree = b .tree;
@@ -177,7 +177,7 @@ module _ (ws pairs : List ℕ) (text : Bytes) where
     pub change-front : {name : ℕ} {o′ : List ℕ} → count ≤ roomOf o → deep ≤ 61 → Named bytes (treeAt ws pairs 0) name → o′ ≡ sets o 0 (initialWords ws name start element end) → Fills laid o o′ (Length count)
     change-front {name} {o′} h d k z =
         let i = k .names (c .tree) (c .last) (c .reads) in
-        let w : o′ ≡ sets o 0 (encode (TypeAtInitialization bytes (c .tree))) = z ∙ ap (sets o 0) (ap (λ x. initialWords ws x start element end) i ∙ sym (c .words)) in
+        let w : o′ ≡ sets o 0 (encode (TypeAtInitialization ownNumber (renamed bytes) (c .tree))) = z ∙ ap (sets o 0) (ap (λ x. initialWords ws x start element end) i ∙ sym (c .words)) in
         read-fills (map-got (laidInit bytes) (c .reads)) (down-front o (laidInit bytes (c .tree)) (omega (arith, h, n, c .size)) (omega (arith, d, c .deeper)) (omega (arith, h, n, c .size)) w (omega (arith, n, c .size)))
 
   -- ---- a type that stays
@@ -188,7 +188,7 @@ module _ (ws pairs : List ℕ) (text : Bytes) where
       go : Pieces ws pairs 2 (b .tree) (b .end) (newArray bytes (b .tree)) Unchanged → Fills laid o o′ r
       go (unchanged d) =
           let t = b .tree in
-          let q : TypeAtInitialization bytes t ≡ t = initial-same bytes t d in
+          let q : TypeAtInitialization ownNumber (renamed bytes) t ≡ t = initial-same bytes t d in
           let i : b .end ≡ length ws = cc (b .reads, w .reads) in
           let a = tree-run ws pairs 0 (omega arith) (b .reads) in
           let s : encode t ≡ ws = run-whole (a .0) (omega (arith, a .1, i, encode-words t)) in

@@ -4,3 +4,4 @@ pub mod Changes
 pub mod Pointers
 pub mod Filling
 pub mod Examples
+pub mod Strings

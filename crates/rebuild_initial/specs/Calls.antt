@@ -9,15 +9,16 @@ use Rattle.encoding.specs.Tables.{nameBytes}
 use Rattle.tree_words.specs.Encode.{encode}
 use Rattle.tree_words.specs.Numbered.{treeOf}
 use Rattle.rebuild_spec.specs.Laying.{depth}
-use Rattle.shapes.specs.Initialization.{TypeAtInitialization}
+use Rattle.tree_words.specs.Renamed.{renamed}
+use Rattle.shapes.specs.Initialization.{ownNumber, TypeAtInitialization}
 use Rattle.rebuild_type.specs.Calls.{RebuiltWords}
 
 -- a tree as it stands at initialization: on the way no more words lie there than at the end
 abbrev pub laidInit : (ℕ → Bytes) → Ty ℕ → RebuiltWords
 laidInit bytes t = record {
-  words = encode (TypeAtInitialization bytes t);
-  top = length (encode (TypeAtInitialization bytes t));
-  deep = depth (TypeAtInitialization bytes t);
+  words = encode (TypeAtInitialization ownNumber (renamed bytes) t);
+  top = length (encode (TypeAtInitialization ownNumber (renamed bytes) t));
+  deep = depth (TypeAtInitialization ownNumber (renamed bytes) t);
 }
 
 -- the type that an encoding holds, as it stands at initialization

@@ -29,7 +29,7 @@ use Rattle.known_paths.specs.Paths.{runtimeMember}
 use Rattle.known_paths.specs.Steps.{when, andThen, argumentAt}
 use Rattle.shapes.specs.Parts.{ObjectOrPointerUnderlying}
 use Rattle.shapes.specs.Shapes.{IsObject, IsObjectOrPointer}
-use Rattle.shapes.specs.Initialization.{newUnderlying}
+use Rattle.shapes.specs.Initialization.{ownNumber, newUnderlying}
 use Rattle.rebuild_type.specs.Calls.{RebuiltWords}
 use Rattle.rebuild_initial.specs.declared.Initial.{Initial}
 use Rattle.rebuild_initial.specs.declared.Initial.the-variants.{OfArray, Unchanged}
@@ -61,7 +61,7 @@ initialWords ws name start element end =
 
 -- the type under the pointer, if it is an array that changes
 unfoldable pub newArray : (ℕ → Bytes) → Ty ℕ → Option (Ty ℕ)
-newArray bytes t = when (IsObjectOrPointer (renamed bytes t)) (andThen (argument 0 (Expand t)) (newUnderlying bytes))
+newArray bytes t = when (IsObjectOrPointer (renamed bytes t)) (andThen (argument 0 (Expand t)) (newUnderlying ownNumber (renamed bytes)))
 
 -- the name of the pointer: 11 `Object`, 12 `Ptr`
 pub record Named (bytes : ℕ → Bytes) (x : Reading (Ty ℕ)) (name : ℕ) : Type 0 where

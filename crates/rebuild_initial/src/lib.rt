@@ -13,8 +13,9 @@ ghost use Rattle.encoding.specs.Types.{typeAt};
 ghost use Rattle.tree_words.specs.Numbered.{treeAt};
 ghost use Rattle.accepted_types.specs.Accepted.{Readable};
 ghost use Rattle.rebuild_rules.specs.Scans.{depthOf};
+ghost use Rattle.tree_words.specs.Renamed.{renamed};
 ghost use Rattle.shapes.specs.Accepted.{acceptance};
-ghost use Rattle.shapes.specs.Initialization.{newUnderlying};
+ghost use Rattle.shapes.specs.Initialization.{ownNumber, newUnderlying};
 ghost use Rattle.rebuild_type.specs.Calls.{laidDown};
 ghost use Rattle.rebuild_type.specs.Attempts.{Fills};
 ghost use Rattle.rebuild_initial.specs.declared.Initial.the-variants.{OfArray};
@@ -136,7 +137,7 @@ enum Initial {
 // An array without a size, by its element, else a `MultiArray`, which may be wrapped.
 fn array_at(words: &[u32], pairs: &[u32], text: &[u8], at: usize) -> Initial
     requires { ⌜ Good (now pairs) (now text) × Readable (treeAt (now words) (now pairs) at) ⌝ }
-    ensures { λ r. ⌜ Becomes (newUnderlying (nameBytes (now (pairs .entry)) (now (text .entry)))) 1 (now (words .entry)) (now (pairs .entry)) at r ⌝ }
+    ensures { λ r. ⌜ Becomes (newUnderlying ownNumber (renamed (nameBytes (now (pairs .entry)) (now (text .entry))))) 1 (now (words .entry)) (now (pairs .entry)) at r ⌝ }
 {
     if words[at] == ARRAY {
         if words[at + 1] == 0 {

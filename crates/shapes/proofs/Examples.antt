@@ -17,7 +17,7 @@ use Rattle.tree_words.specs.Encode.{tokenWord, primitiveWord, flagsWord, rootWo
 use Rattle.known_paths.specs.Matches.{onPath, applied, typeIn, argument, unsized, isDyn, someIs}
 use Rattle.known_paths.specs.Paths.{samePath, std, inStd, dafny_runtime, inRuntime, RcPath, ArcPath, BoxPath, MaybeUninitPath, ObjectPath, PtrPath, runtimeMember}
 use Rattle.known_paths.specs.Steps.{when, andThen, orElse}
-use Rattle.shapes.specs.Initialization.{MaybeUninitType, ObjectType, PtrType, appliedToUninit, orThis, newUnderlying, TypeAtInitialization}
+use Rattle.shapes.specs.Initialization.{ownNumber, MaybeUninitType, ObjectType, PtrType, appliedToUninit, orThis, newUnderlying, TypeAtInitialization}
 use Rattle.shapes.specs.Shapes.{uninitCases, isFixedNumber, isNumber, isBool, EndsWithNameThatCanAcceptGenerics, IsAutoSize, CanReadWithoutClone, IsRcOrBorrowedRc, IsMultiArray, IsMaybeUninit, IsUninitArray, IsBox, NeedsAsRefForBorrow, IsObject, IsPointer, IsObjectOrPointer, IsBuiltinCollection, IsRc, IsBoxDyn}
 
 -- names 16 to 20: `Array2`, `Set`, `Map`, `Array`, `A`
@@ -101,7 +101,7 @@ initializations =
     ∷ (object ++ (24 ∷ 0 ∷ (array2 ++ (11 ∷ []))), object ++ (array2 ++ uninit))
     ∷ []
 
-pub initialized-as-said : map {B = Answer (List ℕ)} (λ e. mapAnswer (λ t. encode (TypeAtInitialization (nameBytes pairs text) t)) (treeOf (e .0) pairs text)) initializations
+pub initialized-as-said : map {B = Answer (List ℕ)} (λ e. mapAnswer (λ t. encode (TypeAtInitialization ownNumber (renamed (nameBytes pairs text)) t)) (treeOf (e .0) pairs text)) initializations
     ≡ map (λ e. given (e .1)) initializations
 unfolding initializations treeOf mapAnswer unless checkTables overlong goodPairs whole readType readHead headAfter pathHead readPath readNames readBelow readWord readNode readTypes primitives rootOf pathOf sizeOf nameBytes pairBytes fixedNames ascii MSels same begins _and_ Expand count samePath dafny_runtime inRuntime ObjectPath PtrPath runtimeMember onPath applied typeIn argument unsized IsMultiArray IsObject IsPointer IsObjectOrPointer renamed renamedPath renamedSize when andThen orElse MaybeUninitType ObjectType PtrType appliedToUninit orThis newUnderlying TypeAtInitialization encode tokens tokenWord primitiveWord flagsWord rootWord names pathTokens
 initialized-as-said = refl

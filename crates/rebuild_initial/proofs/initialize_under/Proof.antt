@@ -1,6 +1,7 @@
 use mathlib.Core.Path.{refl, subst}
 use Rattle.encoding.specs.Tables.{nameBytes}
-use Rattle.shapes.specs.Initialization.{newUnderlying}
+use Rattle.tree_words.specs.Renamed.{renamed}
+use Rattle.shapes.specs.Initialization.{ownNumber, newUnderlying}
 use Rattle.rebuild_initial.specs.Initialized.{Becomes, underPointer}
 use Rattle.rebuild_initial.proofs.Filling.{stays, whole-readable}
 use Rattle.rebuild_initial.proofs.Changes.{pointed-becomes, pointed-readable}
@@ -21,7 +22,7 @@ change-requires : tie.Need-change-requires
 unfolding underPointer
 change-requires c κs =
     let s = c .before .before .before .before .before .before .before .before .before in let a = s .args in
-    let b = subst (Becomes (newUnderlying (nameBytes (a .pairs .now) (a .text .now))) 1 (a .words .now) (a .pairs .now) (a .at)) (c .before .before .start .given .1) (c .before .before .before .before .array-at .ensures) in
+    let b = subst (Becomes (newUnderlying ownNumber (renamed (nameBytes (a .pairs .now) (a .text .now)))) 1 (a .words .now) (a .pairs .now) (a .at)) (c .before .before .start .given .1) (c .before .before .before .before .array-at .ensures) in
     (s .pre .1, s .pre .2, s .pre .3 .name (a .name) (a .at) refl, pointed-becomes (a .words .now) (a .pairs .now) (a .text .now) (whole-readable (s .pre .2)) (s .pre .3 .part) refl b)
 
 enum-told : tie.Need-enum-told
