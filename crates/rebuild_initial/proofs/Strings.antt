@@ -114,7 +114,7 @@ module _ {N M : Type 0} (f : N → M) (fixed : ℕ → N) (fixed′ : ℕ → M)
   applied-renamed a (TMetaData d c o) = refl
 
   new-renamed : (s : Ty N) → newUnderlying fixed′ spelled′ (renamed f s) ≡ through (renamed f) (newUnderlying fixed spelled s)
-  unfolding newUnderlying andThen orElse when renamed
+  unfolding newUnderlying andThen orElse when renamed renamedSize
   new-renamed s = rw (unsized-renamed f s, alike s, expand-renamed f s, argument-renamed f (Expand s)) (go (unsized s) (IsMultiArray (spelled s)) (argument 0 (Expand s)))
     where
       go : (u : Option (Ty N)) (b : Bool) (x : Option (Ty N))
