@@ -1,4 +1,4 @@
--- The accepting pass as the measuring pass of `measure` in a mode in which no type shows, so that no length is ever added.
+-- The accepting pass as the measuring pass of `text_measure` in a mode in which no type shows, so that no length is ever added.
 use Prim.Native.Nat.{ℕ, _*_, _/_, _^_, _≤_, _<_}
 use mathlib.Core.Path.{_≡_}
 use mathlib.Core.List.{List, map}

@@ -42,7 +42,7 @@ enum OwnScan {
     NoNode(Refusal),
 }
 
-// A pass that has come to `place`: `due` types are still to be read at the innermost of `depth` open levels. Levels are kept as `measure` keeps them.
+// A pass that has come to `place`: `due` types are still to be read at the innermost of `depth` open levels. Levels are kept as `text_measure` keeps them.
 struct TypeWalk {
     place: usize,
     depth: usize,

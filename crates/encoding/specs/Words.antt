@@ -1,4 +1,4 @@
--- The words of document 01 by name, for definitions and contracts; `src/words.rt` has the same for the code.
+-- The words of document 01 by name, for definitions and contracts; heads of declarations are in `Forms`. `src/words.rt` has the words for the code.
 use Prim.Native.Nat.{ℕ}
 
 -- kinds of types; those below `plainKinds` are the plain types, those below `leafKinds` have no types in them

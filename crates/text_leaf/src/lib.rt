@@ -89,7 +89,7 @@ fn put_two(two: u16, out: &mut [u8], pos: usize)
     out[pos + 1] = (two / 256) as u8;
 }
 
-// A plain type of a field. `put_primitive` lays its letters out at each call; in `writing` this one would make the functions around it too large to be inlined.
+// A plain type of a field. `put_primitive` lays its letters out at each call; in `text_type` this one would make the functions around it too large to be inlined.
 pub fn put_plain(kind: u32, out: &mut [u8], pos: usize) -> usize
     requires { ⌜ (kind < plainKinds) × (pos + length (Primitive·ToString (getD primitives kind U8)) ≤ length (now out)) ⌝ }
     ensures { λ r. ⌜ Wrote (now (out .entry)) pos (Primitive·ToString (getD primitives kind U8)) (now (out .exit)) r ⌝ }
