@@ -4,6 +4,7 @@ ghost use Prim.Native.Nat.{_≤_, min};
 ghost use mathlib.Core.Bool.{true};
 ghost use mathlib.Core.List.{[], _∷_};
 ghost use lib.ListN.{length};
+ghost use Rattle.encoding.specs.Words.{maxWords};
 ghost use Rattle.encoding.specs.Refusals.{unless};
 ghost use Rattle.encoding.specs.Scans.{ended};
 ghost use Rattle.encoding.specs.declared.Scan.the-variants.{At};
@@ -19,10 +20,18 @@ use accept_declaration::Whole;
 use encoding::Check;
 use encoding::Refusal;
 use encoding::Scan;
+use encoding::words::MAX_WORDS;
 use rebuild_rules::RulesAnswer;
 use rebuild_type::Attempt;
 use rebuild_type::RebuildAnswer;
 use rebuild_type::Rebuilt;
+
+// How many words of scratch are tried first, how many then, and up to how many words a tree is tried in these.
+const LITTLE_SCRATCH: usize = 128;
+
+const MIDDLE_SCRATCH: usize = 512;
+
+const MIDDLE_TREE: usize = 256;
 
 // The accepted type or declaration, rebuilt to the front of `out`.
 fn rebuild_whole(
@@ -71,7 +80,7 @@ fn attempt(
     out: &mut [u32],
 ) -> Attempt
     requires { ⌜ Good (now pairs) (now text) × Ruled (now rules) (now pairs) (now text) (now table) k × Readable (laidBy what (now words) (now pairs) (mapping (now rules) (now pairs) (now text)))
-        × (length (now scratch) ≤ 8192) ⌝ }
+        × (length (now scratch) ≤ maxWords) ⌝ }
     ensures { λ r. ⌜ Attempted (min (length (now (out .entry))) (length (now (scratch .entry)))) (laidBy what (now (words .entry)) (now (pairs .entry)) (mapping (now (rules .entry)) (now (pairs .entry)) (now (text .entry)))) (now (out .entry)) (now (out .exit)) r ⌝ }
 {
     let limit = rebuild_type::room_of(out.len(), scratch.len());
@@ -99,11 +108,11 @@ fn fill_large(
     k: usize,
     out: &mut [u32],
 ) -> RebuildAnswer
-    requires { ⌜ Good (now pairs) (now text) × Ruled (now rules) (now pairs) (now text) (now table) k × (length (now words) ≤ 8192)
+    requires { ⌜ Good (now pairs) (now text) × Ruled (now rules) (now pairs) (now text) (now table) k × (length (now words) ≤ maxWords)
         × (ended (laidBy what (now words) (now pairs) (mapping (now rules) (now pairs) (now text))) ≡ At (length (now words))) ⌝ }
     ensures { λ r. ⌜ Fills (laidBy what (now (words .entry)) (now (pairs .entry)) (mapping (now (rules .entry)) (now (pairs .entry)) (now (text .entry)))) (now (out .entry)) (now (out .exit)) r ⌝ }
 {
-    let mut scratch = [0u32; 8192];
+    let mut scratch = [0u32; MAX_WORDS];
     match attempt(what, words, pairs, text, rules, table, k, &mut scratch, out) {
         Attempt::Filled(n) => RebuildAnswer::Length(n),
         Attempt::Denied(r) => RebuildAnswer::Refused(r),
@@ -125,17 +134,17 @@ fn fill_more(
     k: usize,
     out: &mut [u32],
 ) -> RebuildAnswer
-    requires { ⌜ Good (now pairs) (now text) × Ruled (now rules) (now pairs) (now text) (now table) k × (length (now words) ≤ 8192)
+    requires { ⌜ Good (now pairs) (now text) × Ruled (now rules) (now pairs) (now text) (now table) k × (length (now words) ≤ maxWords)
         × (ended (laidBy what (now words) (now pairs) (mapping (now rules) (now pairs) (now text))) ≡ At (length (now words))) ⌝ }
     ensures { λ r. ⌜ Fills (laidBy what (now (words .entry)) (now (pairs .entry)) (mapping (now (rules .entry)) (now (pairs .entry)) (now (text .entry)))) (now (out .entry)) (now (out .exit)) r ⌝ }
 {
     if rebuild_rules::none_stands(rules, pairs, text, table, k, words) {
         return rebuild_type::copy_unaltered(words, out);
     }
-    if 256 < words.len() {
+    if MIDDLE_TREE < words.len() {
         return fill_large(what, words, pairs, text, rules, table, k, out);
     }
-    let mut scratch = [0u32; 512];
+    let mut scratch = [0u32; MIDDLE_SCRATCH];
     match attempt(what, words, pairs, text, rules, table, k, &mut scratch, out) {
         Attempt::Filled(n) => RebuildAnswer::Length(n),
         Attempt::Denied(r) => RebuildAnswer::Refused(r),
@@ -155,20 +164,20 @@ fn fill(
     k: usize,
     out: &mut [u32],
 ) -> RebuildAnswer
-    requires { ⌜ Good (now pairs) (now text) × Ruled (now rules) (now pairs) (now text) (now table) k × (length (now words) ≤ 8192)
+    requires { ⌜ Good (now pairs) (now text) × Ruled (now rules) (now pairs) (now text) (now table) k × (length (now words) ≤ maxWords)
         × (ended (laidBy what (now words) (now pairs) (mapping (now rules) (now pairs) (now text))) ≡ At (length (now words))) ⌝ }
     ensures { λ r. ⌜ Fills (laidBy what (now (words .entry)) (now (pairs .entry)) (mapping (now (rules .entry)) (now (pairs .entry)) (now (text .entry)))) (now (out .entry)) (now (out .exit)) r ⌝ }
 {
-    if 128 < words.len() {
+    if LITTLE_SCRATCH < words.len() {
         return fill_more(what, words, pairs, text, rules, table, k, out);
     }
-    let mut scratch = [0u32; 128];
+    let mut scratch = [0u32; LITTLE_SCRATCH];
     match attempt(what, words, pairs, text, rules, table, k, &mut scratch, out) {
         Attempt::Filled(n) => RebuildAnswer::Length(n),
         Attempt::Denied(r) => RebuildAnswer::Refused(r),
         Attempt::NoRoom => {
             // The limit was the caller's, so more scratch would not help.
-            if out.len() <= 128 {
+            if out.len() <= LITTLE_SCRATCH {
                 rebuild_type::clear(out);
                 return RebuildAnswer::Refused(Refusal::BufferTooShort);
             }
@@ -196,7 +205,7 @@ fn read_and_fill(
     rules: &[u32],
     out: &mut [u32],
 ) -> RebuildAnswer
-    requires { ⌜ Good (now pairs) (now text) × (length (now words) ≤ 8192) × (length (now rules) ≤ 8192) ⌝ }
+    requires { ⌜ Good (now pairs) (now text) × (length (now words) ≤ maxWords) × (length (now rules) ≤ maxWords) ⌝ }
     ensures { λ r. ⌜ (r, now (out .exit)) ≡ laidDown (now (out .entry)) (wholeRebuilt what (now (words .entry)) (now (pairs .entry)) (now (text .entry)) (now (rules .entry))) ⌝ }
 {
     match accept_declaration::accept(what, words, pairs, text) {
