@@ -1,26 +1,23 @@
 -- Where the parts of a declaration end, by the ends of what they consist of.
-use Prim.Native.Nat.{ℕ, _+_, _<_}
+use Prim.Native.Nat.{ℕ}
 use mathlib.Core.Path.{_≡_, refl, ap, sym, _∙_}
 use mathlib.Core.Bool.{Bool, true, false}
 use mathlib.Core.List.{List}
 use borrow.Author.Tests.{ne-eqb, eq-eqb}
 use lib.Dec.{eqb}
-use lib.ListN.{length, getD}
 use Rattle.rast.specs.Bytes.{Bytes}
 use Rattle.rast.specs.Declaration.{Attribute, TypeParamDecl, NamedFields, NamelessFields}
 use Rattle.encoding.specs.declared.Refusal.the-variants.{UnknownWord}
 use Rattle.encoding.specs.declared.Scan.{Scan}
-use Rattle.encoding.specs.declared.Scan.the-variants.{At}
 use Rattle.encoding.specs.declared.WordScan.{WordScan}
 use Rattle.encoding.specs.Refusals.{pick}
 use Rattle.encoding.specs.Reading.{Reading, got, stop, _>>=_, readWord, readBelow}
 use Rattle.encoding.specs.Scans.{wordScan, ended}
 use Rattle.encoding.specs.Tables.{nameBytes, nameCount}
 use Rattle.encoding.specs.Heads.{readPath}
-use Rattle.encoding.specs.Types.{readNode, readType, typeAt}
+use Rattle.encoding.specs.Types.{typeAt}
 use Rattle.encoding.specs.Forms.{present}
 use Rattle.encoding.specs.Declarations.{readList, readCounted, readVisibility, readName, readAttribute, readParameter, readFormal, readField, readNamelessField, readFields, readCase, readStruct, readEnum, readTypeSynonym, readUse, declarationAfter}
-use Rattle.encoding.proofs.Heads.{plain-head}
 use Rattle.declaration_walk.specs.Walks.{readEntry, readTwo, twoScan, readAttributes}
 use Rattle.declaration_walk.specs.declared.Two.{Two}
 use Rattle.accept_declaration.specs.Ends.{thenAt, parameterAt, formalAt, fieldAt, namelessAt, fieldEnd, eachFieldEnd, fieldsAt, caseAt, headingEnd, structAt, enumAt, synonymAt, useEnd}

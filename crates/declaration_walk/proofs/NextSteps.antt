@@ -8,8 +8,6 @@ use Rattle.encoding.specs.declared.Refusal.{Refusal}
 use Rattle.encoding.specs.Reading.{Reading, got, stop, readWord, readBelow}
 use Rattle.declaration_walk.specs.declared.After.{After}
 use Rattle.declaration_walk.specs.declared.After.the-variants.{FieldList, CaseList, OneType, NoMore}
-use Rattle.declaration_walk.specs.declared.Role.{Role}
-use Rattle.declaration_walk.specs.declared.Role.the-variants.{Constraint, StructField, CaseField, Aliased}
 use Rattle.declaration_walk.specs.declared.Walk.{Walk}
 use Rattle.declaration_walk.specs.declared.Next.{Next}
 use Rattle.declaration_walk.specs.Walks.{readEntry, readTwo, Stepped, type-due, parameter, no-parameter, fields, no-fields, cases, no-cases, alias, field, no-field, nameless, no-nameless, case, no-case, end}

@@ -26,8 +26,7 @@ use Rattle.tree_words.proofs.Runs.{run-none, run-join}
 use Rattle.tree_words.proofs.Spans.{Stands, path-stands}
 use Rattle.declaration_walk.specs.declared.After.{After}
 use Rattle.declaration_walk.specs.declared.After.the-variants.{FieldList, CaseList, OneType}
-use Rattle.declaration_walk.specs.declared.Role.{Role}
-use Rattle.declaration_walk.specs.declared.Role.the-variants.{Constraint, StructField, CaseField, Aliased}
+use Rattle.declaration_walk.specs.declared.Role.the-variants.{StructField}
 use Rattle.declaration_walk.specs.Pieces.{runs, attributeTokens, attributesTokens, titleTokens, useTokens}
 use Rattle.declaration_walk.specs.Walks.{readEntry, Opening, readAttributes, readTitle, readUsing, openingAfter, readOpening}
 use Rattle.declaration_walk.proofs.Scans.{entry}

@@ -26,8 +26,7 @@ use Rattle.tree_words.proofs.Spans.{path-names, path-root}
 use Rattle.tree_words.proofs.Renaming.{map-on, names-renamed}
 use Rattle.declaration_walk.specs.declared.After.{After}
 use Rattle.declaration_walk.specs.declared.After.the-variants.{FieldList, CaseList, OneType, NoMore}
-use Rattle.declaration_walk.specs.declared.Role.{Role}
-use Rattle.declaration_walk.specs.declared.Role.the-variants.{Constraint, StructField, CaseField, Aliased}
+use Rattle.declaration_walk.specs.declared.Role.the-variants.{Constraint, StructField, Aliased}
 use Rattle.declaration_walk.specs.declared.Walk.{Walk}
 use Rattle.declaration_walk.specs.Pieces.{Piece, runs, ownPieces, attributeTokens, attributesTokens, titleTokens, useTokens, parameterPieces, fieldsPieces, casePieces, counted, typePiece, heading, front, rest, pieces}
 use Rattle.declaration_walk.specs.Mapped.{mapAttribute}

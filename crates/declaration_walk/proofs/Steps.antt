@@ -25,7 +25,7 @@ use Rattle.tree_words.proofs.Spans.{next-there}
 use Rattle.declaration_walk.specs.declared.After.{After}
 use Rattle.declaration_walk.specs.declared.After.the-variants.{FieldList, CaseList, OneType, NoMore}
 use Rattle.declaration_walk.specs.declared.Role.{Role}
-use Rattle.declaration_walk.specs.declared.Role.the-variants.{Constraint, StructField, CaseField, Aliased}
+use Rattle.declaration_walk.specs.declared.Role.the-variants.{CaseField, Aliased}
 use Rattle.declaration_walk.specs.declared.Walk.{Walk}
 use Rattle.declaration_walk.specs.declared.Next.the-variants.{OwnWords, TypeDue, Ended, Halted}
 use Rattle.declaration_walk.specs.Pieces.{Piece, own, type, visibilityWord, runs, ownPieces, typePiece, counted, parameterPieces, fieldPieces, namelessPieces, fieldsPieces, casePieces}

@@ -1,6 +1,6 @@
 -- The one map over a declaration: f at each of its names, g at each of its types. `renamedDeclaration` and `withTypes` are this map.
 use mathlib.Core.List.{map}
-use Rattle.rast.specs.Tree.{Path, Ty}
+use Rattle.rast.specs.Tree.{Ty}
 use Rattle.rast.specs.Declaration.{Attribute, TypeParamDecl, Formal, Field, NamelessField, Fields, NamedFields, NamelessFields, EnumCase, Declaration, StructDecl, EnumDecl, TypeDecl, UseDecl}
 use Rattle.tree_words.specs.Renamed.{renamedPath, renamed}
 use Rattle.declaration_walk.specs.Pieces.{Piece, own, type}

@@ -32,7 +32,7 @@ use Rattle.known_paths.specs.Matches.{onPath, applied, typeIn, argument, unsize
 use Rattle.known_paths.specs.Steps.{when, andThen, orElse}
 use Rattle.shapes.specs.Shapes.{IsObject, IsPointer, IsObjectOrPointer, isNumber, IsAutoSize}
 use Rattle.shapes.specs.Parts.{expandedAt, expanded, ExpandAt}
-use Rattle.shapes.specs.Initialization.{ownNumber, MaybeUninitType, PtrType, orThis, newUnderlying, TypeAtInitialization}
+use Rattle.shapes.specs.Initialization.{MaybeUninitType, PtrType, orThis, newUnderlying, TypeAtInitialization}
 use Rattle.parts.specs.Answers.{spanOf, spanIn, partOf, partWords}
 use Rattle.rebuild_type.specs.Calls.{laidDown, ruledBy, typeRebuilt}
 use Rattle.rebuild_initial.specs.Calls.{typeInitialized}

@@ -13,7 +13,7 @@ use Rattle.rebuild_spec.specs.Laying.{depth, peak}
 use Rattle.rebuild_spec.proofs.Nodes.{peak-least}
 use Rattle.declaration_walk.specs.declared.Role.{Role}
 use Rattle.declaration_walk.specs.Pieces.{Piece, own, type, runs, ownPieces, pieceTokens, pieces, declarationTokens, encodeDeclaration}
-use Rattle.declaration_walk.specs.Mapped.{mapAttribute, mapParameter, mapFields, mapCase, mapDeclaration, withTypes, pieceWith}
+use Rattle.declaration_walk.specs.Mapped.{mapParameter, mapFields, mapCase, mapDeclaration, withTypes, pieceWith}
 use Rattle.declaration_walk.proofs.WithTypes.{attributes-kept, use-kept, with-pieces}
 use Rattle.declaration_walk.proofs.Encoded.{runs-append}
 use Rattle.rebuild_declaration.specs.Replacer.{ReplaceTypeParams, ReplaceFields, ReplaceStruct, ReplaceEnumCase, ReplaceEnum, ReplaceTypeDecl, ReplaceUse, ReplaceModDecl}

@@ -20,7 +20,7 @@ use Rattle.known_paths.specs.Matches.{onPath, applied, typeIn, argument, unsize
 use Rattle.known_paths.specs.Paths.{samePath, dafny_runtime, inRuntime, ObjectPath, PtrPath, runtimeMember}
 use Rattle.known_paths.specs.Steps.{when, andThen, orElse}
 use Rattle.shapes.specs.Shapes.{IsObject, IsPointer, IsObjectOrPointer, IsMultiArray}
-use Rattle.shapes.specs.Initialization.{ownNumber, MaybeUninitType, ObjectType, PtrType, appliedToUninit, orThis, newUnderlying, TypeAtInitialization}
+use Rattle.shapes.specs.Initialization.{MaybeUninitType, ObjectType, PtrType, appliedToUninit, orThis, newUnderlying, TypeAtInitialization}
 use Rattle.rebuild_type.specs.declared.RebuildAnswer.{RebuildAnswer}
 use Rattle.rebuild_type.specs.declared.RebuildAnswer.the-variants.{Length, Refused}
 use Rattle.rebuild_type.specs.Calls.{laidDown}

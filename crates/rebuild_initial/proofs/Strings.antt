@@ -1,18 +1,18 @@
 -- `TypeAtInitialization` of a tree of name numbers is the source's on the tree of strings.
 use Prim.Native.Nat.{ℕ}
-use mathlib.Core.Path.{_≡_, refl, ap, sym, _∙_}
+use mathlib.Core.Path.{_≡_, refl, ap, sym}
 use mathlib.Core.Bool.{Bool, true, false}
 use mathlib.Core.List.{List, []}
 use mathlib.Core.Option.{Option, some, none}
 use lib.Dec.{ltb}
 use lib.ListN.{getD}
 use Rattle.rast.specs.Bytes.{Bytes}
-use Rattle.rast.specs.Tree.{Ty, Tys, Primitive, TIdentifier, TypeFromPath, TypeApp, Borrowed, BorrowedMut, ImplType, DynType, TupleType, FnType, IntersectionType, Array, TSynonym, TMetaData, nil, cons}
+use Rattle.rast.specs.Tree.{Ty, Primitive, TIdentifier, TypeFromPath, TypeApp, Borrowed, BorrowedMut, ImplType, DynType, TupleType, FnType, IntersectionType, Array, TSynonym, TMetaData, nil, cons}
 use Rattle.rast.specs.DeclarationToString.{Expand}
 use Rattle.encoding.specs.Words.{firstPair, stdName, memName, maybeUninitName, dafnyRuntimeName, objectName, ptrName}
 use Rattle.encoding.specs.Refusals.{pick}
 use Rattle.encoding.specs.Tables.{fixedNames, nameBytes}
-use Rattle.tree_words.specs.Renamed.{renamedPath, renamedSize, renamed, renamedAll}
+use Rattle.tree_words.specs.Renamed.{renamedPath, renamedSize, renamed}
 use Rattle.known_paths.specs.Matches.{typeIn, argument, unsized}
 use Rattle.known_paths.specs.Steps.{when, andThen, orElse}
 use Rattle.shapes.specs.Shapes.{IsObject, IsObjectOrPointer, IsMultiArray}

@@ -1,6 +1,6 @@
 -- Rebuilding trees of name numbers is the source's rebuilding of trees of strings: what each name stands for put in its place afterwards, or before.
 use Prim.Native.Nat.{ℕ}
-use mathlib.Core.Path.{_≡_, refl, ap, sym, _∙_}
+use mathlib.Core.Path.{_≡_, refl, _∙_}
 use mathlib.Core.Bool.{Bool, true, false}
 use mathlib.Core.List.{List, [], _∷_, map}
 use Rattle.rast.specs.Bytes.{Bytes}

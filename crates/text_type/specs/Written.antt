@@ -7,10 +7,7 @@ use Rattle.rast.specs.Bytes.{Bytes}
 use Rattle.rast.specs.Tree.{Ty}
 use Rattle.rast.specs.ToString.{Type·ToString}
 use Rattle.buffer.specs.Wrote.{Wrote}
-use Rattle.encoding.specs.declared.Head.{Head}
-use Rattle.encoding.specs.Tables.{nameBytes}
 use Rattle.encoding.specs.Reading.{Reading, got}
-use Rattle.encoding.specs.Types.{readNode, typeAt}
 use Rattle.accepted_types.specs.declared.Spot.{Spot}
 use Rattle.text_type.specs.declared.Part.{Part}
 use Rattle.text_type.specs.declared.Part.the-variants.{Rest, Done}

@@ -7,7 +7,7 @@ use native.Mathlib.Omega.{arith}
 use native.Mathlib.Nat.{add-zero}
 use lib.ListN.{length, length-map}
 use Rattle.rast.specs.Bytes.{Bytes}
-use Rattle.rast.specs.Tree.{Ty, Tys, nil, cons}
+use Rattle.rast.specs.Tree.{Ty, nil, cons}
 use Rattle.rast.specs.Declaration.{Fields, NamedFields, NamelessFields, Declaration}
 use Rattle.buffer.proofs.Laws.{wrote-nothing, wrote-then, wrote-as, wrote-kept}
 use Rattle.encoding.specs.declared.Refusal.{Refusal}
