@@ -28,7 +28,7 @@ use Rattle.text_pass.specs.Passes.{Chain, last, _then_, run, Ready}
 use Rattle.text_pass.specs.Texts.{nameAt, typeTextAt, pathTextAt, visibilityAt, docAt}
 use Rattle.text_pass.proofs.Passes.{Runs}
 use Rattle.text_pass.proofs.Leaves.{BelowThere, below-of, CountFirst, counted-first}
-use Rattle.text_pass.proofs.Splits.{map-made, nothing-behind, runs-as, split₃, split-front, text-before, text-behind, listed-read}
+use Rattle.text_pass.proofs.Splits.{map-made, nothing-behind, runs-as, split₃, split-front, text-before, text-behind, listed-read, map-alike}
 use Rattle.text_attributes.specs.Texts.{attributesAt}
 use Rattle.text_parameters.specs.Texts.{parametersAt}
 use Rattle.text_fields.specs.declared.Entry.{Entry}
@@ -38,11 +38,6 @@ use Rattle.text_fields.proofs.Fields.{indent-more}
 use Rattle.text_declaration.specs.Texts.{keywordText, caseLineText, entryOf, fieldsEnd, listedAt, fieldsAt, caseAt, caseLineAt, casesAt, variantsAt, titleAt, frontAt, enumBody, synonymBody, bodyAt, frontedAt, useAt, afterAt, declarationTextAt}
 
 -- ---- chains, a text of theirs said in another way
-
-map-alike : {A : Type 0} {f g : A → Bytes} → ((a : A) → f a ≡ g a) → (x : Reading A) → mapReading f x ≡ mapReading g x
-unfolding mapReading
-map-alike e (got a n) = ap (λ (b : Bytes). got b n) (e a)
-map-alike e (stop k) = refl
 
 second-alike : (x : Reading Bytes) (y z : ℕ → Reading Bytes) (k : ℕ → Chain) → ((p : ℕ) → y p ≡ z p) → run (x then λ p. y p then k) ≡ run (x then λ p. z p then k)
 unfolding run
