@@ -1,4 +1,5 @@
 // One pass that accepts or refuses a declaration: a function for each part, which says where the part ends.
+#![tactic(auto)]
 ghost use Rattle.std.specs.Prelude.{◌≡◌, ◌≤◌, length};
 ghost use Rattle.encoding.specs.Words.{max_words};
 ghost use Rattle.encoding.specs.Tested.{Good};
@@ -266,7 +267,7 @@ pub fn accept_declaration(words: &[u32], pairs: &[u32], text: &[u8], at: usize) 
 }
 
 // What an encoding holds.
-#[derive(Drop)]
+#[derive(Clone, Copy)]
 pub enum Whole {
     AType,
     ADeclaration,

@@ -1,4 +1,5 @@
 // One flat pass over the words of a type that accepts or refuses it, for those who ask for no text: the measuring pass without lengths.
+#![tactic(auto)]
 ghost use Rattle.std.specs.Prelude.{◌≡◌, ◌-◌, ◌^◌, ◌≤◌, ◌<◌, length};
 ghost use Rattle.encoding.specs.Words.{plain_kinds, max_words, max_depth};
 ghost use Rattle.encoding.specs.Reading.{read_word, read_below};
@@ -20,7 +21,7 @@ use encoding::words::{
 use encoding::{PathAt, Refusal, Scan, WordScan};
 
 // A head: where its own words end, and if types follow, how many.
-#[derive(Drop)]
+#[derive(Clone, Copy)]
 enum OwnScan {
     Leaf(usize),
     Node { next: usize, kids: u64 },
@@ -28,7 +29,7 @@ enum OwnScan {
 }
 
 // A pass that has come to `place`: `due` types are still to be read at the innermost of `depth` open levels. Levels are kept as `text_measure` keeps them.
-#[derive(Drop)]
+#[derive(Clone, Copy)]
 struct TypeWalk {
     place: usize,
     depth: usize,
@@ -36,7 +37,7 @@ struct TypeWalk {
 }
 
 // What a step comes to: a further walk, the end, or a refusal.
-#[derive(Drop)]
+#[derive(Clone, Copy)]
 enum Step {
     On(TypeWalk),
     Ended(usize),

@@ -1,9 +1,10 @@
 // A type that was accepted: where it ends. Nothing is tested again.
+#![tactic(auto)]
 ghost use Rattle.encoding.specs.Types.{type_at};
 ghost use Rattle.accepted_types.specs.Accepted.{Readable, EndsAt};
 
 // Where a pass over accepted types has come to: in the words, and in what it fills.
-#[derive(Drop)]
+#[derive(Clone, Copy)]
 pub struct Spot {
     pub next: usize,
     pub pos: usize,

@@ -1,6 +1,7 @@
 // The numbers that the exported calls give for their answers: below 2^63 the answer itself, from there on a refusal.
 //
 // They stand apart from the calls so that a wrong number is refused by a small crate.
+#![tactic(auto)]
 ghost use Rattle.std.specs.Prelude.{◌≡◌};
 ghost use Rattle.answer_numbers.specs.Numbers.{refused_number, text_number, sound_number, rebuild_number, visit_number, shape_number, part_number};
 ghost use Rattle.answer_numbers.specs.Limits.{Small};

@@ -1,4 +1,5 @@
 // A declaration as a run of own words and types: a walk that finds the types one behind the other.
+#![tactic(auto)]
 ghost use Rattle.std.specs.Prelude.{◌≡◌, true, ◌^◌, ◌≤◌, ◌<◌};
 ghost use Rattle.encoding.specs.Declarations.{read_list};
 ghost use Rattle.encoding.specs.Forms.{present};
@@ -10,7 +11,7 @@ use encoding::words::{ENUM, FIELD_KINDS, NAMED, STRUCT, TYPE_SYNONYM, USE, VISIB
 use encoding::{PathScan, Refusal, Scan, WordScan};
 
 // What a type is in its declaration.
-#[derive(Drop)]
+#[derive(Clone, Copy)]
 pub enum Role {
     Constraint,
     StructField,
@@ -19,7 +20,7 @@ pub enum Role {
 }
 
 // What follows the parameters: fields, whose types have a role; cases; a type; or nothing.
-#[derive(Drop)]
+#[derive(Clone, Copy)]
 pub enum After {
     FieldList(Role),
     CaseList,
@@ -29,7 +30,7 @@ pub enum After {
 
 // Where a walk has come to: `types` types are due at `place`, then `parameters` parameters, then what `after` says, or so many fields
 // (`kind` 0 named, 1 nameless) and cases. The types that are due, those of the parameters and those of the fields have the role `role`. Counts may be as large as a word, since no more is known of them.
-#[derive(Drop)]
+#[derive(Clone, Copy)]
 pub struct Walk {
     pub place: usize,
     pub role: Role,
@@ -42,7 +43,7 @@ pub struct Walk {
 }
 
 // The next step of a walk: own words up to the walk's place; a type at its place, with its role and the walk behind it but for the place; or the end.
-#[derive(Drop)]
+#[derive(Clone, Copy)]
 pub enum Next {
     OwnWords(Walk),
     TypeDue(Role, Walk),
@@ -51,14 +52,14 @@ pub enum Next {
 }
 
 // The walk behind the first own words of a declaration.
-#[derive(Drop)]
+#[derive(Clone, Copy)]
 pub enum Start {
     Begun(Walk),
     NotBegun(Refusal),
 }
 
 // Two words that were read, and the position behind them.
-#[derive(Drop)]
+#[derive(Clone, Copy)]
 pub enum Two {
     Both {
         first: u32,

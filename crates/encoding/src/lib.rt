@@ -1,4 +1,5 @@
 // An encoding: words, pairs and a text. Its limits and names, the refusals, and reading the heads of types.
+#![tactic(auto)]
 ghost use Rattle.std.specs.Prelude.{◌≡◌, true, [], ◌+◌, ◌*◌, ◌-◌, ◌^◌, ◌≤◌, ◌<◌, length, get_or, take, drop};
 ghost use Rattle.rast.specs.Bytes.{same};
 ghost use Rattle.rast.specs.Tree.{U8};
@@ -23,7 +24,7 @@ use crate::words::{
 pub mod words;
 
 // Document 01's refusals. `Refusals.number` gives the number of each.
-#[derive(Drop)]
+#[derive(Clone, Copy)]
 pub enum Refusal {
     Overlong,
     BadPair,
@@ -57,7 +58,7 @@ pub fn refusal_number(r: Refusal) -> u32
 }
 
 // What a test that comes before reading says.
-#[derive(Drop)]
+#[derive(Clone, Copy)]
 pub enum Check {
     Passed,
     Failed(Refusal),
@@ -311,35 +312,35 @@ pub fn is_name(pairs: &[u32], text: &[u8], name: u32, k: u32, bytes: &[u8]) -> b
 }
 
 // A word that was read, and the position behind it.
-#[derive(Drop)]
+#[derive(Clone, Copy)]
 pub enum WordScan {
     Word { value: u32, next: usize },
     NoWord(Refusal),
 }
 
 // The position behind what was read.
-#[derive(Drop)]
+#[derive(Clone, Copy)]
 pub enum Scan {
     At(usize),
     Refused(Refusal),
 }
 
 // A path: its root, and where how many names stand.
-#[derive(Drop)]
+#[derive(Clone, Copy)]
 pub struct PathAt {
     pub root: u32,
     pub start: usize,
     pub count: u32,
 }
 
-#[derive(Drop)]
+#[derive(Clone, Copy)]
 pub enum PathScan {
     OwnPath { path: PathAt, next: usize },
     NoPath(Refusal),
 }
 
 // A type's head: its kind, with the words of its own.
-#[derive(Drop)]
+#[derive(Clone, Copy)]
 pub enum Head {
     Plain(u32),
     Name(u32),
@@ -357,7 +358,7 @@ pub enum Head {
     Meta(u32),
 }
 
-#[derive(Drop)]
+#[derive(Clone, Copy)]
 pub enum HeadScan {
     Own { head: Head, next: usize },
     NoHead(Refusal),
@@ -564,7 +565,7 @@ fn path_end(words: &[u32], at: usize) -> usize
 }
 
 // Behind a head: where its own words end, and how many types are due there.
-#[derive(Drop)]
+#[derive(Clone, Copy)]
 pub struct Onward {
     pub next: usize,
     pub due: usize,

@@ -1,4 +1,5 @@
 // Paths that RAST's shapes and parts name, and the applications of such paths.
+#![tactic(auto)]
 ghost use Rattle.std.specs.Prelude.{◌≡◌, ◌<◌, false, [], slice_index_or};
 ghost use Rattle.rast.specs.Bytes.{among, same, begins, ascii};
 ghost use Rattle.encoding.specs.Words.{first_pair};
@@ -20,7 +21,7 @@ use encoding::words::{
 use encoding::{Head, HeadScan, PathAt};
 
 // The paths whose applications are told apart: `Rc` and `Arc`, `Box`, `MaybeUninit`, and members of `dafny_runtime`.
-#[derive(Drop)]
+#[derive(Clone, Copy)]
 pub enum Class {
     Counted,
     Boxed,
@@ -34,7 +35,7 @@ pub enum Class {
 }
 
 // Where a part of a type stands, if the type has it.
-#[derive(Drop)]
+#[derive(Clone, Copy)]
 pub enum Found {
     At(usize),
     NoPart,
@@ -203,7 +204,7 @@ fn is_in_class(words: &[u32], pairs: &[u32], text: &[u8], class: Class, path: Pa
 }
 
 // How many arguments an application has, and how many names its path has.
-#[derive(Drop)]
+#[derive(Clone, Copy)]
 struct PathForm {
     arguments: u32,
     names: u32,

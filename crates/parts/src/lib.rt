@@ -1,4 +1,5 @@
 // Parts of the type that an encoding holds: where each stands, and the part of the caller's words itself.
+#![tactic(auto)]
 ghost use Rattle.std.specs.Prelude.{◌≡◌};
 ghost use Rattle.encoding.specs.Tested.{Good};
 ghost use Rattle.encoding.specs.Types.{type_at};
@@ -12,14 +13,14 @@ use encoding::{Check, Refusal};
 use known_paths::{Class, Found};
 
 // A part: where its words start and how many they are, or the refusal.
-#[derive(Drop)]
+#[derive(Clone, Copy)]
 pub enum PartAnswer {
     Part { start: usize, length: usize },
     Refused(Refusal),
 }
 
 // The parts, each named after its call.
-#[derive(Drop)]
+#[derive(Clone, Copy)]
 enum Wanted {
     Removed,
     Expanded,

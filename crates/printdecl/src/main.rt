@@ -2,6 +2,7 @@
 //
 // A program in Rattle has no exit status of its own. So a failure to read or to write is told by a line on standard error, where nothing is
 // written otherwise, and the script `printdecl` turns it into a status other than 0. A refusal is no failure: it was printed.
+#![tactic(auto)]
 ghost use Rattle.printdecl.specs.Reading.{Within};
 
 use libc::{STDERR_FILENO, STDIN_FILENO, STDOUT_FILENO};
@@ -10,7 +11,7 @@ use libc::{STDERR_FILENO, STDIN_FILENO, STDOUT_FILENO};
 const MOST_READ: usize = 57357;
 
 // What came of reading: how many bytes there were until the input ended or the buffer was full, or that a read failed.
-#[derive(Drop)]
+#[derive(Clone, Copy)]
 enum Input {
     Bytes(usize),
     Failed,

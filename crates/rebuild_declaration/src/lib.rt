@@ -1,4 +1,5 @@
 // A declaration rebuilt by rules: its own words are kept, and each of its types is rebuilt.
+#![tactic(auto)]
 ghost use Rattle.std.specs.Prelude.{◌≤◌, length};
 ghost use Rattle.encoding.specs.Tested.{Good};
 ghost use Rattle.accepted_types.specs.Accepted.{Readable};
@@ -12,7 +13,7 @@ use rebuild_type::{Laying, Rebuilt};
 
 // One step of a walk that rebuilds: some own words or a type were laid down, and how deep the type is; or nothing was left; or more words would lie there
 // than the limit.
-#[derive(Drop)]
+#[derive(Clone, Copy)]
 pub enum Advance {
     Further {
         walk: Walk,

@@ -1,4 +1,5 @@
 // The type at initialization, into a lent buffer of words: under a pointer, an array's elements become `MaybeUninit`.
+#![tactic(auto)]
 ghost use Rattle.std.specs.Prelude.{◌≡◌, ◌+◌, ◌-◌, ◌<◌, ◌≤◌, length, nat_lt};
 ghost use Rattle.std.proofs.lemmas.List.Edits.{sets};
 ghost use Rattle.encoding.specs.Words.{max_words, max_depth};
@@ -73,7 +74,7 @@ fn is_of_runtime(words: &[u32], pairs: &[u32], text: &[u8], at: usize) -> bool
 }
 
 // The name of the new pointer and where the type under it stands, if there is one.
-#[derive(Drop)]
+#[derive(Clone, Copy)]
 enum Pointer {
     To { name: u32, at: usize },
     NoPointer,
@@ -117,7 +118,7 @@ fn find_pointer(words: &[u32], pairs: &[u32], text: &[u8]) -> Pointer
 // ---- the array
 
 // Where the array under the pointer and its element stand; or nothing changes. The array's own words are those before its element.
-#[derive(Drop)]
+#[derive(Clone, Copy)]
 enum Initial {
     OfArray { start: usize, element: usize },
     Unchanged,

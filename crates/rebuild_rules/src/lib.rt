@@ -1,4 +1,5 @@
 // Lists of rules: reading them into a table, and finding the rule whose from a type equals.
+#![tactic(auto)]
 ghost use Rattle.std.specs.Prelude.{◌≡◌, max, ◌+◌, ◌-◌, ◌*◌, ◌≤◌, ◌<◌, length, get_or, take, drop};
 ghost use Rattle.encoding.specs.Words.{max_words, max_rules};
 ghost use Rattle.encoding.specs.Tables.{name_bytes};
@@ -24,7 +25,7 @@ pub fn check_all(words: &[u32], rules: &[u32], pairs: &[u32], text: &[u8]) -> Ch
 }
 
 // Where some types end, and how deep the deepest of them is.
-#[derive(Drop)]
+#[derive(Clone, Copy)]
 pub struct Deep {
     pub next: usize,
     pub depth: usize,
@@ -83,7 +84,7 @@ pub fn depth_in(words: &[u32], pairs: &[u32], at: usize, count: usize) -> usize
 }
 
 // A rule that was read: where its to begins and ends.
-#[derive(Drop)]
+#[derive(Clone, Copy)]
 enum RuleScan {
     OneRule { middle: usize, end: usize },
     NoRule(Refusal),
@@ -228,7 +229,7 @@ fn is_from(
 }
 
 // A rule, or none.
-#[derive(Drop)]
+#[derive(Clone, Copy)]
 pub enum FoundRule {
     At(usize),
     Nothing,
@@ -396,7 +397,7 @@ fn are_repeated(rules: &[u32], pairs: &[u32], text: &[u8], table: &[u16; 160], k
 }
 
 // How many rules a list has, or the refusal.
-#[derive(Drop)]
+#[derive(Clone, Copy)]
 pub enum RulesAnswer {
     Rules(usize),
     NoRules(Refusal),

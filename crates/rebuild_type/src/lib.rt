@@ -1,4 +1,5 @@
 // Rebuilding a type by rules: words are laid down in a buffer, and a finished type that equals a rule's from gives way to its to.
+#![tactic(auto)]
 ghost use Rattle.std.specs.Prelude.{◌≡◌, min, ◌+◌, ◌-◌, ◌*◌, ◌^◌, ◌≤◌, ◌<◌, length, get_or, take, drop};
 ghost use Rattle.std.proofs.lemmas.List.Edits.{sets};
 ghost use Rattle.encoding.specs.Words.{max_words};
@@ -62,7 +63,7 @@ pub fn clear(out: &mut [u32])
 }
 
 // Where words that were laid down end, or they would pass the limit.
-#[derive(Drop)]
+#[derive(Clone, Copy)]
 pub enum Laying {
     To(usize),
     Over,
@@ -99,7 +100,7 @@ pub fn room_of(size: usize, most: usize) -> usize
 // ---- types
 
 // Where a finished type ends after the rules were tried, and how deep it is; or it would pass the limit.
-#[derive(Drop)]
+#[derive(Clone, Copy)]
 enum Settling {
     Settled { pos: usize, depth: usize },
     Overfull,
@@ -158,7 +159,7 @@ fn settle(
 }
 
 // Where rebuilding has come to in the words and in the buffer, and how deep what was rebuilt is; or more words would lie there than the limit.
-#[derive(Drop)]
+#[derive(Clone, Copy)]
 pub enum Rebuilt {
     Done {
         next: usize,
@@ -370,14 +371,14 @@ pub fn rebuild_type(
 // ---- the call
 
 // How many words fill the front of the buffer, or a refusal.
-#[derive(Drop)]
+#[derive(Clone, Copy)]
 pub enum RebuildAnswer {
     Length(usize),
     Refused(Refusal),
 }
 
 // A call's answer, or that there was no room for it. It is no enum inside an enum: that would be copied as a whole, and waited for.
-#[derive(Drop)]
+#[derive(Clone, Copy)]
 pub enum Attempt {
     Filled(usize),
     Denied(Refusal),

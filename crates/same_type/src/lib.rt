@@ -1,4 +1,5 @@
 // Comparing two types by their words: no tree is built, and nothing recurses.
+#![tactic(auto)]
 ghost use Rattle.std.specs.Prelude.{◌≡◌, true, false, [], ◌+◌, ◌≤◌, ◌<◌, length, take, drop};
 ghost use Rattle.rast.specs.Bytes.{same};
 ghost use Rattle.encoding.specs.Words.{first_pair};
@@ -12,7 +13,7 @@ use encoding::words::{
 };
 
 // What the next word of a type is: a kind, a word compared as it is, an array's size, a path's root, its count, or the first of some names.
-#[derive(Drop)]
+#[derive(Clone, Copy)]
 pub enum Due {
     Kind,
     Exact,
@@ -136,7 +137,7 @@ fn words_agree(pairs: &[u32], text: &[u8], due: Due, x: u32, y: u32) -> bool
 }
 
 // What the words as they are tell of two types: they are the same, they are not, or names must be compared.
-#[derive(Drop)]
+#[derive(Clone, Copy)]
 pub enum Look {
     Same,
     Apart,

@@ -1,4 +1,5 @@
 // Shapes of the type that an encoding holds: RAST's yes-or-no answers, and where the parts that they speak of stand.
+#![tactic(auto)]
 ghost use Rattle.std.specs.Prelude.{◌≡◌, ◌≤◌, length};
 ghost use Rattle.rast.specs.Bytes.{◌or◌};
 ghost use Rattle.encoding.specs.Words.{max_words};
@@ -23,7 +24,7 @@ use encoding::{Check, Refusal, Scan};
 use known_paths::{Class, Found};
 
 // A shape answer: yes, no, or the refusal.
-#[derive(Drop)]
+#[derive(Clone, Copy)]
 pub enum ShapeAnswer {
     Yes,
     No,

@@ -3,6 +3,7 @@
 // An encoding holds a type as words, a table of pairs and a text. The words are the type's tree, each type before its parts: the number of its
 // kind, then what that kind asks for. A name is a number too: some are fixed, as `std`, `rc` and `Rc`, and the others are the pairs'. `encoding::words` has names for
 // all these numbers.
+#![tactic(auto)]
 use encoding::words::{
     ARRAY, BOOL, BORROWED, FIRST_PAIR, FN_TYPE, GLOBAL, I32, RC, RC_MODULE, STD, STRUCT,
     T_IDENTIFIER, T_SYNONYM, TUPLE_TYPE, TYPE_APP, TYPE_FROM_PATH, U8,

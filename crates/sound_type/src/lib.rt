@@ -1,4 +1,5 @@
 // Document 01's "sound" for the type that an encoding holds. Reading and judging go in one pass.
+#![tactic(auto)]
 ghost use Rattle.std.specs.Prelude.{◌≡◌, true, false, ◌+◌, ◌-◌, ◌%◌, ◌^◌, ◌≤◌, ◌<◌, eqb, length, get_or};
 ghost use Rattle.rast.specs.Sound.{sound_size, sound};
 ghost use Rattle.encoding.specs.Words.{plain_kinds, flag_count, max_words, max_depth};
@@ -20,7 +21,7 @@ use encoding::words::{
 use encoding::{Check, PathAt, Refusal, Scan, WordScan};
 
 // Document 01's "sound": yes, no, or the refusal.
-#[derive(Drop)]
+#[derive(Clone, Copy)]
 pub enum SoundAnswer {
     Sound,
     Unsound,
@@ -29,7 +30,7 @@ pub enum SoundAnswer {
 
 // A head that was read and judged: where its own words end, and if types follow, what the first is asked and the level of the others. A head that is not
 // sound, whatever follows it, ends the judging.
-#[derive(Drop)]
+#[derive(Clone, Copy)]
 enum OwnScan {
     Leaf(usize),
     Node { next: usize, ask: u64, rest: u64 },
@@ -38,7 +39,7 @@ enum OwnScan {
 }
 
 // A name: sound, or not, or no name at all.
-#[derive(Drop)]
+#[derive(Clone, Copy)]
 enum NameCheck {
     Fine,
     Poor,
@@ -48,7 +49,7 @@ enum NameCheck {
 // A pass that has come to `place` and found all sound, inside `depth` levels that it has left unfinished. The type at `place` is asked `ask`: 0 nothing, inside a
 // synonym's base; 1 to be sound; 2 to be a name or a path too; 3 to be no intersection too. Wrappers hand on what they are asked. Behind it follow the types of the
 // level `rest`: four times their number, and what the last of them is asked; the others are asked to be sound if it is judged at all.
-#[derive(Drop)]
+#[derive(Clone, Copy)]
 struct Pass {
     place: usize,
     depth: usize,
@@ -57,7 +58,7 @@ struct Pass {
 }
 
 // What a step comes to: a further pass, the end of a sound type, something that is not sound, or a refusal.
-#[derive(Drop)]
+#[derive(Clone, Copy)]
 enum Step {
     On(Pass),
     Ended(usize),

@@ -1,4 +1,5 @@
 // The text of a type and of a path, at a level, into a lent buffer.
+#![tactic(auto)]
 ghost use Rattle.std.specs.Prelude.{◌≡◌, ◌≤◌, length};
 ghost use Rattle.encoding.specs.Words.{max_words};
 ghost use Rattle.encoding.specs.Tested.{Good};
@@ -9,7 +10,7 @@ use encoding::{Check, Refusal};
 use text_measure::{Measure, PathMeasure};
 
 // The length of the text that fills the front of the buffer, or a refusal: then the buffer is as it was.
-#[derive(Drop)]
+#[derive(Clone, Copy)]
 pub enum TextAnswer {
     Length(usize),
     Refused(Refusal),

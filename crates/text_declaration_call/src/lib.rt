@@ -1,6 +1,7 @@
 // The text of a declaration, at a level, into a lent buffer.
 //
 // The call counts first, which accepts or refuses the declaration, and then writes.
+#![tactic(auto)]
 ghost use Rattle.std.specs.Prelude.{◌≡◌, ◌^◌, ◌<◌};
 ghost use Rattle.text_calls.specs.Calls.{filled};
 ghost use Rattle.text_pass.specs.Passes.{Checked};

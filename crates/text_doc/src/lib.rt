@@ -1,4 +1,5 @@
 // Doc comments: `ConvertDocstring` on bytes. One pass writes the text, or only counts it.
+#![tactic(auto)]
 ghost use Rattle.std.specs.Prelude.{◌≡◌, true, false, [], ◌∷◌, ◌++◌, ◌+◌, ◌^◌, ◌≤◌, ◌<◌, leb, length, take, drop, get_or};
 ghost use Rattle.std.proofs.Math.Option.{none};
 ghost use Rattle.rast.specs.Bytes.{ascii, ◌and◌, ◌or◌, same, begins};
@@ -9,7 +10,7 @@ ghost use Rattle.buffer.specs.Wrote.{Wrote};
 ghost use Rattle.text_doc.specs.Steps.{run_of, line_length, Passed, Nearest, Fence, NoFence, Stays, Changes, copied, piece_text, Splits, copy_step};
 
 // Where the conversion stands: at a byte, at a line's start or not, and in code (behind a fence of `fence` backticks) or not (0).
-#[derive(Drop)]
+#[derive(Clone, Copy)]
 struct Cursor {
     at: usize,
     started: bool,
@@ -17,7 +18,7 @@ struct Cursor {
 }
 
 // What is laid next: a new line, the mark for four spaces, a fence that gains a name, or bytes as they stand.
-#[derive(Drop)]
+#[derive(Clone, Copy)]
 enum DocPiece {
     Newline,
     Bar,
@@ -26,7 +27,7 @@ enum DocPiece {
 }
 
 // A piece, and where the conversion goes on behind it.
-#[derive(Drop)]
+#[derive(Clone, Copy)]
 struct Step {
     piece: DocPiece,
     next: Cursor,

@@ -1,4 +1,5 @@
 // Lists of fields, with names or without.
+#![tactic(auto)]
 ghost use Rattle.std.specs.Prelude.{◌≡◌, true, ◌+◌, ◌^◌, ◌<◌, ◌≤◌, length};
 ghost use Rattle.rast.specs.DeclarationToString.{separator_text};
 ghost use Rattle.rast.specs.Indent.{indent};
@@ -15,7 +16,7 @@ use text_pass::PartEnd;
 use text_type::Part;
 
 // What a list is of: named fields, which stand on lines of their own, or fields without names, one behind the other or on lines of their own.
-#[derive(Drop)]
+#[derive(Clone, Copy)]
 pub enum Entry {
     Named,
     Inline,

@@ -1,5 +1,6 @@
 // A named field's name and type: `Formal.ToString`. A field named `self` may show without its type. The type itself is left to the caller, so that it is counted
 // and written at one place, whether a field has a name or not.
+#![tactic(auto)]
 ghost use Rattle.rast.specs.DeclarationToString.{is_self_owned};
 ghost use Rattle.encoding.specs.Tables.{name_bytes, name_count};
 ghost use Rattle.encoding.specs.Tested.{Good};
@@ -25,7 +26,7 @@ use text_measure::Measure;
 use text_type::Part;
 
 // How far a named field was counted, in the words and in the text: up to its type, or whole; or the refusal that was met.
-#[derive(Drop)]
+#[derive(Clone, Copy)]
 pub enum Label {
     Open { next: usize, pos: usize },
     Whole { next: usize, pos: usize },
@@ -33,7 +34,7 @@ pub enum Label {
 }
 
 // How a field named `self` shows: the name alone, behind `&` or `&mut `, or with its type.
-#[derive(Drop)]
+#[derive(Clone, Copy)]
 enum Receiver {
     ByValue,
     ByRef,

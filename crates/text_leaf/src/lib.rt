@@ -1,4 +1,5 @@
 // Texts with no type in them, into a buffer that has room: plain types, paths, the end of an array.
+#![tactic(auto)]
 ghost use Rattle.std.specs.Prelude.{◌≡◌, ◌+◌, ◌*◌, ◌≤◌, ◌<◌, length, get_or};
 ghost use Rattle.std.proofs.lemmas.List.Edits.{sets};
 ghost use Rattle.rast.specs.Tree.{U8};
@@ -31,7 +32,7 @@ pub fn put_primitive(kind: u32, out: &mut [u8], pos: usize) -> usize
 }
 
 // A text of two to four letters: their number, the first two and the last two, each two as one number with the first letter low.
-#[derive(Drop)]
+#[derive(Clone, Copy)]
 struct Ends {
     count: usize,
     front: u16,

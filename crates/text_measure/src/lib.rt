@@ -1,4 +1,5 @@
 // One pass over the words of a type, with no recursion: it accepts or refuses the type, and finds how long its text is.
+#![tactic(auto)]
 ghost use Rattle.std.specs.Prelude.{◌≡◌, ◌+◌, ◌*◌, ◌-◌, ◌^◌, ◌/◌, ◌≤◌, ◌<◌, eqb, length};
 ghost use Rattle.rast.specs.ToString.{Path-to_string};
 ghost use Rattle.encoding.specs.Words.{from_path_kind, flag_count, max_words, max_depth};
@@ -20,14 +21,14 @@ use encoding::words::{
 use encoding::{PathAt, Refusal, WordScan};
 
 // Where a type ends and how long its text is, or the refusal that is met first.
-#[derive(Drop)]
+#[derive(Clone, Copy)]
 pub enum Measure {
     Measured { next: usize, bytes: usize },
     Stopped(Refusal),
 }
 
 // A path: where its names stand, where it ends and how long its text is, or the refusal that is met first.
-#[derive(Drop)]
+#[derive(Clone, Copy)]
 pub enum PathMeasure {
     MeasuredPath {
         path: PathAt,
@@ -39,7 +40,7 @@ pub enum PathMeasure {
 
 // A head: where its own words end, how many bytes it adds to the texts of the types that follow, and if there are any, how many they are and which of them show
 // where it shows itself.
-#[derive(Drop)]
+#[derive(Clone, Copy)]
 enum OwnScan {
     Leaf {
         next: usize,
@@ -56,7 +57,7 @@ enum OwnScan {
 
 // A pass that has come to `place` with `bytes` of text: `due` types are still to be read at the innermost of `depth` open levels, and `mode` says which of them show:
 // 0 none, inside a synonym's base; 1 all; 2 the next one alone, a synonym's display. The accepting pass is described by it too.
-#[derive(Drop)]
+#[derive(Clone, Copy)]
 pub struct Pass {
     pub place: usize,
     pub bytes: usize,
@@ -66,7 +67,7 @@ pub struct Pass {
 }
 
 // What a step comes to: a further pass, the end, or a refusal.
-#[derive(Drop)]
+#[derive(Clone, Copy)]
 pub enum Step {
     On(Pass),
     Ended(Pass),

@@ -1,5 +1,6 @@
 // Passes over the words of a declaration: names, docs, types and paths. A pass reads what stands there and lays its text: it writes the
 // bytes, or only counts them.
+#![tactic(auto)]
 ghost use Rattle.std.specs.Prelude.{◌≡◌, true, ◌+◌, ◌^◌, ◌<◌, length, get_or};
 ghost use Rattle.rast.specs.ToString.{Path-to_string};
 ghost use Rattle.rast.specs.Indent.{indent};
@@ -19,7 +20,7 @@ use encoding::{PathAt, Refusal, WordScan};
 use text_measure::{Measure, PathMeasure};
 
 // Where a pass has come to, in the words and in the text; or the refusal that it met.
-#[derive(Drop)]
+#[derive(Clone, Copy)]
 pub enum PartEnd {
     At { next: usize, pos: usize },
     Stopped(Refusal),

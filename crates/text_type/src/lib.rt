@@ -1,4 +1,5 @@
 // Writing the texts of paths and types that were accepted, into a buffer that has room for them.
+#![tactic(auto)]
 ghost use Rattle.std.specs.Prelude.{◌≡◌, ◌+◌, ◌<◌, slice_index};
 ghost use Rattle.rast.specs.ToString.{Type-to_string, comma_text};
 ghost use Rattle.encoding.specs.Words.{from_path_kind, leaf_kinds};
@@ -17,7 +18,7 @@ use encoding::words::{
 };
 
 // A type of which all is written, or all but the type at `next` that ends it.
-#[derive(Drop)]
+#[derive(Clone, Copy)]
 pub enum Part {
     Rest(Spot),
     Done(Spot),

@@ -1,1 +1,2 @@
 // Trees and the words that they are written by: definitions and laws, no code.
+#![tactic(auto)]

@@ -10,6 +10,7 @@
 // soundness is; a part by a line `part START LENGTH` and a line of its words, or a line `refused N` and an empty line.
 //
 // What is no such record ends the run with the line `bad record`.
+#![tactic(auto)]
 ghost use Rattle.std.specs.Prelude.{◌≡◌, ◌≤◌, length};
 ghost use Rattle.vectors.specs.Header.{header_of};
 
@@ -68,7 +69,7 @@ const HEADER_BYTES: usize = 24;
 const WORD_BYTES: usize = 4 * MOST_WORDS;
 
 // The numbers before a record's words: the call, the level, and four lengths.
-#[derive(Drop)]
+#[derive(Clone, Copy)]
 struct Header {
     call: u32,
     level: u32,

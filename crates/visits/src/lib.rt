@@ -1,4 +1,5 @@
 // Visit lists: the positions of the types that `Type.Fold` and the visitor of declarations go through, in their order.
+#![tactic(auto)]
 ghost use Rattle.std.specs.Prelude.{◌≡◌, true, [], ◌∷◌, ◌≤◌, ◌<◌, ◌^◌, length};
 ghost use Rattle.buffer.specs.Wrote.{Wrote};
 ghost use Rattle.encoding.specs.Words.{max_words};
@@ -19,7 +20,7 @@ use encoding::words::T_SYNONYM;
 use encoding::{Check, Refusal, Scan};
 
 // The length of the list that fills the front of the buffer, or a refusal: then the buffer is as it was.
-#[derive(Drop)]
+#[derive(Clone, Copy)]
 pub enum VisitAnswer {
     Count(usize),
     Refused(Refusal),
@@ -148,7 +149,7 @@ fn pass_type(
 }
 
 // A walk on its way, and how many positions were laid down.
-#[derive(Drop)]
+#[derive(Clone, Copy)]
 struct Reached {
     walk: Walk,
     pos: usize,
