@@ -1,0 +1,14 @@
+use Rattle.encoding.specs.Scans.{ended}
+use Rattle.accept_declaration.specs.Ends.{case_at}
+use Rattle.encoding.specs.Declarations.{read_list}
+use Rattle.declaration_walk.proofs.Scans.{each-ended, each_next, each-refused, list-each}
+use mathlib.Core.Path.{◌≡◌, refl}
+use native.Mathlib.Omega.{arith}
+use borrow.Author.Rules.{rules}
+use Rattle.accept_declaration.proofs.scan_each_case.Given as goal
+
+abbrev pub invariant-loop-left : goal.invariant-loop-left
+invariant-loop-left l = ended (read_list (case_at l.words l.pairs l.text) l.left l.pos) ≡ ended (read_list (case_at l.words l.pairs l.text) l.count l.at)
+
+abbrev pub decreases-loop-left : goal.decreases-loop-left
+decreases-loop-left l = l.left

@@ -1,0 +1,5 @@
+use borrow.Author.Rules.{rules}
+use Rattle.answer_numbers.proofs.text_number.Goals as goal
+
+pub returns-in-Refused : goal.returns-in-Refused
+returns-in-Refused c = cc

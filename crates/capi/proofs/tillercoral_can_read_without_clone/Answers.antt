@@ -1,0 +1,5 @@
+use borrow.Author.Rules.{rules}
+use Rattle.capi.proofs.tillercoral_can_read_without_clone.Goals as goal
+
+pub returns : goal.returns
+returns c = rw c.can_read_without_clone.ensures at c.shape_number.ensures

@@ -1,0 +1,10 @@
+use Rattle.capi.proofs.Small.{part_small}
+use Rattle.shapes.proofs.Parts.{uninit-array-keeps}
+use borrow.Author.Rules.{rules}
+use Rattle.capi.proofs.tillercoral_extract_maybe_uninit_array_element.Goals as goal
+
+pub part_number-requires : goal.part_number-requires
+part_number-requires c = part_small (uninit-array-keeps _ _ _) c.extract_maybe_uninit_array_element_at.ensures
+
+pub returns : goal.returns
+returns c = rw c.extract_maybe_uninit_array_element_at.ensures at c.part_number.ensures

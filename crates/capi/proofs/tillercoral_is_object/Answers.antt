@@ -1,0 +1,5 @@
+use borrow.Author.Rules.{rules}
+use Rattle.capi.proofs.tillercoral_is_object.Goals as goal
+
+pub returns : goal.returns
+returns c = rw c.is_object.ensures at c.shape_number.ensures

@@ -1,0 +1,5 @@
+use borrow.Author.Rules.{rules}
+use Rattle.capi.proofs.tillercoral_is_rc_or_borrowed_rc.Goals as goal
+
+pub returns : goal.returns
+returns c = rw c.is_rc_or_borrowed_rc.ensures at c.shape_number.ensures

@@ -1,0 +1,24 @@
+use native.Mathlib.Omega.{arith}
+use Rattle.rebuild_declaration.proofs.Steps.{field-advanced, field-over, field-own, field-readable, field-ready}
+use borrow.Author.Rules.{rules}
+use Rattle.rebuild_declaration.proofs.add_field.Goals as goal
+
+pub overflow_sub-at : goal.overflow_sub-at
+overflow_sub-at c = let k = field-own c.requires.0 c.requires.1 c.field_type-at.ensures in omega (arith, k.further)
+
+pub add_words-requires : goal.add_words-requires
+add_words-requires c =
+    let s = c.requires.0 in
+    let k = field-own c.requires.0 c.requires.1 c.field_type-at.ensures in
+    (omega (arith, k.further, k.inside), s.within, s.room)
+
+pub returns-in_default : goal.returns-in_default
+returns-in_default c = field-over c.requires.0 c.requires.1 c.field_type-at.ensures c.add_words.ensures c.in_default.is
+
+pub rebuild_type-requires : goal.rebuild_type-requires
+rebuild_type-requires c =
+    let s = field-ready c.requires.0 c.requires.1 c.field_type-at.ensures c.add_words.ensures c.in-To.is in
+    (s.good, s.ruled, field-readable c.requires.0 c.requires.1 c.field_type-at.ensures c.add_words.ensures c.in-To.is, s.within, s.room)
+
+pub returns : goal.returns
+returns c = field-advanced c.requires.0 c.requires.1 c.field_type-at.ensures c.add_words.ensures c.in-To.is c.rebuild_type.ensures

@@ -1,0 +1,24 @@
+use Rattle.std.proofs.Common.{ap, ◌∙◌, rules}
+use Rattle.encoding.proofs.Tables.{tables-hold}
+use Rattle.rebuild_type.specs.Calls.{laid_down}
+use Rattle.rebuild_type.proofs.Calls.{down-failed, down-passed}
+use Rattle.rebuild_initial.specs.Initialized.{whole_initialized}
+use Rattle.rebuild_initial.proofs.Filling.{tables-tested}
+use Rattle.rebuild_initial.proofs.type_at_initialization.Goals as goal
+
+pub accept_and_initialize-requires : goal.accept_and_initialize-requires
+accept_and_initialize-requires c =
+    let a = c.args in
+    tables-hold a.words.now a.pairs.now a.text.now c.check_tables.ensures c.in-Passed.is
+
+pub returns-in-Passed : goal.returns-in-Passed
+returns-in-Passed c =
+    let a = c.args in
+    down-passed a.out.now (whole_initialized a.words.now a.pairs.now a.text.now) c.check_tables.ensures c.in-Passed.is c.accept_and_initialize.ensures
+    ∙ ap (laid_down a.out.now) (tables-tested a.words.now a.pairs.now a.text.now)
+
+pub returns-in-Failed : goal.returns-in-Failed
+returns-in-Failed c =
+    let a = c.args in
+    down-failed a.out.now (whole_initialized a.words.now a.pairs.now a.text.now) c.check_tables.ensures c.in-Failed.is
+    ∙ ap (laid_down a.out.now) (tables-tested a.words.now a.pairs.now a.text.now)

@@ -1,0 +1,20 @@
+use Prim.Native.Nat.{◌*◌, ◌+◌, ◌-◌, ◌<◌, ◌≤◌, ℕ}
+use Rattle.encoding.specs.Types.{read_types}
+use Rattle.rebuild_rules.proofs.Depths.{Deepening, alone, deepening-ends, deepening-starts, head-due, inner}
+use Rattle.tree_words.specs.Numbered.{tree_at}
+use lib.ListN.{length}
+use native.Mathlib.Omega.{arith}
+use borrow.Author.Rules.{rules}
+use Rattle.rebuild_rules.proofs.+deepest_depth_below.Given as goal
+
+abbrev pub decreases-deepest : goal.decreases-deepest
+decreases-deepest l = 2 * (length l.words.now - l.at)
+
+abbrev pub decreases-depth_below : goal.decreases-depth_below
+decreases-depth_below l = 2 * (length l.words.now - l.at) + 1
+
+abbrev pub invariant-deepest-loop-left : goal.invariant-deepest-loop-left
+invariant-deepest-loop-left l = (l.at ≤ l.place) × Deepening l.words l.pairs (read_types (tree_at l.words l.pairs) l.n l.at) l.place l.depth l.left
+
+abbrev pub decreases-deepest-loop-left : goal.decreases-deepest-loop-left
+decreases-deepest-loop-left l = l.left

@@ -1,0 +1,14 @@
+use Prim.Native.Nat.{◌-◌, ◌≤◌}
+use Rattle.encoding.specs.Tables.{name_bytes}
+use Rattle.rebuild_rules.proofs.Steps.{repeated-here, repeated-later, repeated-never}
+use Rattle.rebuild_rules.specs.Table.{repeated_from}
+use mathlib.Core.Path.{◌∙◌, ◌≡◌, refl, sym}
+use native.Mathlib.Omega.{arith}
+use borrow.Author.Rules.{rules}
+use Rattle.rebuild_rules.proofs.are_repeated.Given as goal
+
+abbrev pub invariant-loop-i : goal.invariant-loop-i
+invariant-loop-i l = (l.i ≤ l.k) × (repeated_from (name_bytes l.pairs l.text) l.rules l.table l.i (l.k - l.i) ≡ repeated_from (name_bytes l.pairs l.text) l.rules l.table 0 l.k)
+
+abbrev pub decreases-loop-i : goal.decreases-loop-i
+decreases-loop-i l = l.k - l.i

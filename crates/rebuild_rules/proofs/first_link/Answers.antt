@@ -1,0 +1,7 @@
+use mathlib.Core.Path.{◌∙◌, ap}
+use lib.ListN.{get_or}
+use borrow.Author.Rules.{rules}
+use Rattle.rebuild_rules.proofs.first_link.Goals as goal
+
+pub returns : goal.returns
+returns c = c.wide.ensures ∙ ap (λ j. get_or c.args.table.now j 0) c.slot_of.ensures.0

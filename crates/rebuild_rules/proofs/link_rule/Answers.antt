@@ -1,0 +1,8 @@
+use Rattle.rebuild_rules.specs.Table.{linked, slot_of}
+use mathlib.Core.Path.{refl}
+use borrow.Author.Rules.{rules}
+use Rattle.rebuild_rules.proofs.link_rule.Goals as goal
+
+pub returns : goal.returns
+unfolding linked slot_of
+returns c = rw c.slot_of-s.ensures.0 refl

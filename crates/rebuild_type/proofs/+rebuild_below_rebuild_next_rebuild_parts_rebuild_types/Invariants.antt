@@ -1,0 +1,32 @@
+use Prim.Native.Nat.{◌*◌, ◌+◌, ◌-◌, ◌<◌, ◌≤◌, ℕ}
+use Rattle.encoding.specs.HeadWords.{types_below}
+use Rattle.encoding.specs.Types.{read_types}
+use Rattle.tree_words.proofs.Heads.{head-here, tree-here, few-below}
+use Rattle.rebuild_type.proofs.Growing.{lays-over, lays-to}
+use Rattle.rebuild_type.proofs.Types.{Rebuilding, below-reads, built, own-fits, parts-finished, parts-full, parts-over, parts_then, plain-parts, rebuilding-ends, rebuilding-starts, settle-ends, type-done, type-over, type_reads, types-full, types_more, types-past}
+use Rattle.rebuild_type.specs.Laid.{mapping}
+use Rattle.tree_words.specs.Numbered.{tree_at}
+use Rattle.rebuild_rules.specs.Table.{slot}
+use lib.ListN.{get_or, length}
+use mathlib.Core.Path.{◌≡◌, ◌∙◌, ap, refl, sym}
+use native.Mathlib.Omega.{arith}
+use borrow.Author.Rules.{rules}
+use Rattle.rebuild_type.proofs.+rebuild_below_rebuild_next_rebuild_parts_rebuild_types.Given as goal
+
+abbrev pub decreases-rebuild_below : goal.decreases-rebuild_below
+decreases-rebuild_below l = 4 * (length l.words.now - l.at) + 3
+
+abbrev pub decreases-rebuild_next : goal.decreases-rebuild_next
+decreases-rebuild_next l = 4 * (length l.words.now - l.at) + 1
+
+abbrev pub decreases-rebuild_parts : goal.decreases-rebuild_parts
+decreases-rebuild_parts l = 4 * (length l.words.now - l.at)
+
+abbrev pub decreases-rebuild_types : goal.decreases-rebuild_types
+decreases-rebuild_types l = 4 * (length l.words.now - l.at) + 2
+
+abbrev pub invariant-rebuild_types-loop-left : goal.invariant-rebuild_types-loop-left
+invariant-rebuild_types-loop-left l = (l.at ≤ l.place) × Rebuilding l.words l.pairs (mapping l.rules l.pairs l.text) (read_types (tree_at l.words l.pairs) l.n l.at) l.limit l.initial.out l.pos l.out l.place l.p l.deepest l.left
+
+abbrev pub decreases-rebuild_types-loop-left : goal.decreases-rebuild_types-loop-left
+decreases-rebuild_types-loop-left l = l.left

@@ -1,0 +1,19 @@
+use Rattle.shapes.specs.Shapes.{IsAutoSize}
+use Rattle.shapes.proofs.Answers.{ready, shape-answered, shape-refused}
+use borrow.Author.Rules.{rules}
+use Rattle.shapes.proofs.is_auto_size.Goals as goal
+
+pub is_auto_size_at-requires : goal.is_auto_size_at-requires
+is_auto_size_at-requires c =
+    let a = c.args in
+    (ready a.words.now a.pairs.now a.text.now c.accept.ensures c.in-Passed.is).1
+
+pub returns-in-Passed : goal.returns-in-Passed
+returns-in-Passed c =
+    let a = c.args in
+    shape-answered a.words.now a.pairs.now a.text.now IsAutoSize c.accept.ensures c.in-Passed.is c.is_auto_size_at.ensures c.answer.ensures
+
+pub returns-in-Failed : goal.returns-in-Failed
+returns-in-Failed c =
+    let a = c.args in
+    shape-refused a.words.now a.pairs.now a.text.now IsAutoSize c.accept.ensures c.in-Failed.is

@@ -1,0 +1,19 @@
+use Rattle.shapes.specs.Shapes.{IsRcOrBorrowedRc}
+use Rattle.shapes.proofs.Answers.{ready, shape-answered, shape-refused}
+use borrow.Author.Rules.{rules}
+use Rattle.shapes.proofs.is_rc_or_borrowed_rc.Goals as goal
+
+pub is_rc_or_borrowed_at-requires : goal.is_rc_or_borrowed_at-requires
+is_rc_or_borrowed_at-requires c =
+    let a = c.args in
+    ready a.words.now a.pairs.now a.text.now c.accept.ensures c.in-Passed.is
+
+pub returns-in-Passed : goal.returns-in-Passed
+returns-in-Passed c =
+    let a = c.args in
+    shape-answered a.words.now a.pairs.now a.text.now IsRcOrBorrowedRc c.accept.ensures c.in-Passed.is c.is_rc_or_borrowed_at.ensures c.answer.ensures
+
+pub returns-in-Failed : goal.returns-in-Failed
+returns-in-Failed c =
+    let a = c.args in
+    shape-refused a.words.now a.pairs.now a.text.now IsRcOrBorrowedRc c.accept.ensures c.in-Failed.is

@@ -1,0 +1,12 @@
+use Prim.Native.Nat.{◌-◌}
+use Rattle.unwrap.proofs.Going.{Going, going-display, going-meta, going_start, meta-inside}
+use Rattle.shapes.proofs.Judging.{removed-arrived, removed-display, removed-meta, removed_to}
+use lib.ListN.{length}
+use borrow.Author.Rules.{rules}
+use Rattle.shapes.proofs.remove_wrappers.Given as goal
+
+abbrev pub invariant-loop-place : goal.invariant-loop-place
+invariant-loop-place l = Going removed_to l.words l.pairs l.text l.at l.place
+
+abbrev pub decreases-loop-place : goal.decreases-loop-place
+decreases-loop-place l = length l.words - l.place

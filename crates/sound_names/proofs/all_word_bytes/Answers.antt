@@ -1,0 +1,30 @@
+use borrow.Author.Rules.{rules}
+use Prim.Native.Nat.{◌-◌}
+use mathlib.Core.Path.{◌≡◌, refl, sym, ◌∙◌}
+use borrow.Author.Tests.{not-true, not-false}
+use lib.ListN.{length, drop}
+use Rattle.rast.specs.Bytes.{each}
+use Rattle.rast.specs.Sound.{is_word_byte}
+use Rattle.rast.proofs.BytesLaws.{and_no, and_yes}
+use Rattle.sound_names.proofs.Names.{each_more, each-end}
+use Rattle.sound_names.proofs.all_word_bytes.Goals as goal
+
+pub loop-i-init : goal.loop-i-init
+loop-i-init c = refl
+
+pub returns-then-not-is_word_byte : goal.returns-then-not-is_word_byte
+returns-then-not-is_word_byte c =
+    let l = c.loop-i in
+    let no = sym c.is_word_byte.ensures ∙ not-true _ c.if-not-is_word_byte.true in
+    sym (each_more is_word_byte _ l.i (search rules) ∙ and_no _ no) ∙ l.invariant
+
+pub loop-i-preserved : goal.loop-i-preserved
+loop-i-preserved c =
+    let l = c.loop-i in
+    let yes = sym c.is_word_byte.ensures ∙ not-false _ c.if-not-is_word_byte.false in
+    sym (each_more is_word_byte _ l.i (search rules) ∙ and_yes _ yes) ∙ l.invariant
+
+pub returns : goal.returns
+returns c =
+    let l = c.loop-i in
+    sym (each-end is_word_byte _ l.i (search rules)) ∙ l.invariant

@@ -1,0 +1,16 @@
+use borrow.Author.Rules.{rules}
+use Prim.Native.Nat.{◌-◌}
+use mathlib.Core.Path.{◌≡◌, refl, sym, ◌∙◌}
+use borrow.Author.Tests.{not-true, not-false}
+use lib.ListN.{length, drop}
+use Rattle.rast.specs.Bytes.{each}
+use Rattle.rast.specs.Sound.{is_word_byte}
+use Rattle.rast.proofs.BytesLaws.{and_no, and_yes}
+use Rattle.sound_names.proofs.Names.{each_more, each-end}
+use Rattle.sound_names.proofs.all_word_bytes.Given as goal
+
+abbrev pub invariant-loop-i : goal.invariant-loop-i
+invariant-loop-i l = each is_word_byte (drop l.i l.bytes) ≡ each is_word_byte l.bytes
+
+abbrev pub decreases-loop-i : goal.decreases-loop-i
+decreases-loop-i l = length l.bytes - l.i

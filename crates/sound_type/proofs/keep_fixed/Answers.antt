@@ -1,0 +1,17 @@
+use borrow.Author.Rules.{rules}
+use native.Mathlib.Omega.{arith}
+use Prim.Native.Nat.{◌-◌, ◌<◌}
+use Rattle.sound_type.specs.Judging.{Known}
+use Rattle.sound_type.proofs.Names.{known-fixed}
+use Rattle.sound_type.proofs.keep_fixed.Goals as goal
+
+pub loop-i-init : goal.loop-i-init
+loop-i-init c = (omega arith, c.requires)
+
+pub loop-i-preserved : goal.loop-i-preserved
+loop-i-preserved c =
+    let a = c.args in
+    (omega arith, known-fixed a.pairs.now a.text.now c.loop-i.invariant.1 c.loop-i.i c.loop-i.invariant.0 (search rules))
+
+pub returns : goal.returns
+returns c = c.loop-i.invariant.1

@@ -1,0 +1,35 @@
+use borrow.Author.Rules.{rules}
+use native.Mathlib.Omega.{arith}
+use Prim.Native.Nat.{◌-◌}
+use mathlib.Core.Path.{sym, ◌∙◌}
+use borrow.Author.Tests.{eqb-true, not-false}
+use Rattle.encoding.specs.Tables.{name_bytes, name_count}
+use Rattle.sound_type.specs.Judging.{OnwardAlways}
+use Rattle.sound_type.proofs.Names.{judged-sound}
+use Rattle.sound_type.proofs.Paths.{onward-here, onward-more}
+use Rattle.sound_type.proofs.known_to.Goals as goal
+
+pub loop-i-init : goal.loop-i-init
+loop-i-init c =
+    let a = c.args in
+    λ ask. onward-here (name_count a.pairs.now) a.words.now (name_bytes a.pairs.now a.text.now) ask a.start a.end c.requires.1 c.requires.2
+
+pub offset_bounds-words-i : goal.offset_bounds-words-i
+offset_bounds-words-i c = omega (arith, c.least-limit.ensures.1)
+
+pub bounds-words-i : goal.bounds-words-i
+bounds-words-i c = omega (arith, c.least-limit.ensures.1)
+
+pub returns-then-not-is_known : goal.returns-then-not-is_known
+returns-then-not-is_known c = c.loop-i.invariant
+
+pub loop-i-preserved : goal.loop-i-preserved
+loop-i-preserved c =
+    let a = c.args in
+    let k = c.requires.0 in
+    let l = c.loop-i in
+    let e = eqb-true _ _ (sym c.is_Known.ensures ∙ not-false _ c.if-not-is_known.false) in
+    λ ask. onward-more (name_count a.pairs.now) a.words.now (name_bytes a.pairs.now a.text.now) ask a.start a.end (l.invariant ask) (omega (arith, c.least-limit.ensures.0)) (omega (arith, c.least-limit.ensures.1)) (k.inside _ e) (judged-sound ask (k.sound _ e))
+
+pub returns : goal.returns
+returns c = c.loop-i.invariant

@@ -1,0 +1,54 @@
+use native.Mathlib.Omega.{arith}
+use mathlib.Core.Path.{refl, ap, sym, ◌∙◌}
+use borrow.Author.Tests.{eqb-true}
+use Rattle.encoding.specs.declared.Head.TheVariants.{Name}
+use Rattle.encoding.specs.Tables.{name_count}
+use Rattle.encoding.proofs.Reading.{below_end}
+use Rattle.text_measure.specs.Lengths.{worded}
+use Rattle.sound_type.proofs.Names.{judged-nothing, judged-all, judged-sound, was-fine, was-poor, was-no-name}
+use Rattle.sound_type.proofs.Scans.{scanned-stop}
+use Rattle.sound_type.proofs.Paths.{name-leaf, name-poor, name-unknown}
+use borrow.Author.Rules.{rules}
+use Rattle.sound_type.proofs.own_name.Goals as goal
+
+pub returns-then-words-at : goal.returns-then-words-at
+returns-then-words-at c =
+    let a = c.args in
+    (scanned-stop a.words.now a.pairs.now a.text.now a.ask (ap (worded Name) (below_end (name_count a.pairs.now) a.words.now a.at c.if-words-at.true)) refl, c.requires.1)
+
+pub returns-then-is_known : goal.returns-then-is_known
+returns-then-is_known c =
+    let a = c.args in
+    let k = c.requires.1 in
+    let e = eqb-true _ _ (sym c.is_Known.ensures ∙ c.if-is_known.true) in
+    (name-leaf a.words.now a.pairs.now a.text.now a.ask a.at c.if-words-at.false (k.inside _ e) (judged-sound a.ask (k.sound _ e)) refl, k)
+
+pub overflow_cast-name : goal.overflow_cast-name
+overflow_cast-name c = omega (arith, c.shared_slice_known-4-1.given c.args.at)
+
+pub returns-then-name_count-name : goal.returns-then-name_count-name
+returns-then-name_count-name c =
+    let a = c.args in
+    (name-unknown a.words.now a.pairs.now a.text.now a.ask a.at c.if-words-at.false (omega (arith, c.name_count.ensures, c.if-name_count-name.true)) refl, c.requires.1)
+
+pub returns-then-ask-eq0 : goal.returns-then-ask-eq0
+returns-then-ask-eq0 c =
+    let a = c.args in
+    (name-leaf a.words.now a.pairs.now a.text.now a.ask a.at c.if-words-at.false (omega (arith, c.name_count.ensures, c.if-name_count-name.false)) (judged-nothing _ c.if-ask-eq0.true) refl, c.requires.1)
+
+pub returns-in-Fine : goal.returns-in-Fine
+returns-in-Fine c =
+    let a = c.args in
+    let f = was-fine c.check_new.ensures.0 c.in-Fine.is in
+    (name-leaf a.words.now a.pairs.now a.text.now a.ask a.at c.if-words-at.false f.0 (judged-sound a.ask f.1) refl, c.check_new.ensures.1)
+
+pub returns-in-Poor : goal.returns-in-Poor
+returns-in-Poor c =
+    let a = c.args in
+    let s = was-poor c.check_new.ensures.0 c.in-Poor.is in
+    (name-poor a.words.now a.pairs.now a.text.now a.ask a.at c.if-words-at.false (judged-all (omega (arith, c.if-ask-eq0.false)) ∙ s) refl, c.check_new.ensures.1)
+
+pub returns-in-NoName : goal.returns-in-NoName
+returns-in-NoName c =
+    let a = c.args in
+    (name-unknown a.words.now a.pairs.now a.text.now a.ask a.at c.if-words-at.false (was-no-name c.check_new.ensures.0 c.in-NoName.is) refl, c.check_new.ensures.1)

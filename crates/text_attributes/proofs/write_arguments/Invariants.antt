@@ -1,0 +1,17 @@
+use mathlib.Core.Bool.{true}
+use mathlib.Core.Path.{◌≡◌, refl}
+use native.Mathlib.Omega.{arith}
+use lib.ListN.{length}
+use Rattle.rast.specs.Bytes.{ascii}
+use Rattle.buffer.proofs.Passes.{laid-wrote}
+use Rattle.text_pass.specs.Texts.{name_at}
+use Rattle.text_pass.proofs.Passes.{Turn, turn_gap, turn-item, turn_last, turn-next, turn-start}
+use Rattle.text_pass.proofs.Leaves.{name-word, word_below}
+use borrow.Author.Rules.{rules}
+use Rattle.text_attributes.proofs.write_arguments.Given as goal
+
+abbrev pub invariant-loop-left : goal.invariant-loop-left
+invariant-loop-left l = (length l.out ≡ length l.initial.out) × Turn (name_at l.words l.pairs l.text) (ascii ", ") true l.initial.out l.pos l.n l.at l.out l.p l.left l.place
+
+abbrev pub decreases-loop-left : goal.decreases-loop-left
+decreases-loop-left l = l.left

@@ -1,0 +1,16 @@
+use mathlib.Core.Path.{◌≡◌, refl}
+use mathlib.Core.Bool.{true}
+use native.Mathlib.Omega.{arith}
+use lib.ListN.{length}
+use Rattle.text_pass.specs.Passes.{Along}
+use Rattle.text_pass.proofs.Passes.{along-item, along-start, came-to}
+use Rattle.text_pass.proofs.Lists.{along-each, along-end}
+use Rattle.text_attributes.specs.Texts.{some_attributes}
+use borrow.Author.Rules.{rules}
+use Rattle.text_attributes.proofs.write_attributes.Given as goal
+
+abbrev pub invariant-loop-left : goal.invariant-loop-left
+invariant-loop-left l = (length l.out ≡ length l.initial.out) × Along true l.initial.out l.pos (some_attributes l.words l.pairs l.text l.level l.n l.at) l.out l.p (some_attributes l.words l.pairs l.text l.level l.left l.place)
+
+abbrev pub decreases-loop-left : goal.decreases-loop-left
+decreases-loop-left l = l.left

@@ -1,0 +1,15 @@
+use mathlib.Core.Bool.{true}
+use mathlib.Core.Path.{◌≡◌, refl}
+use lib.ListN.{length}
+use Rattle.rast.specs.Bytes.{ascii}
+use Rattle.buffer.proofs.Passes.{laid-wrote}
+use Rattle.text_pass.proofs.Passes.{Turn, turn_gap, turn-item, turn_last, turn-next, turn-start}
+use Rattle.text_declaration.specs.Texts.{case_line_at}
+use borrow.Author.Rules.{rules}
+use Rattle.text_declaration.proofs.write_cases.Given as goal
+
+abbrev pub invariant-loop-left : goal.invariant-loop-left
+invariant-loop-left l = (length l.out ≡ length l.initial.out) × Turn (case_line_at l.words l.pairs l.text l.level) (ascii ",") true l.initial.out l.pos l.n l.at l.out l.p l.left l.place
+
+abbrev pub decreases-loop-left : goal.decreases-loop-left
+decreases-loop-left l = l.left

@@ -1,0 +1,33 @@
+use Rattle.text_declaration_call.proofs.Filling.{Turn, turn-done, turn-left, turn-next, turn-ready, turn-short, turn-start, turn_stopped, turns, turns-less}
+use Rattle.encoding.specs.Declarations.{declaration_at}
+use Rattle.rast.specs.DeclarationToString.{Declaration-to_string}
+use lib.ListN.{length}
+use mathlib.Core.Path.{◌≡◌}
+use borrow.Author.Rules.{rules}
+use Rattle.text_declaration_call.proofs.fill.Goals as goal
+
+pub loop-next-init : goal.loop-next-init
+loop-next-init c = (search rules, turn-start (search rules))
+
+pub lay_declaration-requires : goal.lay_declaration-requires
+lay_declaration-requires c =
+    let start = c in
+    (start.requires.0, start.requires.1, turn-ready c.loop-next.invariant.1)
+
+pub returns-then-write : goal.returns-then-write
+returns-then-write c = let b = c in turn-done b.loop-next.invariant.1 b.lay_declaration.ensures b.in-At.is c.if-write.true
+
+pub returns-then-next-words : goal.returns-then-next-words
+returns-then-next-words c = let b = c in turn-left b.loop-next.invariant.1 b.lay_declaration.ensures b.in-At.is c.if-write.false c.if-next-words.true
+
+pub returns-then-out-bytes : goal.returns-then-out-bytes
+returns-then-out-bytes c = let b = c in turn-short b.loop-next.invariant.1 b.lay_declaration.ensures b.in-At.is c.if-write.false c.if-next-words.false c.if-out-bytes.true
+
+pub loop-next-smaller : goal.loop-next-smaller
+loop-next-smaller c = turns-less _ c.if-write.false
+
+pub loop-next-preserved : goal.loop-next-preserved
+loop-next-preserved c = let b = c in (search rules, turn-next b.loop-next.invariant.1 b.lay_declaration.ensures b.in-At.is c.if-write.false c.if-next-words.false c.if-out-bytes.false)
+
+pub returns-in-Stopped : goal.returns-in-Stopped
+returns-in-Stopped c = turn_stopped c.loop-next.invariant.1 c.lay_declaration.ensures c.in-Stopped.is

@@ -1,0 +1,16 @@
+use mathlib.Core.Path.{refl}
+use native.Mathlib.Omega.{arith}
+use Rattle.text_fields.proofs.Fields.{end-size, size_of}
+use Rattle.text_fields.specs.Texts.{list_end}
+use Rattle.rast.specs.Bytes.{ascii}
+use borrow.Author.Rules.{rules}
+use Rattle.text_fields.proofs.end_length.Goals as goal
+
+pub returns-then-named : goal.returns-then-named
+returns-then-named c =
+    let start = c in
+    (size_of (λ b. list_end b start.args.level) c.if-named.true (end-size start.args.level), omega (arith, start.requires))
+
+pub returns : goal.returns
+unfolding list_end ascii
+returns c = (size_of (λ b. list_end b c.args.level) c.if-named.false refl, omega arith)

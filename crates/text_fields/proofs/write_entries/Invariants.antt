@@ -1,0 +1,16 @@
+use mathlib.Core.Bool.{true}
+use mathlib.Core.Path.{◌≡◌, refl, sym}
+use lib.ListN.{length}
+use Rattle.text_fields.proofs.Fields.{entry-as}
+use Rattle.text_fields.specs.Texts.{entry_at, entry_gap}
+use Rattle.text_pass.proofs.Passes.{Turn, came-as, ready-as, turn_gap, turn-item, turn_last, turn-next, turn-start}
+use Rattle.text_pass.specs.Passes.{Came}
+use Rattle.buffer.proofs.Passes.{laid-wrote}
+use borrow.Author.Rules.{rules}
+use Rattle.text_fields.proofs.write_entries.Given as goal
+
+abbrev pub invariant-loop-left : goal.invariant-loop-left
+invariant-loop-left l = (length l.out ≡ length l.initial.out) × Turn (entry_at l.words l.pairs l.text l.entry) (entry_gap l.entry l.level) true l.initial.out l.pos l.n l.at l.out l.p l.left l.place
+
+abbrev pub decreases-loop-left : goal.decreases-loop-left
+decreases-loop-left l = l.left

@@ -1,0 +1,20 @@
+use mathlib.Core.Path.{refl, ap}
+use Rattle.encoding.specs.declared.Head.TheVariants.{FromPath}
+use Rattle.encoding.specs.Heads.{path_head}
+use Rattle.text_measure.specs.Lengths.{head_of_path, own_length}
+use Rattle.text_measure.proofs.Scans.{path-got, path-stop, scanned-leaf, scanned-stop}
+use borrow.Author.Rules.{rules}
+use Rattle.text_measure.proofs.own_path.Goals as goal
+
+pub returns-in-MeasuredPath : goal.returns-in-MeasuredPath
+unfolding path_head own_length
+returns-in-MeasuredPath c =
+    let a = c.args in
+    let k = path-got c.path_at.ensures c.in-MeasuredPath.is in
+    scanned-leaf a.words.now a.pairs.now (FromPath _) (ap head_of_path k.0) c.own_leaf.ensures refl k.1 k.2
+
+pub returns-in-NoPath : goal.returns-in-NoPath
+unfolding path_head
+returns-in-NoPath c =
+    let a = c.args in
+    scanned-stop a.words.now a.pairs.now (ap head_of_path (path-stop c.path_at.ensures c.in-NoPath.is)) refl

@@ -1,0 +1,14 @@
+use mathlib.Core.Path.{◌≡◌, refl}
+use lib.ListN.{length}
+use Rattle.rast.specs.Bytes.{ascii}
+use Rattle.text_pass.specs.Passes.{came}
+use Rattle.text_pass.proofs.Passes.{Turn, came-to, turn_gap, turn-item, turn_last, turn-next, turn-start, turn-stop}
+use Rattle.text_parameters.specs.Texts.{parameter_at}
+use borrow.Author.Rules.{rules}
+use Rattle.text_parameters.proofs.lay_parameters.Given as goal
+
+abbrev pub invariant-loop-next : goal.invariant-loop-next
+invariant-loop-next l = (length l.out ≡ length l.initial.out) × Turn (parameter_at l.words l.pairs l.text) (ascii ", ") l.write l.initial.out l.pos l.n l.at l.out l.p l.left l.place
+
+abbrev pub decreases-loop-next : goal.decreases-loop-next
+decreases-loop-next l = l.left

@@ -1,0 +1,25 @@
+use mathlib.Core.Path.{refl}
+use Rattle.buffer.proofs.Passes.{laid-counted}
+use Rattle.encoding.specs.Tables.{name_count}
+use Rattle.encoding.proofs.Inside.{below-there}
+use Rattle.encoding.proofs.Tables.{impossible}
+use Rattle.text_pass.proofs.Leaves.{doc-word, scanned-refused, scanned-went, scanned-word}
+use borrow.Author.Rules.{rules}
+use Rattle.text_pass.proofs.count_doc.Goals as goal
+
+pub lay_known_doc-requires : goal.lay_known_doc-requires
+lay_known_doc-requires c =
+    let s = c in
+    let a = s.args in
+    let e = scanned-word a.words.now (name_count a.pairs.now) a.at c.name_count.ensures c.scan_below.ensures c.in-Word.is in
+    ((below-there _ a.words.now a.at e).below, s.requires.good, record { room = λ d. impossible (cc) })
+
+pub returns-in-Word : goal.returns-in-Word
+returns-in-Word c =
+    let a = c.args in
+    scanned-went (doc-word a.words.now a.pairs.now a.text.now a.at a.level) c.name_count.ensures c.scan_below.ensures c.in-Word.is (laid-counted refl (c.lay_known_doc.ensures.counted refl).next)
+
+pub returns-in-NoWord : goal.returns-in-NoWord
+returns-in-NoWord c =
+    let a = c.args in
+    scanned-refused (doc-word a.words.now a.pairs.now a.text.now a.at a.level) c.name_count.ensures c.scan_below.ensures c.in-NoWord.is
