@@ -33,6 +33,7 @@ class Fn:
         s.x=x
         s.needs={}
         s.temps={}
+        s.cycle=False
         for o,n in x['needs']:
             s.needs[NORM(o)]=n
         s.steps=collections.defaultdict(list)
@@ -61,6 +62,9 @@ class Fn:
 def proj(chain,fn,warn):
     """chain: list of projections after c (befores dropped). returns new list"""
     if not chain: return chain
+    if fn.cycle and chain[0]=='requires' and len(chain)>1:
+        # in a recursion the measure stands apart
+        return ['decreases']+chain[2:] if chain[1]=='0' else ['requires']+chain[2:]
     st=NORM(chain[0])
     best=None
     for (o,path,arm,f) in fn.arms.get(st,[]):
@@ -170,6 +174,7 @@ def main(crate):
         for k in d:
             m=re.fullmatch(rf"Rattle-{crate}-proofs\.{re.escape(mods)}\.Lts(?:-(.+))?",k)
             if m: fns[NORM(m[1]) if m[1] else '']=Fn(d[k])
+        for f_ in fns.values(): f_.cycle='+' in mods
         if not fns:
             print(f'{p}: no names'); continue
         text=open(p).read()

@@ -18,10 +18,10 @@ rebuild_below-returns-then-n-eq0 t c =
     let s = c in
     let a = s.args in
     let m = mapping a.rules.now a.pairs.now a.text.now in
-    rebuilding-ends a.words.now a.pairs.now m a.at a.n a.limit a.out.now a.pos c.if-n-eq0.true (rebuilding-starts a.words.now a.pairs.now m a.at a.n a.limit a.out.now a.pos s.requires.1.2 s.requires.1.4 s.requires.1.5 s.requires.1.3)
+    rebuilding-ends a.words.now a.pairs.now m a.at a.n a.limit a.out.now a.pos c.if-n-eq0.true (rebuilding-starts a.words.now a.pairs.now m a.at a.n a.limit a.out.now a.pos s.requires.2 s.requires.4 s.requires.5 s.requires.3)
 
 pub rebuild_below-rebuild_types-requires : goal.rebuild_below-rebuild_types-requires
-rebuild_below-rebuild_types-requires t c = let s = c in (omega (arith, s.requires.0), s.requires.1)
+rebuild_below-rebuild_types-requires t c = let s = c in (omega (arith, s.decreases), s.requires)
 
 pub rebuild_below-returns : goal.rebuild_below-returns
 rebuild_below-returns t c = c.rebuild_types.ensures
@@ -30,23 +30,23 @@ pub rebuild_next-offset_bounds-words-at : goal.rebuild_next-offset_bounds-words-
 rebuild_next-offset_bounds-words-at t c =
     let s = c in
     let a = s.args in
-    omega (arith, tree-here a.words.now a.pairs.now a.at s.requires.1.2.reads)
+    omega (arith, tree-here a.words.now a.pairs.now a.at s.requires.2.reads)
 
 pub rebuild_next-bounds-words-at : goal.rebuild_next-bounds-words-at
 rebuild_next-bounds-words-at t c =
     let s = c in
     let a = s.args in
-    omega (arith, tree-here a.words.now a.pairs.now a.at s.requires.1.2.reads)
+    omega (arith, tree-here a.words.now a.pairs.now a.at s.requires.2.reads)
 
 pub rebuild_next-rebuild_parts-requires : goal.rebuild_next-rebuild_parts-requires
-rebuild_next-rebuild_parts-requires t c = let s = c in (omega (arith, s.requires.0), s.requires.1)
+rebuild_next-rebuild_parts-requires t c = let s = c in (omega (arith, s.decreases), s.requires)
 
 pub rebuild_next-overflow_add-below : goal.rebuild_next-overflow_add-below
 rebuild_next-overflow_add-below t c =
     let s = c in
     let a = s.args in
     let m = mapping a.rules.now a.pairs.now a.text.now in
-    let g = parts-finished a.words.now a.pairs.now a.at m s.requires.1.2.reads c.rebuild_parts.ensures c.in-Done.is in
+    let g = parts-finished a.words.now a.pairs.now a.at m s.requires.2.reads c.rebuild_parts.ensures c.in-Done.is in
     omega (arith, g.small, s.ranges)
 
 pub rebuild_next-settle-requires : goal.rebuild_next-settle-requires
@@ -54,71 +54,71 @@ rebuild_next-settle-requires t c =
     let s = c in
     let a = s.args in
     let m = mapping a.rules.now a.pairs.now a.text.now in
-    let g = parts-finished a.words.now a.pairs.now a.at m s.requires.1.2.reads c.rebuild_parts.ensures c.in-Done.is in
-    (s.requires.1.0, s.requires.1.1, g.some, g.within, omega (arith, g.grown.kept, s.requires.1.4), c.first_link-link.ensures ∙ ap (λ w. get_or a.table.now (slot w) 0) (sym g.first))
+    let g = parts-finished a.words.now a.pairs.now a.at m s.requires.2.reads c.rebuild_parts.ensures c.in-Done.is in
+    (s.requires.0, s.requires.1, g.some, g.within, omega (arith, g.grown.kept, s.requires.4), c.first_link-link.ensures ∙ ap (λ w. get_or a.table.now (slot w) 0) (sym g.first))
 
 pub rebuild_next-returns-in-Settled : goal.rebuild_next-returns-in-Settled
 rebuild_next-returns-in-Settled t c =
     let s = c in
     let a = s.args in
     let m = mapping a.rules.now a.pairs.now a.text.now in
-    let g = parts-finished a.words.now a.pairs.now a.at m s.requires.1.2.reads c.rebuild_parts.ensures c.in-Done.is in
-    let e = settle-ends a.rules.now a.pairs.now a.text.now a.table.now a.k s.requires.1.1 (built a.words.now a.pairs.now a.at m s.requires.1.2.reads refl) g.within g.grown g.deeps c.settle.ensures in
-    type-done a.words.now a.pairs.now a.at m s.requires.1.2.reads refl g e c.in-Settled.is
+    let g = parts-finished a.words.now a.pairs.now a.at m s.requires.2.reads c.rebuild_parts.ensures c.in-Done.is in
+    let e = settle-ends a.rules.now a.pairs.now a.text.now a.table.now a.k s.requires.1 (built a.words.now a.pairs.now a.at m s.requires.2.reads refl) g.within g.grown g.deeps c.settle.ensures in
+    type-done a.words.now a.pairs.now a.at m s.requires.2.reads refl g e c.in-Settled.is
 
 pub rebuild_next-returns-in-Overfull : goal.rebuild_next-returns-in-Overfull
 rebuild_next-returns-in-Overfull t c =
     let s = c in
     let a = s.args in
     let m = mapping a.rules.now a.pairs.now a.text.now in
-    let g = parts-finished a.words.now a.pairs.now a.at m s.requires.1.2.reads c.rebuild_parts.ensures c.in-Done.is in
-    let e = settle-ends a.rules.now a.pairs.now a.text.now a.table.now a.k s.requires.1.1 (built a.words.now a.pairs.now a.at m s.requires.1.2.reads refl) g.within g.grown g.deeps c.settle.ensures in
-    type-over a.words.now a.pairs.now a.at m s.requires.1.2.reads refl e c.in-Overfull.is
+    let g = parts-finished a.words.now a.pairs.now a.at m s.requires.2.reads c.rebuild_parts.ensures c.in-Done.is in
+    let e = settle-ends a.rules.now a.pairs.now a.text.now a.table.now a.k s.requires.1 (built a.words.now a.pairs.now a.at m s.requires.2.reads refl) g.within g.grown g.deeps c.settle.ensures in
+    type-over a.words.now a.pairs.now a.at m s.requires.2.reads refl e c.in-Overfull.is
 
 pub rebuild_next-returns-in-Full : goal.rebuild_next-returns-in-Full
 rebuild_next-returns-in-Full t c =
     let s = c in
     let a = s.args in
     let m = mapping a.rules.now a.pairs.now a.text.now in
-    parts-full a.words.now a.pairs.now a.at m s.requires.1.2.reads c.rebuild_parts.ensures c.in-Full.is
+    parts-full a.words.now a.pairs.now a.at m s.requires.2.reads c.rebuild_parts.ensures c.in-Full.is
 
 pub rebuild_parts-offset_bounds-words-at : goal.rebuild_parts-offset_bounds-words-at
 rebuild_parts-offset_bounds-words-at t c =
     let s = c in
     let a = s.args in
-    omega (arith, tree-here a.words.now a.pairs.now a.at s.requires.1.2.reads)
+    omega (arith, tree-here a.words.now a.pairs.now a.at s.requires.2.reads)
 
 pub rebuild_parts-bounds-words-at : goal.rebuild_parts-bounds-words-at
 rebuild_parts-bounds-words-at t c =
     let s = c in
     let a = s.args in
-    omega (arith, tree-here a.words.now a.pairs.now a.at s.requires.1.2.reads)
+    omega (arith, tree-here a.words.now a.pairs.now a.at s.requires.2.reads)
 
 pub rebuild_parts-add_plain-requires : goal.rebuild_parts-add_plain-requires
 rebuild_parts-add_plain-requires t c =
     let s = c in
     let a = s.args in
-    (omega (arith, tree-here a.words.now a.pairs.now a.at s.requires.1.2.reads), s.requires.1.3, s.requires.1.4)
+    (omega (arith, tree-here a.words.now a.pairs.now a.at s.requires.2.reads), s.requires.3, s.requires.4)
 
 pub rebuild_parts-returns-then-word-lt-PLAIN_KINDS : goal.rebuild_parts-returns-then-word-lt-PLAIN_KINDS
 rebuild_parts-returns-then-word-lt-PLAIN_KINDS t c =
     let s = c in
     let a = s.args in
     let m = mapping a.rules.now a.pairs.now a.text.now in
-    plain-parts a.words.now a.pairs.now a.at m s.requires.1.2.reads c.if-word-lt-PLAIN_KINDS.true s.requires.1.4 c.add_plain.ensures
+    plain-parts a.words.now a.pairs.now a.at m s.requires.2.reads c.if-word-lt-PLAIN_KINDS.true s.requires.4 c.add_plain.ensures
 
 pub rebuild_parts-pass_head-behind-requires : goal.rebuild_parts-pass_head-behind-requires
 rebuild_parts-pass_head-behind-requires t c =
     let s = c in
     let a = s.args in
-    (head-here a.words.now a.pairs.now a.at s.requires.1.2.reads, omega arith, omega (arith, few-below a.words.now a.pairs.now a.at s.requires.1.2.reads))
+    (head-here a.words.now a.pairs.now a.at s.requires.2.reads, omega arith, omega (arith, few-below a.words.now a.pairs.now a.at s.requires.2.reads))
 
 pub rebuild_parts-overflow_sub-next : goal.rebuild_parts-overflow_sub-next
 rebuild_parts-overflow_sub-next t c =
     let s = c in
     let a = s.args in
     let m = mapping a.rules.now a.pairs.now a.text.now in
-    let w = own-fits a.words.now a.pairs.now a.at m s.requires.1.2.reads c.pass_head-behind.ensures.0 in
+    let w = own-fits a.words.now a.pairs.now a.at m s.requires.2.reads c.pass_head-behind.ensures.0 in
     omega (arith, w.0)
 
 pub rebuild_parts-add_words-requires : goal.rebuild_parts-add_words-requires
@@ -126,8 +126,8 @@ rebuild_parts-add_words-requires t c =
     let s = c in
     let a = s.args in
     let m = mapping a.rules.now a.pairs.now a.text.now in
-    let w = own-fits a.words.now a.pairs.now a.at m s.requires.1.2.reads c.pass_head-behind.ensures.0 in
-    (omega (arith, w.0, w.1), s.requires.1.3, s.requires.1.4)
+    let w = own-fits a.words.now a.pairs.now a.at m s.requires.2.reads c.pass_head-behind.ensures.0 in
+    (omega (arith, w.0, w.1), s.requires.3, s.requires.4)
 
 pub rebuild_parts-returns-in_default : goal.rebuild_parts-returns-in_default
 rebuild_parts-returns-in_default t c =
@@ -135,17 +135,17 @@ rebuild_parts-returns-in_default t c =
     let a = s.args in
     let m = mapping a.rules.now a.pairs.now a.text.now in
     let l = lays-over c.add_words.ensures c.in_default.is in
-    parts-over a.words.now a.pairs.now a.at m s.requires.1.2.reads c.pass_head-behind.ensures.0 l.0 l.1
+    parts-over a.words.now a.pairs.now a.at m s.requires.2.reads c.pass_head-behind.ensures.0 l.0 l.1
 
 pub rebuild_parts-rebuild_below-requires : goal.rebuild_parts-rebuild_below-requires
 rebuild_parts-rebuild_below-requires t c =
     let s = c in
     let a = s.args in
     let m = mapping a.rules.now a.pairs.now a.text.now in
-    let w = own-fits a.words.now a.pairs.now a.at m s.requires.1.2.reads c.pass_head-behind.ensures.0 in
+    let w = own-fits a.words.now a.pairs.now a.at m s.requires.2.reads c.pass_head-behind.ensures.0 in
     let d : c.pass_head-behind.result.due ≡ types_below a.words.now a.at = omega (arith, c.pass_head-behind.ensures.1) in
     let l = lays-to c.add_words.ensures c.in-To.is in
-    (omega (arith, s.requires.0, w.0, w.1), (s.requires.1.0, s.requires.1.1, w.1, below-reads a.words.now a.pairs.now a.at m s.requires.1.2.reads c.pass_head-behind.ensures.0 d, l.0, omega (arith, l.1.kept, s.requires.1.4)))
+    (omega (arith, s.decreases, w.0, w.1), (s.requires.0, s.requires.1, w.1, below-reads a.words.now a.pairs.now a.at m s.requires.2.reads c.pass_head-behind.ensures.0 d, l.0, omega (arith, l.1.kept, s.requires.4)))
 
 pub rebuild_parts-returns : goal.rebuild_parts-returns
 rebuild_parts-returns t c =
@@ -154,17 +154,17 @@ rebuild_parts-returns t c =
     let m = mapping a.rules.now a.pairs.now a.text.now in
     let d : c.pass_head-behind.result.due ≡ types_below a.words.now a.at = omega (arith, c.pass_head-behind.ensures.1) in
     let l = lays-to c.add_words.ensures c.in-To.is in
-    parts_then a.words.now a.pairs.now a.at m s.requires.1.2.reads c.pass_head-behind.ensures.0 d l.1 c.rebuild_below.ensures
+    parts_then a.words.now a.pairs.now a.at m s.requires.2.reads c.pass_head-behind.ensures.0 d l.1 c.rebuild_below.ensures
 
 pub rebuild_types-loop-left-init : goal.rebuild_types-loop-left-init
 rebuild_types-loop-left-init t c =
     let a = c.args in
-    (omega arith, rebuilding-starts a.words.now a.pairs.now (mapping a.rules.now a.pairs.now a.text.now) a.at a.n a.limit a.out.now a.pos c.requires.1.2 c.requires.1.4 c.requires.1.5 c.requires.1.3)
+    (omega arith, rebuilding-starts a.words.now a.pairs.now (mapping a.rules.now a.pairs.now a.text.now) a.at a.n a.limit a.out.now a.pos c.requires.2 c.requires.4 c.requires.5 c.requires.3)
 
 pub rebuild_types-rebuild_next-requires : goal.rebuild_types-rebuild_next-requires
 rebuild_types-rebuild_next-requires t c =
     let a = c.args in let l = c.loop-left in
-    (omega (arith, c.requires.0, l.invariant.0), (c.requires.1.0, c.requires.1.1, type_reads a.words.now a.pairs.now (mapping a.rules.now a.pairs.now a.text.now) a.at a.n a.limit a.out.now a.pos c.loop-left-test.true l.invariant.1, l.invariant.1.within, omega (arith, l.invariant.1.grown.kept, c.requires.1.5)))
+    (omega (arith, c.decreases, l.invariant.0), (c.requires.0, c.requires.1, type_reads a.words.now a.pairs.now (mapping a.rules.now a.pairs.now a.text.now) a.at a.n a.limit a.out.now a.pos c.loop-left-test.true l.invariant.1, l.invariant.1.within, omega (arith, l.invariant.1.grown.kept, c.requires.5)))
 
 pub rebuild_types-returns-in-Full : goal.rebuild_types-returns-in-Full
 rebuild_types-returns-in-Full t c =

@@ -7,7 +7,7 @@ use borrow.Author.Rules.{rules}
 use Rattle.visits.proofs.+visit_type_visit_types.Goals as goal
 
 pub visit_type-loop-left-init : goal.visit_type-loop-left-init
-visit_type-loop-left-init t c = visit-start c.requires.1
+visit_type-loop-left-init t c = visit-start c.requires
 
 pub visit_type-offset_bounds-words-place : goal.visit_type-offset_bounds-words-place
 visit_type-offset_bounds-words-place t c = omega (arith, visit-here c.loop-left.invariant c.loop-left-test.true, c.loop-left.invariant.few)
@@ -18,7 +18,7 @@ visit_type-bounds-words-place t c = visit-here c.loop-left.invariant c.loop-left
 pub visit_type-visit_types-rest-requires : goal.visit_type-visit_types-rest-requires
 visit_type-visit_types-rest-requires t c =
     let v = c.loop-left.invariant in
-    (omega (arith, c.requires.0, v.since), visit-due v)
+    (omega (arith, c.decreases, v.since), visit-due v)
 
 pub visit_type-returns-then-w-eq-T_SYNONYM : goal.visit_type-returns-then-w-eq-T_SYNONYM
 visit_type-returns-then-w-eq-T_SYNONYM t c = visit-rest c.loop-left.invariant c.visit_types-rest.ensures
@@ -44,7 +44,7 @@ pub visit_type-returns : goal.visit_type-returns
 visit_type-returns t c = visit-end c.loop-left.invariant (omega (arith, c.loop-left-test.false))
 
 pub visit_types-loop-left-init : goal.visit_types-loop-left-init
-visit_types-loop-left-init t c = visit-start c.requires.1
+visit_types-loop-left-init t c = visit-start c.requires
 
 pub visit_types-offset_bounds-words-place : goal.visit_types-offset_bounds-words-place
 visit_types-offset_bounds-words-place t c = omega (arith, visit-here c.loop-left.invariant c.loop-left-test.true, c.loop-left.invariant.few)
@@ -65,7 +65,7 @@ pub visit_types-visit_type-shown-requires : goal.visit_types-visit_type-shown-re
 visit_types-visit_type-shown-requires t c =
     let v = c.loop-left.invariant in
     let l = c.loop-left-test.true in
-    (omega (arith, c.requires.0, visit-here v l, v.since), visit-display v l c.put_place-p.ensures c.if-w-eq-T_SYNONYM.true)
+    (omega (arith, c.decreases, visit-here v l, v.since), visit-display v l c.put_place-p.ensures c.if-w-eq-T_SYNONYM.true)
 
 pub visit_types-skip_type-place-requires : goal.visit_types-skip_type-place-requires
 visit_types-skip_type-place-requires t c = visit-base c.loop-left.invariant c.loop-left-test.true c.if-w-eq-T_SYNONYM.true c.visit_type-shown.ensures
