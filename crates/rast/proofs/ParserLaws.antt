@@ -340,9 +340,15 @@ record Lists (x : Bytes) (ts : Tys Bytes) : Type 0 where
   go : (o : Open) (ps : List Prefix) (k : Tys Bytes → Tys Bytes) (s : List Frame) (r : Bytes)
       → run (x ++ (byte (ender o) ∷ r)) (want [] (list o ps k ∷ s)) ≡ run r (closed o (k ts) ps s)
 
-no_items : Lists (ascii "") nil
+none_closes : (o : Open) (ps : List Prefix) (k : Tys Bytes → Tys Bytes) (s : List Frame) (r : Bytes)
+    → run (ascii "" ++ (byte (ender o) ∷ r)) (want [] (list o ps k ∷ s)) ≡ run r (closed o (k nil) ps s)
 unfolding run step ender byte
-no_items = record { go = λ o ps k s r. elim o [ tuple ↦ refl | fn ↦ refl | args b ↦ refl ] }
+none_closes tuple ps k s r = refl
+none_closes fn ps k s r = refl
+none_closes (args b) ps k s r = refl
+
+no_items : Lists (ascii "") nil
+no_items = record { go = none_closes }
 
 last-item : (o : Open) (t : Ty Bytes) (ps : List Prefix) (k : Tys Bytes → Tys Bytes) (s : List Frame)
     → after (byte (ender o)) t (list o ps k ∷ s) ≡ closed o (k (cons t nil)) ps s

@@ -31,7 +31,7 @@ pub returns-then-not-is_name : goal.returns-then-not-is_name
 unfolding ascii fixed_names
 returns-then-not-is_name c =
     let a = c.args in
-    std-no-first (name_count a.pairs.now) a.words.now (name_bytes a.pairs.now a.text.now) a.path c.requires.0 _ _ c.if-path-ne-GLOBAL.false c.if-path-ne3.false c.is_name.ensures (not-true _ c.if-not-is_name.true)
+    std-no-first (name_count a.pairs.now) a.words.now (name_bytes a.pairs.now a.text.now) a.path c.requires.0 _ _ c.if-path-ne-GLOBAL.false c.if-path-ne3.false c.is_name.ensures c.if-not-is_name.true
 
 pub overflow_add-start : goal.overflow_add-start
 overflow_add-start c =
@@ -53,7 +53,7 @@ is_name-requires-2 c =
 pub returns-then-not-is_name-2 : goal.returns-then-not-is_name-2
 returns-then-not-is_name-2 c =
     let a = c.args in
-    std-no-second (name_count a.pairs.now) a.words.now (name_bytes a.pairs.now a.text.now) a.path c.requires.0 _ _ c.if-path-ne-GLOBAL.false c.if-path-ne3.false c.is_name-2.ensures (not-true _ c.if-not-is_name-2.true)
+    std-no-second (name_count a.pairs.now) a.words.now (name_bytes a.pairs.now a.text.now) a.path c.requires.0 _ _ c.if-path-ne-GLOBAL.false c.if-path-ne3.false c.is_name-2.ensures c.if-not-is_name-2.true
 
 pub overflow_add-start-2 : goal.overflow_add-start-2
 overflow_add-start-2 c =
@@ -76,4 +76,4 @@ pub returns : goal.returns
 unfolding ascii fixed_names
 returns c =
     let a = c.args in
-    std-last (name_count a.pairs.now) a.words.now (name_bytes a.pairs.now a.text.now) a.path c.requires.0 _ _ c.if-path-ne-GLOBAL.false c.if-path-ne3.false c.is_name.ensures (not-false _ c.if-not-is_name.false) c.is_name-2.ensures (not-false _ c.if-not-is_name-2.false) c.is_name-3.ensures
+    std-last (name_count a.pairs.now) a.words.now (name_bytes a.pairs.now a.text.now) a.path c.requires.0 _ _ c.if-path-ne-GLOBAL.false c.if-path-ne3.false c.is_name.ensures c.if-not-is_name.false c.is_name-2.ensures c.if-not-is_name-2.false c.is_name-3.ensures

@@ -13,7 +13,7 @@ pub returns-then-numbers_apart : goal.returns-then-numbers_apart
 returns-then-numbers_apart c = λ e.
     let s = c in let a = s.args in let k = c.equal_front-k.result in
     runs-later (name_bytes a.pairs.now a.text.now) a.a.now a.b.now k a.start a.from a.count c.equal_front-k.ensures s.requires.1 s.requires.2
-    (λ due. told-apart a.pairs.now a.text.now due _ _ (sym c.Numbers-apart.ensures ∙ c.if-numbers_apart.true)) Kind
+    (λ due. told-apart a.pairs.now a.text.now due _ _ (sym c.numbers_apart.ensures ∙ c.if-numbers_apart.true)) Kind
 
 pub returns-then-k-count : goal.returns-then-k-count
 returns-then-k-count c = λ e. impossible (cc)

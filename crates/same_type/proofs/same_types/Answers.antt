@@ -13,12 +13,12 @@ use Rattle.same_type.proofs.same_types.Goals as goal
 pub returns-then-not-words_agree : goal.returns-then-not-words_agree
 returns-then-not-words_agree c =
     let a = c.args in
-    compares-stop c.loop-left.invariant (runs-step (name_bytes a.pairs.now a.text.now)) (omega arith) (ap not (sym c.words_agree.ensures) ∙ c.if-not-words_agree.true)
+    compares-stop c.loop-left.invariant (runs-step (name_bytes a.pairs.now a.text.now)) (omega arith) (ap not (sym c.words_agree.ensures ∙ c.if-not-words_agree.true))
 
 pub loop-left-preserved : goal.loop-left-preserved
 loop-left-preserved c =
     let a = c.args in
-    compares-on c.loop-left.invariant (runs-step (name_bytes a.pairs.now a.text.now)) (omega arith) (ap not (sym c.words_agree.ensures) ∙ c.if-not-words_agree.false) c.due_after-due.ensures
+    compares-on c.loop-left.invariant (runs-step (name_bytes a.pairs.now a.text.now)) (omega arith) (ap not (sym c.words_agree.ensures ∙ c.if-not-words_agree.false)) c.due_after-due.ensures
 
 pub returns : goal.returns
 unfolding same_runs

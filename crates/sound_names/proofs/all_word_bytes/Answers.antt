@@ -15,13 +15,13 @@ loop-i-init c = refl
 pub returns-then-not-is_word_byte : goal.returns-then-not-is_word_byte
 returns-then-not-is_word_byte c =
     let l = c.loop-i in
-    let no = sym c.is_word_byte.ensures ∙ not-true _ c.if-not-is_word_byte.true in
+    let no = sym c.is_word_byte.ensures ∙ c.if-not-is_word_byte.true in
     sym (each_more is_word_byte _ l.i (search rules) ∙ and_no _ no) ∙ l.invariant
 
 pub loop-i-preserved : goal.loop-i-preserved
 loop-i-preserved c =
     let l = c.loop-i in
-    let yes = sym c.is_word_byte.ensures ∙ not-false _ c.if-not-is_word_byte.false in
+    let yes = sym c.is_word_byte.ensures ∙ c.if-not-is_word_byte.false in
     sym (each_more is_word_byte _ l.i (search rules) ∙ and_yes _ yes) ∙ l.invariant
 
 pub returns : goal.returns

@@ -37,7 +37,7 @@ pub loop-i-preserved : goal.loop-i-preserved
 loop-i-preserved c =
     let a = c.args in
     let l = c.loop-i in
-    let w = c.sixteen_word_bytes.ensures (not-false _ c.if-not-sixteen_word_bytes.false) in
+    let w = c.sixteen_word_bytes.ensures c.if-not-sixteen_word_bytes.false in
     (omega (arith, l.invariant.0), sym (part-past is_word_byte a.text.now a.end 16 l.i (omega (arith, c.if-text-i-lt16.false, c.requires.1)) w) ∙ l.invariant.1)
 
 pub returns : goal.returns

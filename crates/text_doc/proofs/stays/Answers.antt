@@ -8,11 +8,11 @@ use Rattle.text_doc.proofs.stays.Goals as goal
 
 pub returns-then-not-started : goal.returns-then-not-started
 returns-then-not-started c =
-    let n = not-true _ c.if-not-started.true in
+    let n = c.if-not-started.true in
     (λ e. record { no-space = λ s k. never (sym s ∙ n); no-fence = λ s. never (sym s ∙ n) }, λ e. never e)
 
 pub returns-then-doc-at-eq32 : goal.returns-then-doc-at-eq32
-returns-then-doc-at-eq32 c = (λ e. never (sym e), λ e. record { starts = not-false _ c.if-not-started.false; quotes = λ k. absurd (k c.if-doc-at-eq32.true) })
+returns-then-doc-at-eq32 c = (λ e. never (sym e), λ e. record { starts = c.if-not-started.false; quotes = λ k. absurd (k c.if-doc-at-eq32.true) })
 
 pub returns : goal.returns
 returns c =
@@ -22,7 +22,7 @@ returns c =
     let f = c.is_fence.ensures in (
       λ e. record { no-space = λ k. space; no-fence = λ k. subst (λ (n : ℕ). NoFence n s.args.fence) r (f.1 (not-true _ e)) },
       λ e. record {
-        starts = not-false _ c.if-not-started.false;
+        starts = c.if-not-started.false;
         quotes = λ k. subst (λ (n : ℕ). Fence n s.args.fence) r (f.0 (not-false _ e));
       },
     )
