@@ -170,10 +170,10 @@ module _ (l : Bytes) where
       go false t n = omega (arith, p.line, line-more l i n (eqb-false _ 10 t))
 
   passed_later : {i k : ℕ} (d : ℕ) → Passed l i k → i + d ≤ k → Passed l (i + d) k
-  passed_later {i} zero p h = rw (add-zero i) p
-  passed_later {i} {k} (suc d) p h =
+  passed_later {i = i} zero p h = rw (add-zero i) p
+  passed_later {i = i} {k = k} (suc d) p h =
       let e : i + 1 + d ≡ i + suc d = omega arith in
-      subst (λ (j : ℕ). Passed l j k) e (passed_later d (passed-next p (omega arith)) (omega arith))
+      subst (λ (j : ℕ). Passed l j k) e (passed_later {i = i + 1} d (passed-next p (omega arith)) (omega arith))
 
   -- on by a block that begins at or before the place that was come to
   pub passed_over : {i j e k : ℕ} → Passed l i j → Passed l e k → e ≤ j → j ≤ k → Passed l i k

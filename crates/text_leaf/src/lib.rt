@@ -2,7 +2,7 @@
 #![tactic(auto)]
 ghost use Rattle.std.specs.Prelude.{◌≡◌, ◌+◌, ◌*◌, ◌≤◌, ◌<◌, length, get_or};
 ghost use Rattle.std.proofs.lemmas.List.Edits.{sets};
-ghost use Rattle.rast.specs.Tree.{U8};
+ghost use Rattle.rast.specs.Tree.{U8 as PrimitiveU8};
 ghost use Rattle.rast.specs.ToString.{Path-to_string, Primitive-to_string};
 ghost use Rattle.buffer.specs.Wrote.{Wrote};
 ghost use Rattle.encoding.specs.Words.{plain_kinds};
@@ -23,8 +23,8 @@ const STARTS: u64 = 0xce8763b4210a;
 
 // No jump to one of twelve strings: which of them comes next is hard to foresee.
 pub fn put_primitive(kind: u32, out: &mut [u8], pos: usize) -> usize
-    requires { (kind < plain_kinds) × (pos + length (Primitive-to_string (get_or primitives kind U8)) ≤ length out.old) }
-    ensures { Wrote out.old pos (Primitive-to_string (get_or primitives kind U8)) out.new result }
+    requires { (kind < plain_kinds) × (pos + length (Primitive-to_string (get_or primitives kind PrimitiveU8)) ≤ length out.old) }
+    ensures { Wrote out.old pos (Primitive-to_string (get_or primitives kind PrimitiveU8)) out.new result }
 {
     let all = b"u16u32u64i16u128  i32i64i128  u8 i8 bool  usize ";
     let start = 3 * encoding::digit(STARTS, kind);
@@ -52,7 +52,7 @@ fn with_ends(count: usize, first: u8, second: u8, third: u8, fourth: u8) -> Ends
 // Those of the plain types other than `usize`. The match compiles to tables that need not be laid out.
 fn plain_ends(kind: u32) -> Ends
     requires { (kind < plain_kinds) × (kind ≡ 10 → ⊥) }
-    ensures { HasEnds (Primitive-to_string (get_or primitives kind U8)) result.count result.front result.back }
+    ensures { HasEnds (Primitive-to_string (get_or primitives kind PrimitiveU8)) result.count result.front result.back }
 {
     match kind {
         U8 => with_ends(2, b'u', b'8', b'u', b'8'),
@@ -79,8 +79,8 @@ fn put_two(two: u16, out: &mut [u8], pos: usize)
 
 // A plain type of a field. `put_primitive` lays its letters out at each call; in `text_type` this one would make the functions around it too large to be inlined.
 pub fn put_plain(kind: u32, out: &mut [u8], pos: usize) -> usize
-    requires { (kind < plain_kinds) × (pos + length (Primitive-to_string (get_or primitives kind U8)) ≤ length out.old) }
-    ensures { Wrote out.old pos (Primitive-to_string (get_or primitives kind U8)) out.new result }
+    requires { (kind < plain_kinds) × (pos + length (Primitive-to_string (get_or primitives kind PrimitiveU8)) ≤ length out.old) }
+    ensures { Wrote out.old pos (Primitive-to_string (get_or primitives kind PrimitiveU8)) out.new result }
 {
     if kind == USIZE {
         return buffer::put(b"usize", out, pos);

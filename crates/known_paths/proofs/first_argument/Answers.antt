@@ -1,6 +1,7 @@
 use Rattle.known_paths.proofs.Finding.{argument-class, argument-count, argument-found, argument-other, argument-stop, base-other, base-stop, scanned, unscanned}
 use Rattle.encoding.proofs.Inside.{head-lies}
 use Rattle.encoding.specs.Tables.{name_count}
+use borrow.Enum.Refused.{opened}
 use Rattle.std.proofs.Common.{refl, rules}
 use Rattle.known_paths.proofs.first_argument.Goals as goal
 
@@ -12,7 +13,7 @@ returns-in_default c =
 pub returns-in_default-head : goal.returns-in_default-head
 returns-in_default-head c =
     let a = c.args in
-    argument-other a.words.now a.pairs.now a.text.now a.at a.class (scanned a.words.now a.at c.name_count-bound.ensures c.scan_head.ensures c.in-Own.is refl) c.in-Apply.keys2
+    argument-other a.words.now a.pairs.now a.text.now a.at a.class (scanned a.words.now a.at c.name_count-bound.ensures c.scan_head.ensures c.in-Own.is refl) (opened c.in_default-head.in_default-head-own.keys2)
 
 -- below, s is where the type's head was taken apart, and t where its base's was
 pub returns-then-n-form_of : goal.returns-then-n-form_of
@@ -34,23 +35,23 @@ returns-in_default-name c =
     let s = c in
     let a = s.args in
     let h = scanned a.words.now a.at s.name_count-bound.ensures s.scan_head.ensures s.in-Own.is s.in-Apply.is in
-    base-other a.words.now a.pairs.now a.text.now a.at a.class h (scanned a.words.now s.in-Own.base s.name_count-bound.ensures c.scan_head-2.ensures c.in-Own-scan_head.is refl) c.in-FromPath.keys2
+    base-other a.words.now a.pairs.now a.text.now a.at a.class h (scanned a.words.now s.in-Own.base s.name_count-bound.ensures c.scan_head-2.ensures c.in-Own-scan_head.is refl) (opened c.in_default-name.in_default-name-own.keys2)
 
 pub is_in_class-requires : goal.is_in_class-requires
 is_in_class-requires c =
     let t = c in
     let s = t in
     let a = s.args in
-    let n = scanned a.words.now s.head.given.0.1.0 s.name-count.ensures t.scan_head-2.ensures t.in-Own-scan_head.is t.in-FromPath.is in
-    ((head-lies (name_count a.pairs.now) a.words.now s.head.given.0.1.0 n).own, s.requires.0)
+    let n = scanned a.words.now s.in-Own.base s.name_count-bound.ensures t.scan_head-2.ensures t.in-Own-scan_head.is t.in-FromPath.is in
+    ((head-lies (name_count a.pairs.now) a.words.now s.in-Own.base n).own, s.requires.0)
 
 pub returns-then-is_in_class : goal.returns-then-is_in_class
 returns-then-is_in_class c =
     let t = c in
     let s = t in
     let a = s.args in
-    let h = scanned a.words.now a.at s.name-count.ensures s.scan-head.ensures s.head.given.1 s.head2.given.1 in
-    let n = scanned a.words.now s.head.given.0.1.0 s.name-count.ensures t.scan_head-2.ensures t.in-Own-scan_head.is t.in-FromPath.is in
+    let h = scanned a.words.now a.at s.name_count-bound.ensures s.scan_head.ensures s.in-Own.is s.in-Apply.is in
+    let n = scanned a.words.now s.in-Own.base s.name_count-bound.ensures t.scan_head-2.ensures t.in-Own-scan_head.is t.in-FromPath.is in
     argument-found a.words.now a.pairs.now a.text.now a.at a.class h n t.form_of.ensures.0 t.if-n-form_of.false c.is_in_class.ensures c.if-is_in_class.true
 
 pub returns : goal.returns
@@ -58,6 +59,6 @@ returns c =
     let t = c in
     let s = t in
     let a = s.args in
-    let h = scanned a.words.now a.at s.name-count.ensures s.scan-head.ensures s.head.given.1 s.head2.given.1 in
-    let n = scanned a.words.now s.head.given.0.1.0 s.name-count.ensures t.scan_head-2.ensures t.in-Own-scan_head.is t.in-FromPath.is in
+    let h = scanned a.words.now a.at s.name_count-bound.ensures s.scan_head.ensures s.in-Own.is s.in-Apply.is in
+    let n = scanned a.words.now s.in-Own.base s.name_count-bound.ensures t.scan_head-2.ensures t.in-Own-scan_head.is t.in-FromPath.is in
     argument-class a.words.now a.pairs.now a.text.now a.at a.class h n c.is_in_class.ensures c.if-is_in_class.false

@@ -26,7 +26,7 @@ unfolding sound_name
 returns-then-is_word c =
     let s = c in
     let n = pair-part s.args.pairs.now s.args.text.now s.args.name c.if-name-lt-FIRST_PAIR.false c.pair_word-start.ensures.0 c.pair_word.ensures.0 in
-    let yes = sym (c.is_IsWord.ensures ∙ ap is_word n) ∙ c.if-is_word.true in
+    let yes = sym (c.is_word.ensures ∙ ap is_word n) ∙ c.if-is_word.true in
     rw (c.is_excluded.ensures, c.part.ensures ∙ n) (sym (and_yes _ yes))
 
 pub returns : goal.returns
@@ -34,4 +34,4 @@ unfolding sound_name
 returns c =
     let s = c in
     let n = pair-part s.args.pairs.now s.args.text.now s.args.name c.if-name-lt-FIRST_PAIR.false c.pair_word-start.ensures.0 c.pair_word.ensures.0 in
-    sym (and_no _ (sym (c.is_IsWord.ensures ∙ ap is_word n) ∙ c.if-is_word.false))
+    sym (and_no _ (sym (c.is_word.ensures ∙ ap is_word n) ∙ c.if-is_word.false))
