@@ -8,13 +8,15 @@ returns-in_default c =
     let a = c.args in
     words-refused a.words.now a.pairs.now a.text.now (part_for a.wanted) (part-keeps a.words.now a.pairs.now a.text.now a.wanted) c.part_in.ensures c.in_default.is
 
--- -- NO GOAL slice-bounds-result-end
-
 pub overflow_add-result : goal.overflow_add-result
-overflow_add-result c = let h = part-result-end c in search rules
+overflow_add-result c =
+    let h = part-within c.args.words.now c.args.pairs.now c.args.text.now (part_for c.args.wanted) (part-keeps c.args.words.now c.args.pairs.now c.args.text.now c.args.wanted) c.part_in.ensures c.in-Part.is in
+    search rules
 
 pub offset_bounds-words-start : goal.offset_bounds-words-start
-offset_bounds-words-start c = let h = part-result-end c in search rules
+offset_bounds-words-start c =
+    let h = part-within c.args.words.now c.args.pairs.now c.args.text.now (part_for c.args.wanted) (part-keeps c.args.words.now c.args.pairs.now c.args.text.now c.args.wanted) c.part_in.ensures c.in-Part.is in
+    search rules
 
 pub returns : goal.returns
 returns c =

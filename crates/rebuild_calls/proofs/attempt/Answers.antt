@@ -9,30 +9,30 @@ use native.Mathlib.Omega.{arith}
 use borrow.Author.Rules.{rules}
 use Rattle.rebuild_calls.proofs.attempt.Goals as goal
 
--- the tree
-abbrev tree : tie.Start → Reading RebuiltWords
-tree s = laid_by s.args.what s.args.words.now s.args.pairs.now (mapping s.args.rules.now s.args.pairs.now s.args.text.now)
-
 pub finish-requires : goal.finish-requires
 finish-requires c =
     let s = c in
+    let tree : Reading RebuiltWords = laid_by s.args.what s.args.words.now s.args.pairs.now (mapping s.args.rules.now s.args.pairs.now s.args.text.now) in
     let m = c.room_of-limit.ensures in
-    attempt-fits (tree s) s.args.out.now c.rebuild_whole.ensures (omega (arith, m)) (omega (arith, m, s.requires.3)) c.in-Done.is
+    attempt-fits tree s.args.out.now c.rebuild_whole.ensures (omega (arith, m)) (omega (arith, m, s.requires.3)) c.in-Done.is
 
 pub returns-in-Length : goal.returns-in-Length
 returns-in-Length c =
     let s = c in
+    let tree : Reading RebuiltWords = laid_by s.args.what s.args.words.now s.args.pairs.now (mapping s.args.rules.now s.args.pairs.now s.args.text.now) in
     let m = c.room_of-limit.ensures in
-    limit_is m (attempt-filled (tree s) s.args.out.now c.rebuild_whole.ensures (omega (arith, m, s.requires.3)) c.in-Done.is c.finish.ensures c.in-Length.is)
+    limit_is m (attempt-filled tree s.args.out.now c.rebuild_whole.ensures (omega (arith, m, s.requires.3)) c.in-Done.is c.finish.ensures c.in-Length.is)
 
 pub returns-in-Refused : goal.returns-in-Refused
 returns-in-Refused c =
     let s = c in
+    let tree : Reading RebuiltWords = laid_by s.args.what s.args.words.now s.args.pairs.now (mapping s.args.rules.now s.args.pairs.now s.args.text.now) in
     let m = c.room_of-limit.ensures in
-    limit_is m (attempt-denied (tree s) s.args.out.now c.rebuild_whole.ensures (omega (arith, m, s.requires.3)) c.in-Done.is c.finish.ensures c.in-Refused.is)
+    limit_is m (attempt-denied tree s.args.out.now c.rebuild_whole.ensures (omega (arith, m, s.requires.3)) c.in-Done.is c.finish.ensures c.in-Refused.is)
 
 pub returns-in-Full : goal.returns-in-Full
 returns-in-Full c =
     let s = c in
+    let tree : Reading RebuiltWords = laid_by s.args.what s.args.words.now s.args.pairs.now (mapping s.args.rules.now s.args.pairs.now s.args.text.now) in
     limit_is c.room_of-limit.ensures
-    (attempt-full (tree s) s.args.out.now c.rebuild_whole.ensures s.requires.2.reads c.in-Full.is refl)
+    (attempt-full tree s.args.out.now c.rebuild_whole.ensures s.requires.2.reads c.in-Full.is refl)

@@ -11,7 +11,7 @@ use Rattle.sound_type.proofs.check_new.Goals as goal
 pub returns-then-is_known : goal.returns-then-is_known
 returns-then-is_known c =
     let k = c.requires.1 in
-    let e = eqb-true _ _ (sym c.is_Known.ensures ∙ c.if-is_known.true) in
+    let e = eqb-true _ _ (sym c.is_known.ensures ∙ c.if-is_known.true) in
     (fine (k.inside _ e) (k.sound _ e), k)
 
 pub returns-then-name_count-name : goal.returns-then-name_count-name

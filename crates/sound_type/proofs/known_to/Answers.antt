@@ -28,7 +28,7 @@ loop-i-preserved c =
     let a = c.args in
     let k = c.requires.0 in
     let l = c.loop-i in
-    let e = eqb-true _ _ (sym c.is_Known.ensures ∙ c.if-not-is_known.false) in
+    let e = eqb-true _ _ (sym c.is_known.ensures ∙ c.if-not-is_known.false) in
     λ ask. onward-more (name_count a.pairs.now) a.words.now (name_bytes a.pairs.now a.text.now) ask a.start a.end (l.invariant ask) (omega (arith, c.least-limit.ensures.0)) (omega (arith, c.least-limit.ensures.1)) (k.inside _ e) (judged-sound ask (k.sound _ e))
 
 pub returns : goal.returns

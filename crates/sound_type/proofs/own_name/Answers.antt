@@ -20,7 +20,7 @@ pub returns-then-is_known : goal.returns-then-is_known
 returns-then-is_known c =
     let a = c.args in
     let k = c.requires.1 in
-    let e = eqb-true _ _ (sym c.is_Known.ensures ∙ c.if-is_known.true) in
+    let e = eqb-true _ _ (sym c.is_known.ensures ∙ c.if-is_known.true) in
     (name-leaf a.words.now a.pairs.now a.text.now a.ask a.at c.if-words-at.false (k.inside _ e) (judged-sound a.ask (k.sound _ e)) refl, k)
 
 pub overflow_cast-name : goal.overflow_cast-name

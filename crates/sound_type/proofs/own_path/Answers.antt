@@ -18,7 +18,7 @@ returns-then-count-eq0 c =
     let a = c.args in
     let e = word_got (read_below 3 a.words.now a.at) c.scan_below.ensures c.in-Word.is in
     let d = word_got (read_word a.words.now _) c.scan_word.ensures c.in-Word-scan_word.is in
-    (scanned-as a.words.now a.pairs.now a.text.now a.ask (ap head_of_path (path_names (name_count a.pairs.now) a.words.now a.at e d)) (path-root a.words.now a.pairs.now a.text.now a.ask _ c.if-count-eq0.true c.own_Root.ensures), c.requires.1)
+    (scanned-as a.words.now a.pairs.now a.text.now a.ask (ap head_of_path (path_names (name_count a.pairs.now) a.words.now a.at e d)) (path-root a.words.now a.pairs.now a.text.now a.ask _ c.if-count-eq0.true c.own_root.ensures), c.requires.1)
 
 pub own_names-requires : goal.own_names-requires
 own_names-requires c =

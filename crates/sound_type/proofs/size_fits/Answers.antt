@@ -19,7 +19,7 @@ pub returns-then-is_known : goal.returns-then-is_known
 returns-then-is_known c =
     let a = c.args in
     let k = c.requires.2 in
-    let e = eqb-true _ _ (sym c.is_Known.ensures ∙ c.if-is_known.true) in
+    let e = eqb-true _ _ (sym c.is_known.ensures ∙ c.if-is_known.true) in
     (sym (judged-size (name_bytes a.pairs.now a.text.now) a.size a.ask (search rules) (k.sound _ e)), k)
 
 pub returns-in-Fine : goal.returns-in-Fine

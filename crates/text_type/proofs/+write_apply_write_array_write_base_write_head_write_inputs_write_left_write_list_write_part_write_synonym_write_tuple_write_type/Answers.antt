@@ -141,7 +141,7 @@ pub write_head-write_apply-requires : goal.write_head-write_apply-requires
 write_head-write_apply-requires t c =
     let write-head-room : TypeRoom c.args.words.now c.args.pairs.now c.args.text.now c.args.at c.args.out.now c.args.pos = record { there = c.requires.1 } in
     let write-head-apply : WordNode (write-head-room) Apply = apply-node (write-head-room) c.in-14.is in
-    node-asked (write-head-apply) c.requires
+    node-asked (write-head-apply) (c.decreases, c.requires)
 
 pub write_head-overflow_add-result : goal.write_head-overflow_add-result
 write_head-overflow_add-result t c =
@@ -223,7 +223,7 @@ pub write_head-write_tuple-requires : goal.write_head-write_tuple-requires
 write_head-write_tuple-requires t c =
     let write-head-room : TypeRoom c.args.words.now c.args.pairs.now c.args.text.now c.args.at c.args.out.now c.args.pos = record { there = c.requires.1 } in
     let write-head-tuple : WordNode (write-head-room) Tuple = tuple-node (write-head-room) c.in-19.is in
-    node-asked (write-head-tuple) c.requires
+    node-asked (write-head-tuple) (c.decreases, c.requires)
 
 pub write_head-overflow_add-at-in-20 : goal.write_head-overflow_add-at-in-20
 write_head-overflow_add-at-in-20 t c =
@@ -253,7 +253,7 @@ pub write_head-write_inputs-requires : goal.write_head-write_inputs-requires
 write_head-write_inputs-requires t c =
     let write-head-room : TypeRoom c.args.words.now c.args.pairs.now c.args.text.now c.args.at c.args.out.now c.args.pos = record { there = c.requires.1 } in
     let write-head-function : WordNode (write-head-room) Function = function-node (write-head-room) c.in-20.is in
-    node-asked (write-head-function) c.requires
+    node-asked (write-head-function) (c.decreases, c.requires)
 
 pub write_head-overflow_add-at-in-21 : goal.write_head-overflow_add-at-in-21
 write_head-overflow_add-at-in-21 t c =
@@ -265,7 +265,7 @@ pub write_head-write_left-requires : goal.write_head-write_left-requires
 write_head-write_left-requires t c =
     let write-head-room : TypeRoom c.args.words.now c.args.pairs.now c.args.text.now c.args.at c.args.out.now c.args.pos = record { there = c.requires.1 } in
     let write-head-both : Node (write-head-room) Both (c.args.at + 1) = both-node (write-head-room) c.in-21.is in
-    node-asked (write-head-both) c.requires
+    node-asked (write-head-both) (c.decreases, c.requires)
 
 pub write_head-overflow_add-at-in-22 : goal.write_head-overflow_add-at-in-22
 write_head-overflow_add-at-in-22 t c =
@@ -309,7 +309,7 @@ pub write_head-write_synonym-requires : goal.write_head-write_synonym-requires
 write_head-write_synonym-requires t c =
     let write-head-room : TypeRoom c.args.words.now c.args.pairs.now c.args.text.now c.args.at c.args.out.now c.args.pos = record { there = c.requires.1 } in
     let write-head-synonym : Node (write-head-room) Synonym (c.args.at + 1) = synonym-node (write-head-room) c.in-23.is in
-    node-asked (write-head-synonym) c.requires
+    node-asked (write-head-synonym) (c.decreases, c.requires)
 
 pub write_head-overflow_add-result-in_default : goal.write_head-overflow_add-result-in_default
 write_head-overflow_add-result-in_default t c =
