@@ -26,6 +26,20 @@ const NO_SIZE: u32 = 0;
 
 const SIZE_FOUR: u32 = FOUR + 1;
 
+// A path has a root and, here, 3 names.
+const COUNTED: [u32; 10] = [
+    TYPE_APP,
+    1,
+    TYPE_FROM_PATH,
+    GLOBAL,
+    3,
+    STD,
+    RC_MODULE,
+    RC,
+    T_IDENTIFIER,
+    GAUGE,
+];
+
 fn print(rt: &impl Print, bytes: &[u8]) -> io::Result<()> {
     rt.write_all(bytes)
 }
@@ -51,23 +65,7 @@ fn main(rt: HostRuntime) -> io::Result<()> {
         &[TYPE_APP, 1, T_IDENTIFIER, GAUGE, U8],
     )?;
     show(&rt, "a borrowed slice", &[BORROWED, ARRAY, NO_SIZE, I32])?;
-    // A path has a root and, here, 3 names.
-    show(
-        &rt,
-        "a counted reference",
-        &[
-            TYPE_APP,
-            1,
-            TYPE_FROM_PATH,
-            GLOBAL,
-            3,
-            STD,
-            RC_MODULE,
-            RC,
-            T_IDENTIFIER,
-            GAUGE,
-        ],
-    )?;
+    show(&rt, "a counted reference", &COUNTED)?;
     // A function of 2 arguments. Its return type comes last.
     show(
         &rt,
