@@ -1,11 +1,13 @@
 // Reads a file with a declaration's encoding from standard input, and prints the declaration, or `refused` and a number (`file::print_file`).
 //
-// A program in Rattle has no exit status of its own. So a failure to read or to write is told by a line on standard error, where nothing is
-// written otherwise, and the script `printdecl` turns it into a status other than 0. A refusal is no failure: it was printed.
+// A failure to read or to write is told by a line on standard error and by the exit status 1. Else nothing is written there, and the status is
+// 0: a refusal is no failure, since it was printed.
 #![tactic(auto)]
+
 ghost use Rattle.printdecl.specs.Reading.{Within};
 
-use libc::{STDERR_FILENO, STDIN_FILENO, STDOUT_FILENO};
+use std::io::Read;
+use std::process::ExitCode;
 
 // One byte more than the longest file that a header can describe: of a longer one no more is needed (`long-file`, in file's proofs).
 const MOST_READ: usize = 57357;
@@ -18,41 +20,40 @@ enum Input {
 }
 
 // A read that fails is told from the end of the input, so that what came before it is not taken for a file.
-fn read_input(buf: &mut [u8]) -> Input
+fn read_input(input: &mut impl Read, buf: &mut [u8]) -> Input
     ensures { Within result buf.new }
 {
     let mut done = 0;
     while done < buf.len() {
-        let got = libc::read(STDIN_FILENO, &mut buf[done..]);
-        if got < 0 {
-            return Input::Failed;
+        match input.read(&mut buf[done..]) {
+            Ok(0) => return Input::Bytes(done),
+            Ok(more) => done += more,
+            Err(_) => return Input::Failed,
         }
-        let more = io::count(got, &buf[done..]);
-        if more == 0 {
-            return Input::Bytes(done);
-        }
-        done += more;
     }
     Input::Bytes(done)
 }
 
-fn say(what: &[u8]) {
-    io::write_all(STDERR_FILENO, what);
+// Says what failed. The status tells it too, so nothing is lost where this cannot be written.
+fn say(rt: &impl Eprint, what: &str) -> ExitCode {
+    let _ = rt.eprintln(what);
+    ExitCode::FAILURE
 }
 
 // Prints what a file gives.
-fn answer(file: &[u8]) {
+fn answer(rt: &(impl Print + Eprint), file: &[u8]) -> ExitCode {
     let mut out = [0u8; 65537];
     let n = file::print_file(file, &mut out);
-    if !io::write_all(STDOUT_FILENO, &out[..n]) {
-        say(b"printdecl: cannot write the answer\n");
+    match rt.write_all(&out[..n]) {
+        Ok(()) => ExitCode::SUCCESS,
+        Err(_) => say(rt, "printdecl: cannot write the answer"),
     }
 }
 
-fn main() {
+fn main(rt: HostRuntime) -> ExitCode {
     let mut bytes = [0u8; MOST_READ];
-    match read_input(&mut bytes) {
-        Input::Bytes(n) => answer(&bytes[..n]),
-        Input::Failed => say(b"printdecl: cannot read the input\n"),
+    match read_input(&mut rt.stdin(), &mut bytes) {
+        Input::Bytes(n) => answer(&rt, &bytes[..n]),
+        Input::Failed => say(&rt, "printdecl: cannot read the input"),
     }
 }

@@ -9,17 +9,20 @@
 // rules, the level is the number of their words, which follow the text. Of a shape or a part the level says which. A shape is answered as
 // soundness is; a part by a line `part START LENGTH` and a line of its words, or a line `refused N` and an empty line.
 //
-// What is no such record ends the run with the line `bad record`.
+// What is no such record ends the run with the line `bad record`. A read or a write that fails ends it with an error.
 #![tactic(auto)]
+
 ghost use Rattle.std.specs.Prelude.{◌≡◌, ◌≤◌, length};
+ghost use Rattle.std.specs.Io.{ReadsAtMost};
 ghost use Rattle.vectors.specs.Header.{header_of};
 
 use encoding::Refusal;
-use libc::{STDIN_FILENO, STDOUT_FILENO};
 use parts::PartAnswer;
 use rebuild_type::RebuildAnswer;
 use shapes::ShapeAnswer;
 use sound_type::SoundAnswer;
+use std::io;
+use std::io::Read;
 use text_calls::TextAnswer;
 use visits::VisitAnswer;
 
@@ -92,104 +95,113 @@ fn header_of(bytes: &[u8; HEADER_BYTES]) -> Header
     }
 }
 
+// Reads until `bytes` is full or the input ends. The answer is how many bytes were read.
+fn read_bytes(rt: &impl Input, bytes: &mut [u8]) -> io::Result<usize>
+    ensures { ReadsAtMost result bytes.new }
+{
+    let mut input = rt.reader();
+    let mut done = 0;
+    while done < bytes.len() {
+        let more = input.read(&mut bytes[done..])?;
+        if more == 0 {
+            break;
+        }
+        done += more;
+    }
+    Ok(done)
+}
+
 // Fills `out` from standard input. False if the input ends before that.
-fn read_numbers(out: &mut [u32]) -> bool
+fn read_numbers(rt: &impl Input, out: &mut [u32]) -> io::Result<bool>
     requires { length out.old ≤ MOST_WORDS }
 {
     let mut bytes = [0u8; WORD_BYTES];
     let size = 4 * out.len();
-    if io::read_full(STDIN_FILENO, &mut bytes[..size]) < size {
-        return false;
+    if read_bytes(rt, &mut bytes[..size])? < size {
+        return Ok(false);
     }
     little_endian::read_numbers(&bytes, 0, out);
-    true
+    Ok(true)
 }
 
-fn read_text(out: &mut [u8]) -> bool {
-    io::read_full(STDIN_FILENO, out) == out.len()
+fn read_text(rt: &impl Input, out: &mut [u8]) -> io::Result<bool> {
+    let size = out.len();
+    Ok(read_bytes(rt, out)? == size)
 }
 
-fn print(bytes: &[u8]) {
-    io::write_all(STDOUT_FILENO, bytes);
+fn print(rt: &impl Print, bytes: &[u8]) -> io::Result<()> {
+    rt.write_all(bytes)
 }
 
 // A line of a word and a number.
-fn print_numbered(word: &[u8], number: u64) {
-    print(word);
-    io::print_decimal(STDOUT_FILENO, number);
-    print(b"\n");
+fn print_numbered(rt: &impl Print, word: &str, number: u64) -> io::Result<()> {
+    println!(rt; "{word} {number}")
 }
 
-fn print_refusal(r: Refusal) {
-    print_numbered(b"refused ", encoding::refusal_number(r) as u64);
+fn print_refusal(rt: &impl Print, r: Refusal) -> io::Result<()> {
+    print_numbered(rt, "refused", encoding::refusal_number(r) as u64)
 }
 
 // A line of decimals with a space between each two.
-fn print_words(words: &[u32]) {
-    let mut i = 0;
-    while i < words.len() {
-        print_word(i, words[i]);
-        i += 1;
+fn print_words(rt: &impl Print, words: &[u32]) -> io::Result<()> {
+    for (i, word) in words.iter().enumerate() {
+        print_word(rt, i, *word)?;
     }
-    print(b"\n");
+    print(rt, b"\n")
 }
 
-fn print_word(i: usize, word: u32) {
+fn print_word(rt: &impl Print, i: usize, word: u32) -> io::Result<()> {
     if i > 0 {
-        print(b" ");
+        print(rt, b" ")?;
     }
-    io::print_decimal(STDOUT_FILENO, word as u64);
+    print!(rt; "{word}")
 }
 
-fn print_text_answer(answer: TextAnswer, buffer: &[u8]) {
+fn print_text_answer(rt: &impl Print, answer: TextAnswer, buffer: &[u8]) -> io::Result<()> {
     match answer {
-        TextAnswer::Length(n) => print_numbered(b"done ", n as u64),
-        TextAnswer::Refused(r) => print_refusal(r),
+        TextAnswer::Length(n) => print_numbered(rt, "done", n as u64)?,
+        TextAnswer::Refused(r) => print_refusal(rt, r)?,
     }
-    print(buffer);
-    print(b"\n");
+    print(rt, buffer)?;
+    print(rt, b"\n")
 }
 
-fn print_sound_answer(answer: SoundAnswer) {
+fn print_sound_answer(rt: &impl Print, answer: SoundAnswer) -> io::Result<()> {
     match answer {
-        SoundAnswer::Sound => print(b"yes\n"),
-        SoundAnswer::Unsound => print(b"no\n"),
-        SoundAnswer::Refused(r) => print_refusal(r),
-    }
-}
-
-fn print_rebuild_answer(answer: RebuildAnswer, buffer: &[u32]) {
-    match answer {
-        RebuildAnswer::Length(n) => print_numbered(b"done ", n as u64),
-        RebuildAnswer::Refused(r) => print_refusal(r),
-    }
-    print_words(buffer);
-}
-
-fn print_visit_answer(answer: VisitAnswer, buffer: &[u32]) {
-    match answer {
-        VisitAnswer::Count(n) => print_numbered(b"done ", n as u64),
-        VisitAnswer::Refused(r) => print_refusal(r),
-    }
-    print_words(buffer);
-}
-
-fn print_shape_answer(answer: ShapeAnswer) {
-    match answer {
-        ShapeAnswer::Yes => print(b"yes\n"),
-        ShapeAnswer::No => print(b"no\n"),
-        ShapeAnswer::Refused(r) => print_refusal(r),
+        SoundAnswer::Sound => print(rt, b"yes\n"),
+        SoundAnswer::Unsound => print(rt, b"no\n"),
+        SoundAnswer::Refused(r) => print_refusal(rt, r),
     }
 }
 
-fn print_part_answer(answer: PartAnswer) {
+fn print_rebuild_answer(rt: &impl Print, answer: RebuildAnswer, buffer: &[u32]) -> io::Result<()> {
     match answer {
-        PartAnswer::Part { start, length } => {
-            print(b"part ");
-            io::print_decimal(STDOUT_FILENO, start as u64);
-            print_numbered(b" ", length as u64);
-        }
-        PartAnswer::Refused(r) => print_refusal(r),
+        RebuildAnswer::Length(n) => print_numbered(rt, "done", n as u64)?,
+        RebuildAnswer::Refused(r) => print_refusal(rt, r)?,
+    }
+    print_words(rt, buffer)
+}
+
+fn print_visit_answer(rt: &impl Print, answer: VisitAnswer, buffer: &[u32]) -> io::Result<()> {
+    match answer {
+        VisitAnswer::Count(n) => print_numbered(rt, "done", n as u64)?,
+        VisitAnswer::Refused(r) => print_refusal(rt, r)?,
+    }
+    print_words(rt, buffer)
+}
+
+fn print_shape_answer(rt: &impl Print, answer: ShapeAnswer) -> io::Result<()> {
+    match answer {
+        ShapeAnswer::Yes => print(rt, b"yes\n"),
+        ShapeAnswer::No => print(rt, b"no\n"),
+        ShapeAnswer::Refused(r) => print_refusal(rt, r),
+    }
+}
+
+fn print_part_answer(rt: &impl Print, answer: PartAnswer) -> io::Result<()> {
+    match answer {
+        PartAnswer::Part { start, length } => println!(rt; "part {start} {length}"),
+        PartAnswer::Refused(r) => print_refusal(rt, r),
     }
 }
 
@@ -211,20 +223,26 @@ fn call_text(
 }
 
 // Makes a text call with a buffer of `.` bytes, and prints its answer.
-fn run_text_call(h: Header, words: &[u32], pairs: &[u32], text: &[u8])
+fn run_text_call(
+    rt: &impl Print,
+    h: Header,
+    words: &[u32],
+    pairs: &[u32],
+    text: &[u8],
+) -> io::Result<()>
     requires { h.buffer ≤ MOST_BUFFER }
 {
     let mut buffer = [b'.'; MOST_BUFFER];
     let size = h.buffer;
     let answer = call_text(h.call, words, pairs, text, h.level, &mut buffer[..size]);
-    print_text_answer(answer, &buffer[..size]);
+    print_text_answer(rt, answer, &buffer[..size])
 }
 
 // Prints what `printdecl` would print for a file.
-fn print_file(file: &[u8]) {
+fn print_file(rt: &impl Print, file: &[u8]) -> io::Result<()> {
     let mut out = [0u8; 65537];
     let n = file::print_file(file, &mut out);
-    print(&out[..n]);
+    print(rt, &out[..n])
 }
 
 fn call_rebuild(
@@ -245,29 +263,42 @@ fn call_rebuild(
 }
 
 // Makes a call that rebuilds, with a buffer of `.` bytes, and prints its answer.
-fn rebuild_by(h: Header, words: &[u32], pairs: &[u32], text: &[u8], rules: &[u32])
+fn rebuild_by(
+    rt: &impl Print,
+    h: Header,
+    words: &[u32],
+    pairs: &[u32],
+    text: &[u8],
+    rules: &[u32],
+) -> io::Result<()>
     requires { h.buffer ≤ MOST_BUFFER }
 {
     let mut buffer = [DOTS; MOST_BUFFER];
     let size = h.buffer;
     let answer = call_rebuild(h.call, words, pairs, text, rules, &mut buffer[..size]);
-    print_rebuild_answer(answer, &buffer[..size]);
+    print_rebuild_answer(rt, answer, &buffer[..size])
 }
 
 // Reads the rules, none for a call that takes none, and makes the call. False if the record is bad.
-fn run_rebuild_call(h: Header, words: &[u32], pairs: &[u32], text: &[u8]) -> bool
+fn run_rebuild_call(
+    rt: &(impl Input + Print),
+    h: Header,
+    words: &[u32],
+    pairs: &[u32],
+    text: &[u8],
+) -> io::Result<bool>
     requires { h.buffer ≤ MOST_BUFFER }
 {
     let count = h.level as usize;
     if MOST_WORDS < count {
-        return false;
+        return Ok(false);
     }
     let mut rules = [0u32; MOST_WORDS];
-    if !read_numbers(&mut rules[..count]) {
-        return false;
+    if !read_numbers(rt, &mut rules[..count])? {
+        return Ok(false);
     }
-    rebuild_by(h, words, pairs, text, &rules[..count]);
-    true
+    rebuild_by(rt, h, words, pairs, text, &rules[..count])?;
+    Ok(true)
 }
 
 fn call_visit(
@@ -284,13 +315,19 @@ fn call_visit(
 }
 
 // Makes a call that lists positions, with a buffer of `.` bytes, and prints its answer.
-fn run_visit_call(h: Header, words: &[u32], pairs: &[u32], text: &[u8])
+fn run_visit_call(
+    rt: &impl Print,
+    h: Header,
+    words: &[u32],
+    pairs: &[u32],
+    text: &[u8],
+) -> io::Result<()>
     requires { h.buffer ≤ MOST_BUFFER }
 {
     let mut buffer = [DOTS; MOST_BUFFER];
     let size = h.buffer;
     let answer = call_visit(h.call, words, pairs, text, &mut buffer[..size]);
-    print_visit_answer(answer, &buffer[..size]);
+    print_visit_answer(rt, answer, &buffer[..size])
 }
 
 fn shape_of(which: u32, words: &[u32], pairs: &[u32], text: &[u8]) -> ShapeAnswer {
@@ -314,12 +351,18 @@ fn shape_of(which: u32, words: &[u32], pairs: &[u32], text: &[u8]) -> ShapeAnswe
 }
 
 // False if there is no such shape.
-fn run_shape_call(which: u32, words: &[u32], pairs: &[u32], text: &[u8]) -> bool {
+fn run_shape_call(
+    rt: &impl Print,
+    which: u32,
+    words: &[u32],
+    pairs: &[u32],
+    text: &[u8],
+) -> io::Result<bool> {
     if LAST_SHAPE < which {
-        return false;
+        return Ok(false);
     }
-    print_shape_answer(shape_of(which, words, pairs, text));
-    true
+    print_shape_answer(rt, shape_of(which, words, pairs, text))?;
+    Ok(true)
 }
 
 fn part_of(which: u32, words: &[u32], pairs: &[u32], text: &[u8]) -> PartAnswer {
@@ -355,65 +398,78 @@ fn part_words<'a>(which: u32, words: &'a [u32], pairs: &[u32], text: &[u8]) -> &
 }
 
 // False if there is no such part.
-fn run_part_call(which: u32, words: &[u32], pairs: &[u32], text: &[u8]) -> bool {
+fn run_part_call(
+    rt: &impl Print,
+    which: u32,
+    words: &[u32],
+    pairs: &[u32],
+    text: &[u8],
+) -> io::Result<bool> {
     if LAST_PART < which {
-        return false;
+        return Ok(false);
     }
-    print_part_answer(part_of(which, words, pairs, text));
-    print_words(part_words(which, words, pairs, text));
-    true
+    print_part_answer(rt, part_of(which, words, pairs, text))?;
+    print_words(rt, part_words(which, words, pairs, text))?;
+    Ok(true)
 }
 
 // Makes the call that a header names, and prints its answer. False if there is no such call, or its rules are missing.
-fn run_call(h: Header, words: &[u32], pairs: &[u32], text: &[u8]) -> bool
+fn run_call(
+    rt: &(impl Input + Print),
+    h: Header,
+    words: &[u32],
+    pairs: &[u32],
+    text: &[u8],
+) -> io::Result<bool>
     requires { h.buffer ≤ MOST_BUFFER }
 {
     let call = h.call;
     match call {
-        TYPE_TEXT | PATH_TEXT | DECLARATION_TEXT => run_text_call(h, words, pairs, text),
-        TYPE_IS_SOUND => print_sound_answer(sound_type::type_is_sound(words, pairs, text)),
-        PRINTED_FILE => print_file(text),
-        TYPE_REBUILD => return run_rebuild_call(h, words, pairs, text),
-        DECLARATION_REBUILD => return run_rebuild_call(h, words, pairs, text),
-        TYPE_AT_INITIALIZATION => return run_rebuild_call(h, words, pairs, text),
-        TYPE_VISIT | DECLARATION_VISIT => run_visit_call(h, words, pairs, text),
-        SHAPE => return run_shape_call(h.level, words, pairs, text),
-        PART => return run_part_call(h.level, words, pairs, text),
-        _ => return false,
+        TYPE_TEXT | PATH_TEXT | DECLARATION_TEXT => run_text_call(rt, h, words, pairs, text)?,
+        TYPE_IS_SOUND => print_sound_answer(rt, sound_type::type_is_sound(words, pairs, text))?,
+        PRINTED_FILE => print_file(rt, text)?,
+        TYPE_REBUILD => return run_rebuild_call(rt, h, words, pairs, text),
+        DECLARATION_REBUILD => return run_rebuild_call(rt, h, words, pairs, text),
+        TYPE_AT_INITIALIZATION => return run_rebuild_call(rt, h, words, pairs, text),
+        TYPE_VISIT | DECLARATION_VISIT => run_visit_call(rt, h, words, pairs, text)?,
+        SHAPE => return run_shape_call(rt, h.level, words, pairs, text),
+        PART => return run_part_call(rt, h.level, words, pairs, text),
+        _ => return Ok(false),
     }
-    true
+    Ok(true)
 }
 
 // Reads what follows a header, and makes the call. False if the record is bad.
-fn run_record(h: Header) -> bool {
+fn run_record(rt: &(impl Input + Print), h: Header) -> io::Result<bool> {
     let word_count = h.words;
     let pair_length = h.pairs;
     let text_length = h.text;
     if MOST_WORDS < word_count {
-        return false;
+        return Ok(false);
     }
     if MOST_PAIRS < pair_length {
-        return false;
+        return Ok(false);
     }
     if MOST_TEXT < text_length {
-        return false;
+        return Ok(false);
     }
     if MOST_BUFFER < h.buffer {
-        return false;
+        return Ok(false);
     }
     let mut words = [0u32; MOST_WORDS];
     let mut pairs = [0u32; MOST_PAIRS];
     let mut text = [0u8; MOST_TEXT];
-    if !read_numbers(&mut words[..word_count]) {
-        return false;
+    if !read_numbers(rt, &mut words[..word_count])? {
+        return Ok(false);
     }
-    if !read_numbers(&mut pairs[..pair_length]) {
-        return false;
+    if !read_numbers(rt, &mut pairs[..pair_length])? {
+        return Ok(false);
     }
-    if !read_text(&mut text[..text_length]) {
-        return false;
+    if !read_text(rt, &mut text[..text_length])? {
+        return Ok(false);
     }
     run_call(
+        rt,
         h,
         &words[..word_count],
         &pairs[..pair_length],
@@ -422,25 +478,27 @@ fn run_record(h: Header) -> bool {
 }
 
 // Runs the next record. False at the end of the input, and after a bad record.
-fn run_next() -> bool {
+fn run_next(rt: &(impl Input + Print)) -> io::Result<bool> {
     let mut bytes = [0u8; HEADER_BYTES];
-    let got = io::read_full(STDIN_FILENO, &mut bytes);
+    let got = read_bytes(rt, &mut bytes)?;
     if got == 0 {
-        return false;
+        return Ok(false);
     }
     if got == HEADER_BYTES {
-        if run_record(header_of(&bytes)) {
-            return true;
+        if run_record(rt, header_of(&bytes))? {
+            return Ok(true);
         }
     }
-    print(b"bad record\n");
-    false
+    print(rt, b"bad record\n")?;
+    Ok(false)
 }
 
-// Every loop is proved to end, and nothing says that the input does: so the turns are counted down, from a number that no input uses up.
-fn main() {
-    let mut left = u64::MAX;
-    while left > 0 && run_next() {
-        left -= 1;
+// Every loop is proved to end, and nothing says that the input does: so the turns are counted, up to a number that no input uses up.
+fn main(rt: HostRuntime) -> io::Result<()> {
+    for _ in 0..u64::MAX {
+        if !run_next(&rt)? {
+            break;
+        }
     }
+    Ok(())
 }
