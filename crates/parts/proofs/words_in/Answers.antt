@@ -22,3 +22,8 @@ pub returns : goal.returns
 returns c =
     let a = c.args in
     words-given a.words.now a.pairs.now a.text.now (part_for a.wanted) (part-keeps a.words.now a.pairs.now a.text.now a.wanted) c.part_in.ensures c.in-Part.is
+
+pub slice_bounds-result-end-2 : goal.slice_bounds-result-end-2
+slice_bounds-result-end-2 c =
+    let a = c.args in
+    part-within a.words.now a.pairs.now a.text.now (part_for a.wanted) (part-keeps a.words.now a.pairs.now a.text.now a.wanted) c.part_in.ensures c.in-Part.is

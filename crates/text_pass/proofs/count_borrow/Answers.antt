@@ -16,26 +16,26 @@ overflow_add-at c = omega (arith, c.requires.1, c.requires.0.few)
 
 pub returns-then-words-at : goal.returns-then-words-at
 returns-then-words-at c =
-    let behind : {r : PartEnd} → let a = c.args in Counts (a.pos + 1) (text_within (max_depth - 1) a.words.now a.pairs.now a.text.now (a.at + 1)) r → Counts a.pos (type_text_at a.words.now a.pairs.now a.text.now a.at) r = λ w. borrow-counts c.args.words.now c.args.pairs.now c.args.text.now c.args.at c.requires.1 c.requires.2 w in
+    let behind : (r : PartEnd) → let a = c.args in Counts (a.pos + 1) (text_within (max_depth - 1) a.words.now a.pairs.now a.text.now (a.at + 1)) r → Counts a.pos (type_text_at a.words.now a.pairs.now a.text.now a.at) r = λ r w. borrow-counts c.args.words.now c.args.pairs.now c.args.text.now c.args.at c.requires.1 c.requires.2 w in
     let start = c in
     let a = start.args in
-    behind (stops-here (ended-text 62 a.words.now a.pairs.now a.text.now (a.at + 1) c.if-words-at.true))
+    behind _ (stops-here (ended-text 62 a.words.now a.pairs.now a.text.now (a.at + 1) c.if-words-at.true))
 
 pub returns-then-w-lt-PLAIN_KINDS : goal.returns-then-w-lt-PLAIN_KINDS
 returns-then-w-lt-PLAIN_KINDS c =
-    let behind : {r : PartEnd} → let a = c.args in Counts (a.pos + 1) (text_within (max_depth - 1) a.words.now a.pairs.now a.text.now (a.at + 1)) r → Counts a.pos (type_text_at a.words.now a.pairs.now a.text.now a.at) r = λ w. borrow-counts c.args.words.now c.args.pairs.now c.args.text.now c.args.at c.requires.1 c.requires.2 w in
+    let behind : (r : PartEnd) → let a = c.args in Counts (a.pos + 1) (text_within (max_depth - 1) a.words.now a.pairs.now a.text.now (a.at + 1)) r → Counts a.pos (type_text_at a.words.now a.pairs.now a.text.now a.at) r = λ r w. borrow-counts c.args.words.now c.args.pairs.now c.args.text.now c.args.at c.requires.1 c.requires.2 w in
     let start = c in
     let a = start.args in
     let next : a.at + 1 + 1 ≡ a.at + 2 = omega arith in
     let sum : a.pos + (1 + c.primitive_length.result) ≡ a.pos + 1 + c.primitive_length.result = omega arith in
-    behind
+    behind _
     (came (came-at next (plain-counts 62 a.words.now a.pairs.now a.text.now (a.at + 1) (omega (arith, c.if-words-at.false)) c.if-w-lt-PLAIN_KINDS.true c.primitive_length.ensures.0 (c.count_few.ensures ∙ ap clamp sum))))
 
 pub returns-then-w-eq-T_IDENTIFIER : goal.returns-then-w-eq-T_IDENTIFIER
 returns-then-w-eq-T_IDENTIFIER c =
-    let behind : {r : PartEnd} → let a = c.args in Counts (a.pos + 1) (text_within (max_depth - 1) a.words.now a.pairs.now a.text.now (a.at + 1)) r → Counts a.pos (type_text_at a.words.now a.pairs.now a.text.now a.at) r = λ w. borrow-counts c.args.words.now c.args.pairs.now c.args.text.now c.args.at c.requires.1 c.requires.2 w in
+    let behind : (r : PartEnd) → let a = c.args in Counts (a.pos + 1) (text_within (max_depth - 1) a.words.now a.pairs.now a.text.now (a.at + 1)) r → Counts a.pos (type_text_at a.words.now a.pairs.now a.text.now a.at) r = λ r w. borrow-counts c.args.words.now c.args.pairs.now c.args.text.now c.args.at c.requires.1 c.requires.2 w in
     let start = c in
     let a = start.args in
     let next : a.at + 2 ≡ a.at + 1 + 1 = omega arith in
-    behind
+    behind _
     (named-counts 62 a.words.now a.pairs.now a.text.now (a.at + 1) (omega (arith, c.if-words-at.false)) c.if-w-eq-T_IDENTIFIER.true (went-as (ap (name_at a.words.now a.pairs.now a.text.now) next) c.count_name.ensures))

@@ -37,7 +37,7 @@ returns-in-Word c =
     let s = c in
     let a = s.args in
     let n = c.name_length.ensures ∙ sym (name-length a.pairs.now a.text.now _ s.requires.0.good (below)) in
-    let e : a.pos + (a + c.name_length.result) ≡ a.pos + a + length (name_bytes a.pairs.now a.text.now c.in-Word.value) = omega (arith, n) in
+    let e : a.pos + (a.before + c.name_length.result) ≡ a.pos + a.before + length (name_bytes a.pairs.now a.text.now c.in-Word.value) = omega (arith, n) in
     scanned-went (name-word a.words.now a.pairs.now a.text.now a.at) c.name_count.ensures c.scan_below.ensures c.in-Word.is (laid-counted refl (c.count_few.ensures ∙ ap clamp e))
 
 pub returns-in-NoWord : goal.returns-in-NoWord

@@ -25,7 +25,10 @@ slice_bounds-bytes-end c =
     omega (arith, w.next, wrote_kept w, short)
 
 pub slice_bounds-lay_doc-end : goal.slice_bounds-lay_doc-end
-slice_bounds-lay_doc-end c = sym (length-take-le _ _ (array-share-prefix-bytes c))
+slice_bounds-lay_doc-end c =
+    let short : length (name_bytes c.args.pairs.now c.args.text.now c.args.name) ≤ 13 = fixed-short c.args.pairs.now c.args.text.now c.args.name c.requires.0 in
+    let w = c.put_name-end.ensures in
+    sym (length-take-le _ _ (omega (arith, w.next, wrote_kept w, short)))
 
 pub lay_doc-requires : goal.lay_doc-requires
 lay_doc-requires c =
