@@ -15,7 +15,7 @@ pub lay_fronted-requires : goal.lay_fronted-requires
 lay_fronted-requires c =
     let start = c in
     let a = start.args in
-    (start.requires.0, start.requires.1, ready-as (after-fronted a.words.now a.pairs.now a.text.now a.level a.at (omega (arith, c.if-head-lt25.false)) (omega (arith, c.if-head-lt28.true))) start.requires.2)
+    (start.requires.0, start.requires.1, ready-as (after-fronted a.words.now a.pairs.now a.text.now a.level a.at (omega arith) (omega arith)) start.requires.2)
 
 pub returns-in-28 : goal.returns-in-28
 returns-in-28 c =
@@ -27,16 +27,16 @@ pub returns-in-25-to-27 : goal.returns-in-25-to-27
 returns-in-25-to-27 c =
     let start = c in
     let a = start.args in
-    went-as (sym (after-fronted a.words.now a.pairs.now a.text.now a.level a.at (omega (arith, c.if-head-lt25.false)) (omega (arith, c.if-head-lt28.true)))) c.lay_fronted.ensures
+    went-as (sym (after-fronted a.words.now a.pairs.now a.text.now a.level a.at (omega arith) (omega arith))) c.lay_fronted.ensures
 
 pub returns-in_default : goal.returns-in_default
 returns-in_default c =
     let start = c in
     let a = start.args in
-    stops-here (after-below a.words.now a.pairs.now a.text.now a.level a.at (omega (arith, c.if-head-lt25.true)))
+    stops-here (after-below a.words.now a.pairs.now a.text.now a.level a.at (omega arith))
 
 pub returns-in_default-2 : goal.returns-in_default-2
 returns-in_default-2 c =
     let start = c in
     let a = start.args in
-    stops-here (after-above a.words.now a.pairs.now a.text.now a.level a.at (omega (arith, c.if-head-lt28.false, c.in_default.in_default-own.rest.1)))
+    stops-here (after-above a.words.now a.pairs.now a.text.now a.level a.at (omega arith))
