@@ -1,6 +1,8 @@
--- Laws that tie trees to their words: a head and the types below it, runs of words, and trees with other names.
+-- Laws that tie trees to their words: a head and the types below it, runs of words, trees with other names, names in the table, and words that are read back.
 pub mod Nodes
 pub mod Runs
 pub mod Spans
 pub mod Renaming
 pub mod Heads
+pub mod Names
+pub mod ReadBack

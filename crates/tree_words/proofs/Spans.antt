@@ -140,7 +140,7 @@ pub path-root : {N : Type 0} (ws : List ℕ) (nm : ℕ → N) (x : PathAt) → r
 unfolding path_of
 path-root ws nm x = select-root (root_of x.root) (map nm (take x.count (drop x.start ws)))
 
-name-words : (xs : List ℕ) → map token_word (map name xs) ≡ xs
+pub name-words : (xs : List ℕ) → map token_word (map name xs) ≡ xs
 unfolding token_word
 name-words [] = refl
 name-words (x ∷ xs) = ap (λ l. x ∷ l) (name-words xs)
