@@ -15,7 +15,7 @@ use Rattle.encoding.specs.Reading.{Reading, got, stop, ◌>>=◌, read_word, rea
 use Rattle.encoding.specs.Tables.{name_count}
 use Rattle.encoding.specs.Heads.{read_path}
 use Rattle.encoding.specs.Types.{path_of}
-use Rattle.encoding.specs.Forms.{present}
+use Rattle.encoding.specs.Forms.{Form, present}
 use Rattle.encoding.specs.Declarations.{visibility_of, read_counted, read_visibility, read_name, read_attribute, read_parameter, read_formal, read_field, read_nameless_field, read_fields, read_case, read_struct, read_enum, read_type_synonym, read_use, declaration_after, read_declaration}
 use Rattle.encoding.proofs.Tables.{impossible}
 use Rattle.encoding.proofs.Inside.{word-there, below-there}
@@ -35,7 +35,7 @@ use Rattle.declaration_walk.specs.declared.Role.TheVariants.{Constraint, StructF
 
 -- ---- the words of pieces
 
-unfoldable spell : List (Piece ℕ) → List ℕ
+unfoldable pub spell : List (Piece ℕ) → List ℕ
 spell ps = map token_word (runs piece_tokens ps)
 
 pub runs_append : {A B : Type 0} (f : A → List B) (xs ys : List A) → runs f (xs ++ ys) ≡ runs f xs ++ runs f ys
@@ -47,7 +47,7 @@ spell-append : (ps qs : List (Piece ℕ)) → spell (ps ++ qs) ≡ spell ps ++ s
 unfolding spell
 spell-append ps qs = ap (map token_word) (runs_append piece_tokens ps qs) ∙ map-append token_word (runs piece_tokens ps) (runs piece_tokens qs)
 
-spell-own : (k : Token ℕ) (ps : List (Piece ℕ)) → spell (own k ∷ ps) ≡ token_word k ∷ spell ps
+pub spell-own : (k : Token ℕ) (ps : List (Piece ℕ)) → spell (own k ∷ ps) ≡ token_word k ∷ spell ps
 unfolding spell runs piece_tokens
 spell-own k ps = refl
 
@@ -56,7 +56,7 @@ unfolding spell runs piece_tokens
 spell-owned [] = refl
 spell-owned (k ∷ ks) = ap (◌∷◌ (token_word k)) (spell-owned ks)
 
-spell-type : (a : Role) (t : Ty ℕ) → spell (type_piece a t) ≡ encode t
+pub spell-type : (a : Role) (t : Ty ℕ) → spell (type_piece a t) ≡ encode t
 unfolding spell runs piece_tokens encode
 spell-type a t = ap (map token_word) (append-nil (tokens t))
 
@@ -65,7 +65,7 @@ unfolding spell runs
 spell-runs f [] = refl
 spell-runs f (x ∷ xs) = spell-append (f x) (runs f xs) ∙ ap (λ l. spell (f x) ++ l) (spell-runs f xs)
 
-spell-counted : {A : Type 0} (f : A → List (Piece ℕ)) (xs : List A) → spell (counted f xs) ≡ length xs ∷ runs (λ x. spell (f x)) xs
+pub spell-counted : {A : Type 0} (f : A → List (Piece ℕ)) (xs : List A) → spell (counted f xs) ≡ length xs ∷ runs (λ x. spell (f x)) xs
 unfolding counted token_word
 spell-counted f xs = spell-own (word (length xs)) (runs f xs) ∙ ap (◌∷◌ (length xs)) (spell-runs f xs)
 
@@ -88,6 +88,28 @@ declaration-words d = spell-append (front present d) (rest d)
 use-words : (u : Use ℕ) → encode_declaration present (UseDecl u) ≡ map token_word (use_tokens present.use_head u)
 unfolding front rest spell runs
 use-words u = declaration-words (UseDecl u) ∙ append-nil (spell (own_pieces (use_tokens present.use_head u))) ∙ spell-owned (use_tokens present.use_head u)
+
+-- the same in any form: the words of a title and of the parameters behind it, and those of a whole declaration
+module _ (form : Form) where
+  pub encoded-heading : (k d : ℕ) (l : List (Attribute ℕ)) (x : ℕ) (ps : List (TypeParamDecl ℕ))
+      → (k ∷ d ∷ []) ++ (map token_word (attributes_tokens l) ++ (x ∷ spell (counted (parameter_pieces form.entries Constraint) ps))) ≡ spell (heading form k d l x ps)
+  unfolding heading title_tokens counted token_word
+  encoded-heading k d l x ps =
+      let each = parameter_pieces form.entries Constraint in
+      let a = map token_word (attributes_tokens l) in
+      let b : spell (own_pieces (title_tokens k d l x (length ps))) ≡ k ∷ d ∷ (a ++ (x ∷ length ps ∷ [])) = spell-owned (title_tokens k d l x (length ps)) ∙ ap (λ (i : List ℕ). k ∷ d ∷ i) (map-append token_word (attributes_tokens l) (name x ∷ word (length ps) ∷ [])) in
+      ap (λ i. k ∷ d ∷ (a ++ (x ∷ i))) (spell-own (word (length ps)) (runs each ps))
+      ∙ ap (λ i. k ∷ d ∷ i) (sym (append_assoc a (x ∷ length ps ∷ []) (spell (runs each ps))))
+      ∙ ap (λ i. i ++ spell (runs each ps)) (sym b)
+      ∙ sym (spell-append (own_pieces (title_tokens k d l x (length ps))) (runs each ps))
+
+  pub encoded-declaration : (d : Declaration ℕ) → encode_declaration form d ≡ spell (front form d) ++ spell (rest d)
+  unfolding encode_declaration declaration_tokens spell pieces
+  encoded-declaration d = spell-append (front form d) (rest d)
+
+  pub encoded-use : (u : Use ℕ) → encode_declaration form (UseDecl u) ≡ map token_word (use_tokens form.use_head u)
+  unfolding front rest spell runs
+  encoded-use u = encoded-declaration (UseDecl u) ∙ append-nil (spell (own_pieces (use_tokens form.use_head u))) ∙ spell-owned (use_tokens form.use_head u)
 
 -- ---- readings
 

@@ -1,4 +1,4 @@
--- Laws of a declaration's pieces and of the walk over them.
+-- Laws of a declaration's pieces and of the walk over them, and of words that are read back.
 pub mod Scans
 pub mod Ahead
 pub mod Steps
@@ -10,3 +10,5 @@ pub mod Behind
 pub mod RenamedReading
 pub mod WithTypes
 pub mod Encoded
+pub mod EachPiece
+pub mod ReadBack

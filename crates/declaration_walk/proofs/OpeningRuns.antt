@@ -37,7 +37,7 @@ use Rattle.declaration_walk.proofs.Steps.{below_word, one-run, two_run, visibili
 abbrev pub Spelt : List ℕ → ℕ → List ℕ → ℕ → Type 0
 Spelt ws p code n = Run ws p code × (n ≡ p + length code)
 
-words_runs : {A : Type 0} (f : A → List (Token ℕ)) (xs : List A) → map token_word (runs f xs) ≡ runs (λ x. map token_word (f x)) xs
+pub words_runs : {A : Type 0} (f : A → List (Token ℕ)) (xs : List A) → map token_word (runs f xs) ≡ runs (λ x. map token_word (f x)) xs
 unfolding runs
 words_runs f [] = refl
 words_runs f (x ∷ xs) = map-append token_word (f x) (runs f xs) ∙ ap (λ l. map token_word (f x) ++ l) (words_runs f xs)
@@ -81,7 +81,7 @@ module _ (ws : List ℕ) where
         let m = made_got (read_below bound ws p) (λ i. i) e in
         spelt-as (ap (λ i. i ∷ []) (sym m.made)) (spelt-word (below_word bound ws p m.reads))
 
-    runs-one : (xs : List ℕ) → runs (λ x. x ∷ []) xs ≡ map token_word (map name xs)
+    pub runs-one : (xs : List ℕ) → runs (λ x. x ∷ []) xs ≡ map token_word (map name xs)
     unfolding runs token_word
     runs-one [] = refl
     runs-one (x ∷ xs) = ap (◌∷◌ x) (runs-one xs)

@@ -1,3 +1,4 @@
 pub mod Pieces
 pub mod Walks
 pub mod Mapped
+pub mod Numbered
