@@ -1,5 +1,5 @@
 -- Laws of pieces that are laid down one behind the other.
-use Prim.Native.Nat.{ℕ, suc, ◌+◌, max}
+use Prim.Native.Nat.{ℕ, suc, ◌+◌, ◌≤◌, max}
 use mathlib.Core.Path.{◌≡◌, refl, ap, sym, ◌∙◌}
 use mathlib.Core.List.{List, [], ◌∷◌, ◌++◌, map, map-append, map_congr_left, append-nil}
 use native.Mathlib.Omega.{arith}
@@ -58,6 +58,13 @@ module _ (m : Ty ℕ → Ty ℕ) where
   top-append (own k ∷ ps) qs = let h = top-append ps qs in omega (arith, h, encode-own k (map (piece_with (Replace m)) ps))
   top-append (type a t ∷ ps) qs = let h = top-append ps qs in omega (arith, h, encode-type a (Replace m t) (map (piece_with (Replace m)) ps))
 
+  -- no more words are left than lay there
+  pub top-least : (ps : List (Piece ℕ)) → length (rebuilt_words m ps) ≤ top_pieces m ps
+  unfolding top_pieces piece_with
+  top-least [] = omega (arith, encode-none)
+  top-least (own k ∷ ps) = let h = top-least ps in omega (arith, h, encode-own k (map (piece_with (Replace m)) ps))
+  top-least (type a t ∷ ps) = let h = top-least ps in omega (arith, h, encode-type a (Replace m t) (map (piece_with (Replace m)) ps))
+
   -- own words alone
   pub own-words : (ks : List (Token ℕ)) → (rebuilt_words m (own_pieces ks) ≡ map token_word ks) × (top_pieces m (own_pieces ks) ≡ length ks) × (rebuilt_depth m (own_pieces ks) ≡ 0)
   unfolding encode_pieces runs piece_tokens piece_with top_pieces deepest_piece
@@ -95,7 +102,7 @@ module _ (m : Ty ℕ → Ty ℕ) where
   replaced-with (UseDecl u) = sym (use_kept (Replace m) u)
 
   -- a rebuilt declaration is its pieces, rebuilt
-  replaced-pieces : (d : Declaration ℕ) → pieces present (ReplaceModDecl m d) ≡ map (piece_with (Replace m)) (pieces present d)
+  pub replaced-pieces : (d : Declaration ℕ) → pieces present (ReplaceModDecl m d) ≡ map (piece_with (Replace m)) (pieces present d)
   replaced-pieces d = ap (pieces present) (replaced-with d) ∙ with-pieces (Replace m) present d
 
   pub declaration-words : (d : Declaration ℕ) → (laid_declaration m d).words ≡ rebuilt_words m (pieces present d)
