@@ -1,6 +1,5 @@
 use Rattle.rebuild_declaration.proofs.Steps.{OwnLaid, TypeLeft, never_halts, nothing_left, own-full, own-further, own-laid, type-full, type-further, type-left}
 use native.Mathlib.Omega.{arith}
-use borrow.Author.Rules.{rules}
 use Rattle.rebuild_declaration.proofs.add_next.Goals as goal
 
 pub overflow_sub-count : goal.overflow_sub-count

@@ -1,7 +1,6 @@
 use Rattle.rebuild_type.specs.Laid.{mapping}
 use Rattle.rebuild_declaration.proofs.Steps.{always-begun, opening-over, opening-ready, opening-rest, Opened, opens}
 use native.Mathlib.Omega.{arith}
-use borrow.Author.Rules.{rules}
 use Rattle.rebuild_declaration.proofs.rebuild_declaration.Goals as goal
 
 pub returns-in_default : goal.returns-in_default
