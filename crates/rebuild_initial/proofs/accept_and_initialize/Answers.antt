@@ -1,4 +1,4 @@
-use Rattle.std.proofs.Common.{false, rules}
+use Rattle.std.proofs.Common.{false}
 use Rattle.rebuild_initial.specs.Initialized.{FillsWhole}
 use Rattle.rebuild_initial.proofs.Filling.{lower-whole, whole-filled}
 use Rattle.rebuild_initial.proofs.accept_and_initialize.Goals as goal

@@ -1,4 +1,4 @@
-use Rattle.std.proofs.Common.{true, rules}
+use Rattle.std.proofs.Common.{true}
 use Rattle.rebuild_initial.specs.Initialized.{FillsWhole}
 use Rattle.rebuild_initial.proofs.Filling.{deepest-whole, not-whole, whole-filled}
 use Rattle.rebuild_initial.proofs.initialize_deepest.Goals as goal
