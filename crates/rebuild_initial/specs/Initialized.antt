@@ -1,5 +1,5 @@
 -- The type at initialization where the tables hold, and the pieces that its words are copied from.
-use Rattle.std.specs.Prelude.{◌≡◌, ℕ, ◌+◌, ◌-◌, ◌<◌, ◌≤◌, Bool, true, false, List, [], ◌∷◌, ◌++◌, length, ◌==◌, slice_index, slice_range}
+use Rattle.std.specs.Prelude.{◌≡◌, ℕ, ◌+◌, ◌<◌, ◌≤◌, Bool, true, false, List, [], ◌∷◌, ◌++◌, length, ◌==◌, slice_index, slice_range}
 use Rattle.std.proofs.Math.Option.{Option, some, none}
 use Rattle.rast.specs.Bytes.{Bytes, ◌and◌}
 use Rattle.rast.specs.Tree.{Path, Ty}

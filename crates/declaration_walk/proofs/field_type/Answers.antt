@@ -1,6 +1,5 @@
 use mathlib.Core.Path.{refl}
 use borrow.Author.Tests.{eq-eqb, ne_eqb}
-use borrow.Author.Rules.{rules}
 use Rattle.declaration_walk.proofs.field_type.Goals as goal
 
 pub returns-then-walk-eq-NAMED : goal.returns-then-walk-eq-NAMED

@@ -1,5 +1,4 @@
 use Rattle.encoding.proofs.Tables.{impossible}
-use borrow.Author.Rules.{rules}
 use Rattle.declaration_walk.proofs.is_at_members.Goals as goal
 
 pub returns-then-walk-ne0 : goal.returns-then-walk-ne0

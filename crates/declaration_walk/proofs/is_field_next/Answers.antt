@@ -1,6 +1,5 @@
 use Rattle.encoding.proofs.Tables.{impossible}
 use native.Mathlib.Omega.{arith}
-use borrow.Author.Rules.{rules}
 use Rattle.declaration_walk.proofs.is_field_next.Goals as goal
 
 pub returns-then-walk-eq0 : goal.returns-then-walk-eq0

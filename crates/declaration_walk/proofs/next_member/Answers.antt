@@ -1,6 +1,5 @@
 use Rattle.declaration_walk.specs.Walks.{end}
 use native.Mathlib.Omega.{arith}
-use borrow.Author.Rules.{rules}
 use Rattle.declaration_walk.proofs.next_member.Goals as goal
 
 pub returns : goal.returns

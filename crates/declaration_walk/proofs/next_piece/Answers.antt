@@ -1,6 +1,5 @@
 use Rattle.declaration_walk.specs.Walks.{alias, type-due}
 use native.Mathlib.Omega.{arith}
-use borrow.Author.Rules.{rules}
 use Rattle.declaration_walk.proofs.next_piece.Goals as goal
 
 pub returns-then-walk-ne0 : goal.returns-then-walk-ne0

@@ -1,7 +1,6 @@
 use Rattle.encoding.proofs.Reading.{word_got, word-stop}
 use Rattle.encoding.specs.Reading.{read_word}
 use Rattle.declaration_walk.specs.Walks.{cases, no_cases}
-use borrow.Author.Rules.{rules}
 use Rattle.declaration_walk.proofs.open_cases.Goals as goal
 
 pub returns-in-Word : goal.returns-in-Word

@@ -2,7 +2,6 @@ use Rattle.encoding.proofs.Reading.{word_got, word-stop}
 use Rattle.encoding.specs.Reading.{read_below}
 use Rattle.declaration_walk.proofs.Scans.{two-got, two-stop}
 use Rattle.declaration_walk.specs.Walks.{field, nameless, no_field, no-nameless, read_two}
-use borrow.Author.Rules.{rules}
 use Rattle.declaration_walk.proofs.open_field.Goals as goal
 
 pub returns-in-Both : goal.returns-in-Both

@@ -1,6 +1,5 @@
 use Rattle.declaration_walk.proofs.Scans.{two-got, two-stop}
 use Rattle.declaration_walk.specs.Walks.{no-parameter, parameter, read_entry}
-use borrow.Author.Rules.{rules}
 use Rattle.declaration_walk.proofs.open_parameter.Goals as goal
 
 pub returns-in-Both : goal.returns-in-Both

@@ -1,6 +1,5 @@
 use Rattle.declaration_walk.proofs.Scans.{attribute-ended}
 use mathlib.Core.Path.{◌∙◌, sym}
-use borrow.Author.Rules.{rules}
 use Rattle.declaration_walk.proofs.scan_attribute.Goals as goal
 
 pub returns-in-Both : goal.returns-in-Both

@@ -1,7 +1,6 @@
 use Rattle.declaration_walk.specs.Walks.{read_attributes, read_one_attribute}
 use Rattle.declaration_walk.proofs.Scans.{counted-ended}
 use mathlib.Core.Path.{◌∙◌, sym}
-use borrow.Author.Rules.{rules}
 use Rattle.declaration_walk.proofs.scan_attributes.Goals as goal
 
 pub returns-in-Word : goal.returns-in-Word

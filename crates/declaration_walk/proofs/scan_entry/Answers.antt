@@ -1,7 +1,6 @@
 use Rattle.encoding.specs.Reading.{read_below, read_word}
 use Rattle.declaration_walk.specs.Walks.{read_entry}
 use Rattle.declaration_walk.proofs.Scans.{both_read, second-refused, first-refused}
-use borrow.Author.Rules.{rules}
 use Rattle.declaration_walk.proofs.scan_entry.Goals as goal
 
 pub returns-in-Word-scan_word : goal.returns-in-Word-scan_word

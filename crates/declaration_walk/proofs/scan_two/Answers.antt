@@ -1,7 +1,6 @@
 use Rattle.encoding.specs.Reading.{read_below}
 use Rattle.declaration_walk.specs.Walks.{read_two}
 use Rattle.declaration_walk.proofs.Scans.{both_read, second-refused, first-refused}
-use borrow.Author.Rules.{rules}
 use Rattle.declaration_walk.proofs.scan_two.Goals as goal
 
 pub returns-in-Word-scan_below : goal.returns-in-Word-scan_below

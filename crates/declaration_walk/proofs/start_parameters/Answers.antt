@@ -1,6 +1,5 @@
 use Rattle.declaration_walk.proofs.Scans.{two-got, two-stop}
 use Rattle.declaration_walk.specs.Walks.{read_entry}
-use borrow.Author.Rules.{rules}
 use Rattle.declaration_walk.proofs.start_parameters.Goals as goal
 
 pub returns-in-Both : goal.returns-in-Both

@@ -3,7 +3,6 @@ use Rattle.encoding.specs.Reading.{read_below}
 use Rattle.declaration_walk.proofs.Scans.{end-got}
 use Rattle.declaration_walk.specs.Walks.{read_attributes}
 use mathlib.Core.Path.{◌∙◌}
-use borrow.Author.Rules.{rules}
 use Rattle.declaration_walk.proofs.start_title.Goals as goal
 
 pub returns-in-At : goal.returns-in-At

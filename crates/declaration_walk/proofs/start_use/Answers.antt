@@ -2,7 +2,6 @@ use Rattle.encoding.proofs.Reading.{path-got, path-stop, word_got, word-stop}
 use Rattle.encoding.specs.Heads.{read_path}
 use Rattle.encoding.specs.Reading.{read_below}
 use Rattle.declaration_walk.specs.Walks.{read_using}
-use borrow.Author.Rules.{rules}
 use Rattle.declaration_walk.proofs.start_use.Goals as goal
 
 pub returns-in-OwnPath : goal.returns-in-OwnPath

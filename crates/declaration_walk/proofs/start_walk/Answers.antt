@@ -6,7 +6,6 @@ use Rattle.declaration_walk.specs.Walks.{opening_after, read_opening}
 use Rattle.declaration_walk.specs.declared.After.TheVariants.{CaseList, FieldList, OneType}
 use Rattle.declaration_walk.specs.declared.Role.TheVariants.{StructField}
 use mathlib.Core.Path.{◌∙◌, sym}
-use borrow.Author.Rules.{rules}
 use Rattle.declaration_walk.proofs.start_walk.Goals as goal
 
 pub returns-in-25 : goal.returns-in-25

@@ -6,7 +6,6 @@ use Rattle.rebuild_calls.proofs.Wholes.{limit_is}
 use Rattle.rebuild_calls.specs.Wholes.{laid_by}
 use mathlib.Core.Path.{refl}
 use native.Mathlib.Omega.{arith}
-use borrow.Author.Rules.{rules}
 use Rattle.rebuild_calls.proofs.attempt.Goals as goal
 
 pub finish-requires : goal.finish-requires

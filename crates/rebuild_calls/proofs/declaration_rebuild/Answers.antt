@@ -1,5 +1,4 @@
 use Rattle.rebuild_declaration.specs.Calls.{declaration_rebuilt}
-use borrow.Author.Rules.{rules}
 use Rattle.rebuild_calls.proofs.declaration_rebuild.Goals as goal
 
 pub returns : goal.returns

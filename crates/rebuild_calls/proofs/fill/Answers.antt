@@ -1,7 +1,6 @@
 use Rattle.rebuild_type.proofs.Calls.{attempt-again, attempt-over, denied-fills, filled-fills}
 use Rattle.rebuild_calls.proofs.Wholes.{ended-readable}
 use native.Mathlib.Omega.{arith}
-use borrow.Author.Rules.{rules}
 use Rattle.rebuild_calls.proofs.fill.Goals as goal
 
 pub attempt-requires : goal.attempt-requires

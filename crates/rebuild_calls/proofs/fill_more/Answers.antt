@@ -4,7 +4,6 @@ use Rattle.rebuild_calls.proofs.Unaltered.{none-match, unaltered-fills}
 use Rattle.rebuild_calls.proofs.Wholes.{ended-readable}
 use mathlib.Core.Path.{◌∙◌, sym}
 use native.Mathlib.Omega.{arith}
-use borrow.Author.Rules.{rules}
 use Rattle.rebuild_calls.proofs.fill_more.Goals as goal
 
 pub none_stands-requires : goal.none_stands-requires

@@ -1,6 +1,5 @@
 use Rattle.encoding.proofs.Tables.{impossible}
 use Rattle.rebuild_calls.proofs.Unaltered.{none-listed}
-use borrow.Author.Rules.{rules}
 use Rattle.rebuild_calls.proofs.holds_no_rule.Goals as goal
 
 pub returns-then-rules-ne1 : goal.returns-then-rules-ne1

@@ -3,7 +3,6 @@ use Rattle.rebuild_type.specs.Laid.{mapping}
 use Rattle.rebuild_rules.proofs.Tables.{zeros-unlinked}
 use Rattle.rebuild_calls.proofs.Unaltered.{copied}
 use Rattle.rebuild_calls.proofs.Wholes.{laid-ends, whole-answered, whole-over, whole-refused, whole-stops}
-use borrow.Author.Rules.{rules}
 use Rattle.rebuild_calls.proofs.read_and_fill.Goals as goal
 
 pub returns-then-end-words : goal.returns-then-end-words

@@ -2,7 +2,6 @@ use Rattle.rebuild_type.proofs.Calls.{down-failed, down-passed}
 use Rattle.rebuild_calls.specs.Wholes.{whole_rebuilt}
 use Rattle.rebuild_rules.proofs.Lists.{all-passed}
 use mathlib.Core.Path.{◌∙◌, sym}
-use borrow.Author.Rules.{rules}
 use Rattle.rebuild_calls.proofs.rebuild_by.Goals as goal
 
 pub read_and_fill-requires : goal.read_and_fill-requires

@@ -1,7 +1,6 @@
 use Rattle.rebuild_type.specs.Laid.{mapping}
 use Rattle.rebuild_calls.proofs.Wholes.{tree-laid, tree-readable}
 use native.Mathlib.Omega.{arith}
-use borrow.Author.Rules.{rules}
 use Rattle.rebuild_calls.proofs.rebuild_whole.Goals as goal
 
 pub rebuild_type-requires : goal.rebuild_type-requires

@@ -1,5 +1,4 @@
 use Rattle.rebuild_type.specs.Calls.{type_rebuilt}
-use borrow.Author.Rules.{rules}
 use Rattle.rebuild_calls.proofs.type_rebuild.Goals as goal
 
 pub returns : goal.returns

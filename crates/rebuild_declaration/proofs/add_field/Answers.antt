@@ -1,6 +1,5 @@
 use native.Mathlib.Omega.{arith}
 use Rattle.rebuild_declaration.proofs.Steps.{field-advanced, field-over, field-own, field-readable, field-ready}
-use borrow.Author.Rules.{rules}
 use Rattle.rebuild_declaration.proofs.add_field.Goals as goal
 
 pub overflow_sub-at : goal.overflow_sub-at

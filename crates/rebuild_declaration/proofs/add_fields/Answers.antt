@@ -1,8 +1,5 @@
-use Prim.Native.Nat.{◌-◌}
-use Rattle.rebuild_declaration.proofs.Steps.{Among, among-ahead, among-ends, among-full, among_next, going-starts}
-use lib.ListN.{length}
+use Rattle.rebuild_declaration.proofs.Steps.{among-ahead, among-ends, among-full, among_next, going-starts}
 use native.Mathlib.Omega.{arith}
-use borrow.Author.Rules.{rules}
 use Rattle.rebuild_declaration.proofs.add_fields.Goals as goal
 
 pub loop-next-init : goal.loop-next-init

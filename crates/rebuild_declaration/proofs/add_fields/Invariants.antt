@@ -1,8 +1,6 @@
 use Prim.Native.Nat.{◌-◌}
-use Rattle.rebuild_declaration.proofs.Steps.{Among, among-ahead, among-ends, among-full, among_next, going-starts}
+use Rattle.rebuild_declaration.proofs.Steps.{Among}
 use lib.ListN.{length}
-use native.Mathlib.Omega.{arith}
-use borrow.Author.Rules.{rules}
 use Rattle.rebuild_declaration.proofs.add_fields.Given as goal
 
 abbrev pub invariant-loop-next : goal.invariant-loop-next

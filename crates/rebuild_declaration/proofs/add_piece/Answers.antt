@@ -1,4 +1,3 @@
-use borrow.Author.Rules.{rules}
 use Rattle.rebuild_declaration.proofs.add_piece.Goals as goal
 
 pub add_fields-requires : goal.add_fields-requires

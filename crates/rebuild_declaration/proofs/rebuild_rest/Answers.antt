@@ -1,8 +1,5 @@
-use Prim.Native.Nat.{◌-◌}
-use Rattle.rebuild_declaration.proofs.Steps.{Going, going-ends, going-full, going_on, going-starts}
-use lib.ListN.{length}
+use Rattle.rebuild_declaration.proofs.Steps.{going-ends, going-full, going_on, going-starts}
 use native.Mathlib.Omega.{arith}
-use borrow.Author.Rules.{rules}
 use Rattle.rebuild_declaration.proofs.rebuild_rest.Goals as goal
 
 pub loop-next-init : goal.loop-next-init

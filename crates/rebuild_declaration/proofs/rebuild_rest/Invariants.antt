@@ -1,8 +1,6 @@
 use Prim.Native.Nat.{◌-◌}
-use Rattle.rebuild_declaration.proofs.Steps.{Going, going-ends, going-full, going_on, going-starts}
+use Rattle.rebuild_declaration.proofs.Steps.{Going}
 use lib.ListN.{length}
-use native.Mathlib.Omega.{arith}
-use borrow.Author.Rules.{rules}
 use Rattle.rebuild_declaration.proofs.rebuild_rest.Given as goal
 
 abbrev pub invariant-loop-next : goal.invariant-loop-next

@@ -1,4 +1,4 @@
-use Rattle.std.proofs.Common.{◌-◌, length, rules}
+use Rattle.std.proofs.Common.{◌-◌, length}
 use Rattle.shapes.proofs.Answers.{whole-left, whole-passed, whole-stopped}
 use Rattle.rebuild_initial.specs.Initialized.{type_within}
 use Rattle.rebuild_initial.proofs.accept_within.Goals as goal

@@ -1,4 +1,4 @@
-use Rattle.std.proofs.Common.{length, sym, refl, ◌∙◌, arith, rules, ltb-false, ltb-true}
+use Rattle.std.proofs.Common.{length, sym, refl, ◌∙◌, arith, ltb-false, ltb-true}
 use Rattle.tree_words.specs.Numbered.{tree_at}
 use Rattle.rebuild_rules.specs.Scans.{depth_of}
 use Rattle.rebuild_initial.proofs.Filling.{Changes, change-deep, change-front, change-over, changes, element-shallow}

@@ -1,7 +1,6 @@
 use Rattle.std.proofs.Common.{sym, refl, ◌∙◌, arith, rules}
 use Rattle.rast.specs.Bytes.{ascii}
 use Rattle.encoding.specs.Tables.{fixed_names}
-use borrow.Author.Tests.{not-false, not-true}
 use Rattle.rebuild_initial.proofs.Pointers.{neither-here, none_here, object-here, pointer-here}
 use Rattle.rebuild_initial.proofs.Changes.{expanded-readable, type-readable}
 use Rattle.rebuild_initial.proofs.find_pointer.Goals as goal

@@ -1,4 +1,4 @@
-use Rattle.std.proofs.Common.{refl, ap, subst, rules}
+use Rattle.std.proofs.Common.{refl, ap, subst}
 use Rattle.rebuild_initial.specs.Initialized.{Points, under_pointer}
 use Rattle.rebuild_initial.proofs.Filling.{stays, whole-readable}
 use Rattle.rebuild_initial.proofs.Changes.{no_pointer}

@@ -1,4 +1,4 @@
-use Rattle.std.proofs.Common.{refl, subst, rules}
+use Rattle.std.proofs.Common.{refl, subst}
 use Rattle.encoding.specs.Tables.{name_bytes}
 use Rattle.tree_words.specs.Renamed.{renamed}
 use Rattle.shapes.specs.Initialization.{own_number, new_underlying}

@@ -1,5 +1,4 @@
-use Rattle.std.proofs.Common.{ltb, ap, rules}
-use borrow.Author.Tests.{not-true}
+use Rattle.std.proofs.Common.{ltb, ap}
 use Rattle.rebuild_initial.proofs.Filling.{element-spans, element-within}
 use Rattle.rebuild_initial.proofs.is_too_deep.Goals as goal
 

@@ -1,4 +1,4 @@
-use Rattle.std.proofs.Common.{ap, ◌∙◌, rules}
+use Rattle.std.proofs.Common.{ap, ◌∙◌}
 use Rattle.encoding.proofs.Tables.{tables-hold}
 use Rattle.rebuild_type.specs.Calls.{laid_down}
 use Rattle.rebuild_type.proofs.Calls.{down-failed, down-passed}

@@ -1,4 +1,4 @@
-use Rattle.std.proofs.Common.{◌≡◌, ◌+◌, ◌-◌, length, take, drop, refl, arith, rules}
+use Rattle.std.proofs.Common.{◌≡◌, ◌+◌, ◌-◌, length, take, drop, refl, arith}
 use Rattle.rebuild_initial.proofs.Filling.{four-wrote}
 use Rattle.rebuild_initial.specs.Initialized.{pointer_words, uninit_words}
 use Rattle.buffer.proofs.Laws.{part_length}

@@ -1,16 +1,12 @@
-use Prim.Native.Nat.{◌*◌, ◌+◌, ◌-◌, ◌<◌, ◌≤◌, ℕ}
 use Rattle.encoding.specs.HeadWords.{types_below}
-use Rattle.encoding.specs.Types.{read_types}
 use Rattle.tree_words.proofs.Heads.{head-here, tree-here, few-below}
 use Rattle.rebuild_type.proofs.Growing.{lays-over, lays-to}
-use Rattle.rebuild_type.proofs.Types.{Rebuilding, below-reads, built, own-fits, parts-finished, parts-full, parts-over, parts_then, plain-parts, rebuilding-ends, rebuilding-starts, settle-ends, type-done, type-over, type_reads, types-full, types_more, types-past}
+use Rattle.rebuild_type.proofs.Types.{below-reads, built, own-fits, parts-finished, parts-full, parts-over, parts_then, plain-parts, rebuilding-ends, rebuilding-starts, settle-ends, type-done, type-over, type_reads, types-full, types_more, types-past}
 use Rattle.rebuild_type.specs.Laid.{mapping}
-use Rattle.tree_words.specs.Numbered.{tree_at}
 use Rattle.rebuild_rules.specs.Table.{slot}
-use lib.ListN.{get_or, length}
+use lib.ListN.{get_or}
 use mathlib.Core.Path.{◌≡◌, ◌∙◌, ap, refl, sym}
 use native.Mathlib.Omega.{arith}
-use borrow.Author.Rules.{rules}
 use Rattle.rebuild_type.proofs.+rebuild_below_rebuild_next_rebuild_parts_rebuild_types.Goals as goal
 
 pub rebuild_below-returns-then-n-eq0 : goal.rebuild_below-returns-then-n-eq0

@@ -1,6 +1,5 @@
 use Rattle.rebuild_type.proofs.Growing.{word-laid, word_over}
 use native.Mathlib.Omega.{arith}
-use borrow.Author.Rules.{rules}
 use Rattle.rebuild_type.proofs.add_plain.Goals as goal
 
 pub returns-then-limit-pos : goal.returns-then-limit-pos

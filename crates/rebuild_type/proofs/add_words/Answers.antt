@@ -1,7 +1,6 @@
 use Rattle.rebuild_type.proofs.Growing.{part-laid, part-over}
 use mathlib.Core.Path.{refl}
 use native.Mathlib.Omega.{arith}
-use borrow.Author.Rules.{rules}
 use Rattle.rebuild_type.proofs.add_words.Goals as goal
 
 pub returns-then-limit-pos : goal.returns-then-limit-pos

@@ -1,11 +1,10 @@
 use lib.Seq.{take_all, take-suc-set}
-use Prim.Native.Nat.{◌-◌, ◌<◌, ◌≤◌, ℕ}
-use lib.ListN.{length, length-set, replicate, take, replicate-append-replicate}
+use Prim.Native.Nat.{◌<◌, ℕ}
+use lib.ListN.{length, length-set, replicate, replicate-append-replicate}
 use mathlib.Core.List.{List, [], ◌++◌, ◌∷◌}
 use mathlib.Core.Path.{◌∙◌, ◌≡◌, ap, refl, sym}
 use native.Mathlib.Numerals.{add-one}
 use native.Mathlib.Omega.{arith}
-use borrow.Author.Rules.{rules}
 use Rattle.rebuild_type.proofs.clear.Goals as goal
 
 pub loop-i-init : goal.loop-i-init

@@ -1,11 +1,6 @@
-use lib.Seq.{take_all, take-suc-set}
-use Prim.Native.Nat.{◌-◌, ◌<◌, ◌≤◌, ℕ}
-use lib.ListN.{length, length-set, replicate, take, replicate-append-replicate}
-use mathlib.Core.List.{List, [], ◌++◌, ◌∷◌}
-use mathlib.Core.Path.{◌∙◌, ◌≡◌, ap, refl, sym}
-use native.Mathlib.Numerals.{add-one}
-use native.Mathlib.Omega.{arith}
-use borrow.Author.Rules.{rules}
+use Prim.Native.Nat.{◌-◌, ◌≤◌}
+use lib.ListN.{length, replicate, take}
+use mathlib.Core.Path.{◌≡◌}
 use Rattle.rebuild_type.proofs.clear.Given as goal
 
 abbrev pub invariant-loop-i : goal.invariant-loop-i

@@ -1,7 +1,6 @@
 use Rattle.rebuild_type.proofs.Growing.{copy-one, copy-two}
 use lib.ListN.{get_or, length-set}
 use native.Mathlib.Omega.{arith}
-use borrow.Author.Rules.{rules}
 use Rattle.rebuild_type.proofs.copy_few.Goals as goal
 
 pub returns-then-count-eq1 : goal.returns-then-count-eq1

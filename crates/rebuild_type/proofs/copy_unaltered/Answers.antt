@@ -6,7 +6,6 @@ use lib.ListN.{length}
 use lib.Seq.{take-length}
 use mathlib.Core.Path.{◌∙◌, ap}
 use native.Mathlib.Omega.{arith}
-use borrow.Author.Rules.{rules}
 use Rattle.rebuild_type.proofs.copy_unaltered.Goals as goal
 
 pub returns-then-out-words : goal.returns-then-out-words

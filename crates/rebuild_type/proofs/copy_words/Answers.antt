@@ -1,10 +1,8 @@
-use Prim.Native.Nat.{◌+◌, ◌-◌, ◌<◌, ◌≤◌}
+use Prim.Native.Nat.{◌+◌, ◌<◌}
 use Rattle.rebuild_type.proofs.Growing.{copy_more}
-use lib.ListN.{drop, length, length-set, take}
-use lib.Seq.{sets}
+use lib.ListN.{length, length-set}
 use mathlib.Core.Path.{◌∙◌, ◌≡◌, refl}
 use native.Mathlib.Omega.{arith}
-use borrow.Author.Rules.{rules}
 use Rattle.rebuild_type.proofs.copy_words.Goals as goal
 
 pub loop-i-preserved : goal.loop-i-preserved

@@ -3,7 +3,6 @@ use Rattle.rebuild_type.proofs.Calls.{down-deep, down-front}
 use lib.ListN.{length, take}
 use mathlib.Core.Path.{◌≡◌, sym}
 use native.Mathlib.Omega.{arith}
-use borrow.Author.Rules.{rules}
 use Rattle.rebuild_type.proofs.finish.Goals as goal
 
 pub returns-then-depth-gt-MAX_DEPTH : goal.returns-then-depth-gt-MAX_DEPTH

@@ -1,6 +1,5 @@
 use Rattle.rebuild_type.proofs.Growing.{gives-over, gives_to, to-ends, to_inside, to-spans}
 use native.Mathlib.Omega.{arith}
-use borrow.Author.Rules.{rules}
 use Rattle.rebuild_type.proofs.give_way.Goals as goal
 
 pub overflow_sub-count : goal.overflow_sub-count

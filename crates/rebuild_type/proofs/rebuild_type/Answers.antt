@@ -3,7 +3,6 @@ use Rattle.rebuild_type.specs.Laid.{mapping}
 use Rattle.rebuild_rules.proofs.Lists.{one_type}
 use Rattle.tree_words.proofs.Heads.{tree-here}
 use native.Mathlib.Omega.{arith}
-use borrow.Author.Rules.{rules}
 use Rattle.rebuild_type.proofs.rebuild_type.Goals as goal
 
 pub rebuild_types-requires : goal.rebuild_types-requires

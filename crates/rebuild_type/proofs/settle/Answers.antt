@@ -6,7 +6,6 @@ use Rattle.rebuild_rules.proofs.Steps.{found-less}
 use lib.ListN.{drop, take}
 use mathlib.Core.Path.{◌∙◌, refl, sym}
 use native.Mathlib.Omega.{arith}
-use borrow.Author.Rules.{rules}
 use Rattle.rebuild_type.proofs.settle.Goals as goal
 
 pub find_rule-requires : goal.find_rule-requires
