@@ -1,7 +1,7 @@
 //! Runs the program `printdecl` on whole files and compares what it prints with the reference.
 //!
-//! The program is `../target/bin/printdecl`, which the script `../printdecl` builds if it is missing,
-//! or another one named by `TILLERCORAL_PRINTDECL`.
+//! The program is `../crates/printdecl/out/printdecl`, which the script `../printdecl` builds if it is
+//! missing, or another one named by `TILLERCORAL_PRINTDECL`.
 
 use std::fs::{self, File};
 use std::io::{Read, Write};
@@ -33,7 +33,7 @@ fn program() -> PathBuf {
 
 /// The repository's own program. The first test that asks for it has it built, the others wait.
 static BUILT_PROGRAM: LazyLock<PathBuf> = LazyLock::new(|| {
-    let path = in_repository("target/bin/printdecl");
+    let path = in_repository("crates/printdecl/out/printdecl");
     if !path.is_file() {
         let ended = Command::new(in_repository("printdecl"))
             .arg(in_repository("examples/gauge.bin"))
