@@ -1,5 +1,6 @@
 // One pass that accepts or refuses a declaration: a function for each part, which says where the part ends.
 #![tactic(auto)]
+
 ghost use Rattle.std.specs.Prelude.{◌≡◌, ◌≤◌, length};
 ghost use Rattle.encoding.specs.Words.{max_words};
 ghost use Rattle.encoding.specs.Tested.{Good};

@@ -1,5 +1,6 @@
 // One flat pass over the words of a type that accepts or refuses it, for those who ask for no text: the measuring pass without lengths.
 #![tactic(auto)]
+
 ghost use Rattle.std.specs.Prelude.{◌≡◌, ◌-◌, ◌^◌, ◌≤◌, ◌<◌, length};
 ghost use Rattle.encoding.specs.Words.{plain_kinds, max_words, max_depth};
 ghost use Rattle.encoding.specs.Reading.{read_word, read_below};

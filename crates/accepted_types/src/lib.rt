@@ -1,5 +1,6 @@
 // A type that was accepted: where it ends. Nothing is tested again.
 #![tactic(auto)]
+
 ghost use Rattle.encoding.specs.Types.{type_at};
 ghost use Rattle.accepted_types.specs.Accepted.{Readable, EndsAt};
 

@@ -2,6 +2,7 @@
 //
 // They stand apart from the calls so that a wrong number is refused by a small crate.
 #![tactic(auto)]
+
 ghost use Rattle.std.specs.Prelude.{◌≡◌};
 ghost use Rattle.answer_numbers.specs.Numbers.{refused_number, text_number, sound_number, rebuild_number, visit_number, shape_number, part_number};
 ghost use Rattle.answer_numbers.specs.Limits.{Small};

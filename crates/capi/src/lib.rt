@@ -1,5 +1,6 @@
 // The exported calls, for C and Rust. Each calls one proved function and turns its answer into a number.
 #![tactic(auto)]
+
 ghost use Rattle.std.specs.Prelude.{◌≡◌};
 ghost use Rattle.text_calls.specs.Calls.{filled, type_text, path_text};
 ghost use Rattle.text_declaration_call.specs.Calls.{declaration_text};

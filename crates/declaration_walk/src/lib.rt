@@ -1,5 +1,6 @@
 // A declaration as a run of own words and types: a walk that finds the types one behind the other.
 #![tactic(auto)]
+
 ghost use Rattle.std.specs.Prelude.{◌≡◌, true, ◌^◌, ◌≤◌, ◌<◌};
 ghost use Rattle.encoding.specs.Declarations.{read_list};
 ghost use Rattle.encoding.specs.Forms.{present};

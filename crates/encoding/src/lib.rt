@@ -1,5 +1,6 @@
 // An encoding: words, pairs and a text. Its limits and names, the refusals, and reading the heads of types.
 #![tactic(auto)]
+
 ghost use Rattle.std.specs.Prelude.{◌≡◌, true, [], ◌+◌, ◌*◌, ◌-◌, ◌^◌, ◌≤◌, ◌<◌, length, get_or, take, drop};
 ghost use Rattle.rast.specs.Bytes.{same};
 ghost use Rattle.rast.specs.Tree.{U8};

@@ -3,6 +3,7 @@
 // A file is a header of three numbers (how many pairs, words and text bytes), then the pairs, two numbers each, the words and the text. Each
 // number is a u32, little-endian. Document 01 calls an encoding a sheet.
 #![tactic(auto)]
+
 ghost use Rattle.std.specs.Prelude.{◌≡◌, ◌+◌, ◌*◌, ◌≤◌, ◌<◌, length};
 ghost use Rattle.buffer.specs.Wrote.{Wrote};
 ghost use Rattle.encoding.specs.Words.{max_words, max_pairs, max_text};

@@ -1,5 +1,6 @@
 // Paths that RAST's shapes and parts name, and the applications of such paths.
 #![tactic(auto)]
+
 ghost use Rattle.std.specs.Prelude.{◌≡◌, ◌<◌, false, [], slice_index_or};
 ghost use Rattle.rast.specs.Bytes.{among, same, begins, ascii};
 ghost use Rattle.encoding.specs.Words.{first_pair};

@@ -1,5 +1,6 @@
 // Little-endian numbers in bytes.
 #![tactic(auto)]
+
 ghost use Rattle.std.specs.Prelude.{◌≡◌, ◌+◌, ◌*◌, ◌≤◌, length};
 ghost use Rattle.little_endian.specs.Numbers.{from_bytes, number_at, numbers_at};
 

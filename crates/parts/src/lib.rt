@@ -1,5 +1,6 @@
 // Parts of the type that an encoding holds: where each stands, and the part of the caller's words itself.
 #![tactic(auto)]
+
 ghost use Rattle.std.specs.Prelude.{◌≡◌};
 ghost use Rattle.encoding.specs.Tested.{Good};
 ghost use Rattle.encoding.specs.Types.{type_at};

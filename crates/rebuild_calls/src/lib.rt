@@ -1,5 +1,6 @@
 // A type and a declaration rebuilt by rules, into a lent buffer of words.
 #![tactic(auto)]
+
 ghost use Rattle.std.specs.Prelude.{◌≡◌, ◌≤◌, min, true, [], ◌∷◌, length};
 ghost use Rattle.encoding.specs.Words.{max_words};
 ghost use Rattle.encoding.specs.Refusals.{unless};

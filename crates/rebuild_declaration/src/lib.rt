@@ -1,5 +1,6 @@
 // A declaration rebuilt by rules: its own words are kept, and each of its types is rebuilt.
 #![tactic(auto)]
+
 ghost use Rattle.std.specs.Prelude.{◌≤◌, length};
 ghost use Rattle.encoding.specs.Tested.{Good};
 ghost use Rattle.accepted_types.specs.Accepted.{Readable};

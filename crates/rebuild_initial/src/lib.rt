@@ -1,5 +1,6 @@
 // The type at initialization, into a lent buffer of words: under a pointer, an array's elements become `MaybeUninit`.
 #![tactic(auto)]
+
 ghost use Rattle.std.specs.Prelude.{◌≡◌, ◌+◌, ◌-◌, ◌<◌, ◌≤◌, length, nat_lt};
 ghost use Rattle.std.proofs.lemmas.List.Edits.{sets};
 ghost use Rattle.encoding.specs.Words.{max_words, max_depth};

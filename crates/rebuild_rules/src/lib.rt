@@ -1,5 +1,6 @@
 // Lists of rules: reading them into a table, and finding the rule whose from a type equals.
 #![tactic(auto)]
+
 ghost use Rattle.std.specs.Prelude.{◌≡◌, max, ◌+◌, ◌-◌, ◌*◌, ◌≤◌, ◌<◌, length, get_or, take, drop};
 ghost use Rattle.encoding.specs.Words.{max_words, max_rules};
 ghost use Rattle.encoding.specs.Tables.{name_bytes};

@@ -1,5 +1,6 @@
 // Comparing two types by their words: no tree is built, and nothing recurses.
 #![tactic(auto)]
+
 ghost use Rattle.std.specs.Prelude.{◌≡◌, true, false, [], ◌+◌, ◌≤◌, ◌<◌, length, take, drop};
 ghost use Rattle.rast.specs.Bytes.{same};
 ghost use Rattle.encoding.specs.Words.{first_pair};

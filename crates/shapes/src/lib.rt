@@ -1,5 +1,6 @@
 // Shapes of the type that an encoding holds: RAST's yes-or-no answers, and where the parts that they speak of stand.
 #![tactic(auto)]
+
 ghost use Rattle.std.specs.Prelude.{◌≡◌, ◌≤◌, length};
 ghost use Rattle.rast.specs.Bytes.{◌or◌};
 ghost use Rattle.encoding.specs.Words.{max_words};

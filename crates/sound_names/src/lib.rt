@@ -1,5 +1,6 @@
 // Which names and sizes are sound: document 01's "sound", of bytes.
 #![tactic(auto)]
+
 ghost use Rattle.std.specs.Prelude.{◌≡◌, true, [], ◌+◌, ◌-◌, ◌≤◌, ◌<◌, length, take, drop, get_or};
 ghost use Rattle.rast.specs.Bytes.{same, each, among};
 ghost use Rattle.rast.specs.Sound.{within, is_word_start, is_word_byte, is_word, excluded, sound_name, sound_size};

@@ -1,5 +1,6 @@
 // Document 01's "sound" for the type that an encoding holds. Reading and judging go in one pass.
 #![tactic(auto)]
+
 ghost use Rattle.std.specs.Prelude.{◌≡◌, true, false, ◌+◌, ◌-◌, ◌%◌, ◌^◌, ◌≤◌, ◌<◌, eqb, length, get_or};
 ghost use Rattle.rast.specs.Sound.{sound_size, sound};
 ghost use Rattle.encoding.specs.Words.{plain_kinds, flag_count, max_words, max_depth};

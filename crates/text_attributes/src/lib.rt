@@ -1,6 +1,7 @@
 // The attributes of a declaration, each with its arguments. They are counted and written by functions of their own: counting needs no buffer, and what was accepted is
 // written without being tested again.
 #![tactic(auto)]
+
 ghost use Rattle.std.specs.Prelude.{true, ◌+◌, ◌^◌, ◌<◌};
 ghost use Rattle.text_pass.specs.Passes.{Checked, Ready, Came, Counts};
 ghost use Rattle.text_attributes.specs.Texts.{some_arguments, derived_at, attribute_at, some_attributes, attributes_at};

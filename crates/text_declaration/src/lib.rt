@@ -1,5 +1,6 @@
 // A pass over the words of a declaration that lays its text, at a level: it writes the bytes, or only counts them.
 #![tactic(auto)]
+
 ghost use Rattle.std.specs.Prelude.{◌≡◌, true, false, ◌^◌, ◌<◌};
 ghost use Rattle.buffer.specs.Laid.{Laid, Fits};
 ghost use Rattle.text_pass.specs.Passes.{Checked, Ready, Came, Went, Counts};

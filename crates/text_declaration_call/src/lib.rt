@@ -2,6 +2,7 @@
 //
 // The call counts first, which accepts or refuses the declaration, and then writes.
 #![tactic(auto)]
+
 ghost use Rattle.std.specs.Prelude.{◌≡◌, ◌^◌, ◌<◌};
 ghost use Rattle.text_calls.specs.Calls.{filled};
 ghost use Rattle.text_pass.specs.Passes.{Checked};

@@ -1,5 +1,6 @@
 // Doc comments: `ConvertDocstring` on bytes. One pass writes the text, or only counts it.
 #![tactic(auto)]
+
 ghost use Rattle.std.specs.Prelude.{◌≡◌, true, false, [], ◌∷◌, ◌++◌, ◌+◌, ◌^◌, ◌≤◌, ◌<◌, leb, length, take, drop, get_or};
 ghost use Rattle.std.proofs.Math.Option.{none};
 ghost use Rattle.rast.specs.Bytes.{ascii, ◌and◌, ◌or◌, same, begins};

@@ -1,5 +1,6 @@
 // Lists of fields, with names or without.
 #![tactic(auto)]
+
 ghost use Rattle.std.specs.Prelude.{◌≡◌, true, ◌+◌, ◌^◌, ◌<◌, ◌≤◌, length};
 ghost use Rattle.rast.specs.DeclarationToString.{separator_text};
 ghost use Rattle.rast.specs.Indent.{indent};

@@ -1,6 +1,7 @@
 // A named field's name and type: `Formal.ToString`. A field named `self` may show without its type. The type itself is left to the caller, so that it is counted
 // and written at one place, whether a field has a name or not.
 #![tactic(auto)]
+
 ghost use Rattle.rast.specs.DeclarationToString.{is_self_owned};
 ghost use Rattle.encoding.specs.Tables.{name_bytes, name_count};
 ghost use Rattle.encoding.specs.Tested.{Good};

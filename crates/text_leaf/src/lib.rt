@@ -1,5 +1,6 @@
 // Texts with no type in them, into a buffer that has room: plain types, paths, the end of an array.
 #![tactic(auto)]
+
 ghost use Rattle.std.specs.Prelude.{◌≡◌, ◌+◌, ◌*◌, ◌≤◌, ◌<◌, length, get_or};
 ghost use Rattle.std.proofs.lemmas.List.Edits.{sets};
 ghost use Rattle.rast.specs.Tree.{U8 as PrimitiveU8};

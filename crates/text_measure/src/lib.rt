@@ -1,5 +1,6 @@
 // One pass over the words of a type, with no recursion: it accepts or refuses the type, and finds how long its text is.
 #![tactic(auto)]
+
 ghost use Rattle.std.specs.Prelude.{◌≡◌, ◌+◌, ◌*◌, ◌-◌, ◌^◌, ◌/◌, ◌≤◌, ◌<◌, eqb, length};
 ghost use Rattle.rast.specs.ToString.{Path-to_string};
 ghost use Rattle.encoding.specs.Words.{from_path_kind, flag_count, max_words, max_depth};

@@ -1,5 +1,6 @@
 // The parameters of a declaration, each with its constraints.
 #![tactic(auto)]
+
 ghost use Rattle.std.specs.Prelude.{◌<◌};
 ghost use Rattle.text_pass.specs.Passes.{Checked, Ready, Went};
 ghost use Rattle.text_parameters.specs.Texts.{some_constraints, constraints_at, parameter_at, some_parameters, parameters_at};

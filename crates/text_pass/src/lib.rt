@@ -1,6 +1,7 @@
 // Passes over the words of a declaration: names, docs, types and paths. A pass reads what stands there and lays its text: it writes the
 // bytes, or only counts them.
 #![tactic(auto)]
+
 ghost use Rattle.std.specs.Prelude.{◌≡◌, true, ◌+◌, ◌^◌, ◌<◌, length, get_or};
 ghost use Rattle.rast.specs.ToString.{Path-to_string};
 ghost use Rattle.rast.specs.Indent.{indent};

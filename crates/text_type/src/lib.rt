@@ -1,5 +1,6 @@
 // Writing the texts of paths and types that were accepted, into a buffer that has room for them.
 #![tactic(auto)]
+
 ghost use Rattle.std.specs.Prelude.{◌≡◌, ◌+◌, ◌<◌, slice_index};
 ghost use Rattle.rast.specs.ToString.{Type-to_string, comma_text};
 ghost use Rattle.encoding.specs.Words.{from_path_kind, leaf_kinds};

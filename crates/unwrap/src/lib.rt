@@ -1,5 +1,6 @@
 // Following the wrappers of an accepted type.
 #![tactic(auto)]
+
 ghost use Rattle.encoding.specs.Types.{type_at};
 ghost use Rattle.accepted_types.specs.Accepted.{Readable};
 ghost use Rattle.unwrap.specs.Asked.{ExpandsAt};

@@ -1,5 +1,6 @@
 // Visit lists: the positions of the types that `Type.Fold` and the visitor of declarations go through, in their order.
 #![tactic(auto)]
+
 ghost use Rattle.std.specs.Prelude.{◌≡◌, true, [], ◌∷◌, ◌≤◌, ◌<◌, ◌^◌, length};
 ghost use Rattle.buffer.specs.Wrote.{Wrote};
 ghost use Rattle.encoding.specs.Words.{max_words};

@@ -1,33 +1,24 @@
-use Rattle.file.proofs.Printing.{refusal-printed, text-printed}
-use Rattle.file.specs.File.{file_text, printed_file}
+use Rattle.std.proofs.Common.{◌≡◌, ◌≤◌, List, length, arith, rules, sym}
+use lib.Seq.{length_front, length-take-le}
 use Rattle.rast.specs.Bytes.{ascii}
 use Rattle.text_calls.proofs.Calls.{within}
-use native.Mathlib.Omega.{arith}
-use lib.Seq.{length_front, length-take-le}
-use mathlib.Core.Path.{sym}
-use borrow.Author.Rules.{rules}
+use Rattle.file.specs.File.{file_text, printed_file}
+use Rattle.file.proofs.Printing.{refusal-printed, text-printed}
 use Rattle.file.proofs.print_into.Goals as goal
 
 pub slice_bounds-file_text-end-2 : goal.slice_bounds-file_text-end-2
-slice_bounds-file_text-end-2 c = sym (length-take-le _ c.args.out.now (slice-relend-prefix-file-text c))
+slice_bounds-file_text-end-2 c = sym (length-take-le _ c.args.out.now (omega (arith, c.requires)))
 
 pub put-requires : goal.put-requires
 put-requires c =
-    let b = c in
-    let start = b in
-    let w = within _ b.file_text.new.out (file_text start.args.file.now) b.file_text.ensures c.in-Length.is in
-    omega (arith, start.requires, b.file_text.auto.1.0, w, slice-aggregate-file-text b, length_front start.args.out.now b.file_text.new.out 65536 b.file_text.auto.1.0)
+    let front : 65536 ≤ length c.args.out.now = omega (arith, c.requires) in
+    let w = within _ c.file_text.new.out (file_text c.args.file.now) c.file_text.ensures c.in-Length.is in
+    omega (arith, c.requires, c.file_text.auto.out, w, length-take-le 65536 c.args.out.now front, length_front c.args.out.now c.file_text.new.out 65536 c.file_text.auto.out)
 
 pub returns-in-Length : goal.returns-in-Length
 unfolding ascii printed_file
-returns-in-Length c =
-    let b = c in
-    let start = b in
-    text-printed start.args.out.now b.file_text.new.out start.requires (file_text start.args.file.now) b.file_text.ensures c.in-Length.is c.put.ensures
+returns-in-Length c = text-printed c.args.out.now c.file_text.new.out c.requires (file_text c.args.file.now) c.file_text.ensures c.in-Length.is c.put.ensures
 
 pub returns-in-Refused : goal.returns-in-Refused
 unfolding printed_file
-returns-in-Refused c =
-    let b = c in
-    let start = b in
-    refusal-printed start.args.out.now b.file_text.new.out start.requires (file_text start.args.file.now) b.file_text.ensures c.in-Refused.is c.put_refusal.ensures
+returns-in-Refused c = refusal-printed c.args.out.now c.file_text.new.out c.requires (file_text c.args.file.now) c.file_text.ensures c.in-Refused.is c.put_refusal.ensures
