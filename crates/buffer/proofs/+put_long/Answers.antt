@@ -1,7 +1,5 @@
-use Prim.Native.Nat.{ℕ, ◌<◌}
 use native.Mathlib.Omega.{arith}
 use Rattle.buffer.proofs.Laws.{part-rest, part-wrote, wrote_kept}
-use borrow.Author.Rules.{rules}
 use Rattle.buffer.proofs.+put_long.Goals as goal
 
 pub copy_chunk-requires : goal.copy_chunk-requires

@@ -1,7 +1,6 @@
 use Rattle.buffer.proofs.Passes.{clamp-large}
 use mathlib.Core.Path.{◌∙◌, sym}
 use native.Mathlib.Omega.{arith}
-use borrow.Author.Rules.{rules}
 use Rattle.buffer.proofs.count_few.Goals as goal
 
 pub returns-then-pos-ge-LIMIT : goal.returns-then-pos-ge-LIMIT

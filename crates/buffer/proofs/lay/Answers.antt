@@ -1,5 +1,4 @@
 use Rattle.buffer.proofs.Passes.{laid-counted, laid-wrote}
-use borrow.Author.Rules.{rules}
 use Rattle.buffer.proofs.lay.Goals as goal
 
 pub put-requires : goal.put-requires

@@ -3,7 +3,6 @@ use Rattle.buffer.proofs.Passes.{laid-size, laid-wrote}
 use lib.ListN.{drop, length, take}
 use mathlib.Core.Path.{◌≡◌, sym}
 use native.Mathlib.Omega.{arith}
-use borrow.Author.Rules.{rules}
 use Rattle.buffer.proofs.lay_part.Goals as goal
 
 pub put_part-requires : goal.put_part-requires

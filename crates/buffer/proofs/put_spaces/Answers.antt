@@ -1,7 +1,6 @@
 use Rattle.buffer.proofs.Laws.{wrote_as, wrote_nothing}
 use Rattle.buffer.specs.Laid.{spaces}
 use mathlib.Core.Path.{ap, sym}
-use borrow.Author.Rules.{rules}
 use Rattle.buffer.proofs.put_spaces.Goals as goal
 
 pub returns-then-count-eq0 : goal.returns-then-count-eq0

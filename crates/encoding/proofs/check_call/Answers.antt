@@ -1,6 +1,5 @@
 use Rattle.encoding.specs.Tested.{check_call}
 use mathlib.Core.Path.{◌∙◌, sym}
-use borrow.Author.Rules.{rules}
 use Rattle.encoding.proofs.check_call.Goals as goal
 
 pub returns-in-Passed : goal.returns-in-Passed

@@ -1,6 +1,5 @@
 use borrow.Author.Tests.{lt-ltb, le-ltb}
 use Rattle.encoding.specs.Tables.{check_tables, overlong}
-use borrow.Author.Rules.{rules}
 use Rattle.encoding.proofs.check_tables.Goals as goal
 
 pub returns-then-words-gt-MAX_WORDS : goal.returns-then-words-gt-MAX_WORDS

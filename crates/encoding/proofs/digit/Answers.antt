@@ -1,6 +1,5 @@
 use Rattle.encoding.specs.Tested.{digit_at}
 use mathlib.Core.Path.{refl}
-use borrow.Author.Rules.{rules}
 use Rattle.encoding.proofs.digit.Goals as goal
 
 pub returns : goal.returns

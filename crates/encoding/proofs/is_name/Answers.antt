@@ -1,7 +1,6 @@
 use Rattle.encoding.proofs.Names.{fixed_same}
 use mathlib.Core.Path.{◌∙◌, sym}
 use native.Mathlib.Omega.{arith}
-use borrow.Author.Rules.{rules}
 use Rattle.encoding.proofs.is_name.Goals as goal
 
 pub returns-then-name-lt-FIRST_PAIR : goal.returns-then-name-lt-FIRST_PAIR

@@ -1,4 +1,3 @@
-use borrow.Author.Rules.{rules}
 use Rattle.encoding.proofs.own_word.Goals as goal
 
 pub returns-in-Word : goal.returns-in-Word

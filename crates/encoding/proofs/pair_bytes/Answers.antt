@@ -1,6 +1,5 @@
 use mathlib.Core.Path.{◌∙◌}
 use Rattle.encoding.proofs.Names.{pair-there, pair-part}
-use borrow.Author.Rules.{rules}
 use Rattle.encoding.proofs.pair_bytes.Goals as goal
 
 pub part-requires : goal.part-requires

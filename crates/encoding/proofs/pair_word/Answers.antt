@@ -1,7 +1,6 @@
 use Prim.Native.Nat.{◌*◌, ◌-◌, ◌+◌}
 use mathlib.Core.Path.{refl}
 use native.Mathlib.Omega.{arith}
-use borrow.Author.Rules.{rules}
 use Rattle.encoding.proofs.pair_word.Goals as goal
 
 pub overflow_cast-result : goal.overflow_cast-result

@@ -1,7 +1,5 @@
-use Prim.Native.Nat.{◌≤◌, ◌-◌, ◌+◌, ◌%◌}
-use mathlib.Core.Path.{◌≡◌, sym, ◌∙◌}
-use lib.ListN.{length, drop}
-use Rattle.encoding.specs.Tables.{good_pairs}
+use Prim.Native.Nat.{◌+◌}
+use mathlib.Core.Path.{sym, ◌∙◌}
 use Rattle.encoding.proofs.Tables.{pairs_end, pairs-odd, pairs-early, pairs-late, pairs_next}
 use native.Mathlib.Omega.{arith}
 use borrow.Author.Rules.{rules}

@@ -1,10 +1,7 @@
-use Prim.Native.Nat.{◌≤◌, ◌-◌, ◌+◌, ◌%◌}
-use mathlib.Core.Path.{◌≡◌, sym, ◌∙◌}
+use Prim.Native.Nat.{◌≤◌, ◌-◌, ◌%◌}
+use mathlib.Core.Path.{◌≡◌}
 use lib.ListN.{length, drop}
 use Rattle.encoding.specs.Tables.{good_pairs}
-use Rattle.encoding.proofs.Tables.{pairs_end, pairs-odd, pairs-early, pairs-late, pairs_next}
-use native.Mathlib.Omega.{arith}
-use borrow.Author.Rules.{rules}
 use Rattle.encoding.proofs.pairs_hold.Given as goal
 
 abbrev pub invariant-loop-i : goal.invariant-loop-i

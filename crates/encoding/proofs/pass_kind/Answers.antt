@@ -3,7 +3,6 @@ use mathlib.Core.Path.{refl, ◌∙◌}
 use Rattle.encoding.specs.HeadWords.{types_below, own_end}
 use Rattle.encoding.proofs.HeadWords.{end-other, below_other, plain_end, plain-below}
 use native.Mathlib.Omega.{arith}
-use borrow.Author.Rules.{rules}
 use Rattle.encoding.proofs.pass_kind.Goals as goal
 
 pub returns-then-w-lt-PLAIN_KINDS : goal.returns-then-w-lt-PLAIN_KINDS

@@ -3,7 +3,6 @@ use lib.ListN.{length}
 use Rattle.encoding.specs.HeadWords.{own_end}
 use Rattle.encoding.proofs.HeadWords.{end-inside}
 use native.Mathlib.Omega.{arith}
-use borrow.Author.Rules.{rules}
 use Rattle.encoding.proofs.path_end.Goals as goal
 
 pub overflow_add-result : goal.overflow_add-result

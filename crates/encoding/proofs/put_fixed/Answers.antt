@@ -3,7 +3,6 @@ use Prim.Native.Nat.{ℕ}
 use lib.ListN.{drop, get_or, take}
 use Rattle.buffer.proofs.Laws.{wrote_as}
 use native.Mathlib.Omega.{arith}
-use borrow.Author.Rules.{rules}
 use Rattle.encoding.proofs.put_fixed.Goals as goal
 
 pub overflow_cast-start-2 : goal.overflow_cast-start-2

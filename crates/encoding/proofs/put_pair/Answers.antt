@@ -1,7 +1,6 @@
 use Rattle.buffer.proofs.Laws.{wrote_as}
 use Rattle.encoding.proofs.Names.{pair-there, pair-taken, pair_size}
 use native.Mathlib.Omega.{arith}
-use borrow.Author.Rules.{rules}
 use Rattle.encoding.proofs.put_pair.Goals as goal
 
 pub put_part-requires : goal.put_part-requires

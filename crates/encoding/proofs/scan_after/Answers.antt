@@ -4,7 +4,6 @@ use Rattle.encoding.specs.Reading.{read_below, read_word}
 use Rattle.encoding.specs.Heads.{head_after}
 use Rattle.encoding.specs.Scans.{head_of}
 use Rattle.encoding.proofs.Heads.{head-worded, head-none}
-use borrow.Author.Rules.{rules}
 use Rattle.encoding.proofs.scan_after.Goals as goal
 
 pub returns-in-12 : goal.returns-in-12

@@ -1,6 +1,5 @@
 use Rattle.encoding.proofs.Reading.{below_in, below_out, below_end}
 use native.Mathlib.Omega.{arith}
-use borrow.Author.Rules.{rules}
 use Rattle.encoding.proofs.scan_below.Goals as goal
 
 pub returns-then-words-at : goal.returns-then-words-at

@@ -1,5 +1,4 @@
 use Rattle.encoding.proofs.Heads.{head_at, head-end, plain-head}
-use borrow.Author.Rules.{rules}
 use Rattle.encoding.proofs.scan_head.Goals as goal
 
 pub returns-then-words-at : goal.returns-then-words-at

@@ -1,9 +1,5 @@
-use mathlib.Core.Path.{◌≡◌, sym, ap, ◌∙◌}
-use Rattle.encoding.specs.Reading.{read_names, read_below}
-use Rattle.encoding.specs.Scans.{ended}
-use Rattle.encoding.proofs.Reading.{word_got, word-stop, names_more, names-stop, names-none}
-use native.Mathlib.Omega.{arith}
-use borrow.Author.Rules.{rules}
+use mathlib.Core.Path.{◌≡◌}
+use Rattle.encoding.specs.Reading.{read_names}
 use Rattle.encoding.proofs.scan_names.Given as goal
 
 abbrev pub invariant-loop-left : goal.invariant-loop-left

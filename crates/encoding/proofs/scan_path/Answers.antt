@@ -2,7 +2,6 @@ use mathlib.Core.Path.{◌≡◌}
 use Rattle.encoding.specs.Reading.{got, read_below, read_word, read_names}
 use Rattle.encoding.specs.Heads.{read_path}
 use Rattle.encoding.proofs.Reading.{word_got, word-stop, scan-got, scan-stop}
-use borrow.Author.Rules.{rules}
 use Rattle.encoding.proofs.scan_path.Goals as goal
 
 pub returns-in-At : goal.returns-in-At

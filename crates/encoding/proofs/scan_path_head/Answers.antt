@@ -1,6 +1,5 @@
 use Rattle.encoding.specs.Heads.{read_path, path_head}
 use Rattle.encoding.proofs.Reading.{path-got, path-stop}
-use borrow.Author.Rules.{rules}
 use Rattle.encoding.proofs.scan_path_head.Goals as goal
 
 pub returns-in-OwnPath : goal.returns-in-OwnPath

@@ -1,5 +1,4 @@
 use Rattle.encoding.proofs.Reading.{word_in, word_end}
-use borrow.Author.Rules.{rules}
 use Rattle.encoding.proofs.scan_word.Goals as goal
 
 pub returns-then-words-at : goal.returns-then-words-at

@@ -1,8 +1,7 @@
-use Prim.Native.Nat.{◌-◌, ◌≤◌}
 use Rattle.little_endian.proofs.Runs.{run-filled, run-whole}
 use Rattle.little_endian.specs.Numbers.{numbers_at}
-use lib.ListN.{length, length-set, take}
-use mathlib.Core.Path.{◌≡◌, refl}
+use lib.ListN.{length-set}
+use mathlib.Core.Path.{refl}
 use native.Mathlib.Omega.{arith}
 use borrow.Author.Rules.{rules}
 use Rattle.little_endian.proofs.read_numbers.Goals as goal
