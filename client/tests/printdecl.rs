@@ -73,7 +73,7 @@ fn output_of(write: impl FnOnce(&mut ChildStdin) -> io::Result<()> + Send) -> Ve
             .expect("the output can be read");
     });
     let status = child.wait().expect("printdecl ends");
-    assert!(status.code().is_some(), "printdecl was killed: {status}");
+    assert_eq!(status.code(), Some(0), "{status}");
     output
 }
 
@@ -372,6 +372,7 @@ fn a_read_error_prints_nothing() {
         .expect("printdecl starts");
     assert_eq!(output.stdout, b"");
     assert_ne!(output.stderr, b"", "the failure must be told");
+    assert_eq!(output.status.code(), Some(1));
 }
 
 /// A device that takes nothing.
@@ -388,6 +389,7 @@ fn a_write_error_is_told() {
         .output()
         .expect("printdecl starts");
     assert_ne!(output.stderr, b"", "the failure must be told");
+    assert_eq!(output.status.code(), Some(1));
 }
 
 /// The script gives both as a status, and a refusal as an answer.
