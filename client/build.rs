@@ -37,53 +37,42 @@ fn given_folder(folder: PathBuf) -> PathBuf {
     folder
 }
 
-/// The folder `rt staticlib` writes to, filled by running it when the archive is not there yet.
+/// The folder `rt lib` writes to, filled by running it when the archive is not there yet.
 fn repository_folder() -> PathBuf {
     let manifest = env::var_os("CARGO_MANIFEST_DIR").expect("cargo sets CARGO_MANIFEST_DIR");
-    let root = Path::new(&manifest)
+    let crate_folder = Path::new(&manifest)
         .parent()
         .expect("the package lies in the repository")
-        .to_path_buf();
-    let folder = root.join("target").join("staticlib");
+        .join("crates")
+        .join("capi");
+    let folder = crate_folder.join("out");
     if !folder.join(ARCHIVE).is_file() {
-        build_archive(&root);
+        build_archive(&crate_folder);
         if !folder.join(ARCHIVE).is_file() {
             fail(&format!(
-                "`rt staticlib capi` ended well, but there is no {} after it",
-                folder.join(ARCHIVE).display()
+                "`rt lib` ended well, but there is no {ARCHIVE} in {} after it",
+                folder.display()
             ));
         }
     }
     folder
 }
 
-fn build_archive(root: &Path) {
-    // `rt staticlib` proves one crate after the other, `rt check` as many at once as there are
-    // processors; what is proved already is not proved again.
-    run_rt(root, &["check", "capi"]);
-    run_rt(root, &["staticlib", "capi"]);
-}
-
-fn run_rt(root: &Path, arguments: &[&str]) {
-    let command = format!("rt {}", arguments.join(" "));
-    let ended = Command::new("rt")
-        .args(arguments)
-        .current_dir(root)
-        .output();
-    match ended {
+fn build_archive(crate_folder: &Path) {
+    let at = crate_folder.display();
+    match Command::new("rt")
+        .arg("lib")
+        .current_dir(crate_folder)
+        .output()
+    {
         Err(error) if error.kind() == ErrorKind::NotFound => fail(&format!(
-            "there is no {ARCHIVE} in {}, and `rt`, which would build it, is not on the path.\n\
-             Put the Rattle toolchain on the path, or build the archive elsewhere with \
-             `rt staticlib capi` and set {FOLDER_VARIABLE} to its folder.",
-            root.join("target").join("staticlib").display()
+            "there is no {ARCHIVE} in {at}/out, and `rt`, which would build it, is not on the path.\n\
+             Put the Rattle toolchain on the path, or build the archive elsewhere with `rt lib` \
+             in crates/capi and set {FOLDER_VARIABLE} to its folder."
         )),
-        Err(error) => fail(&format!(
-            "cannot run `{command}` in {}: {error}",
-            root.display()
-        )),
+        Err(error) => fail(&format!("cannot run `rt lib` in {at}: {error}")),
         Ok(output) if !output.status.success() => fail(&format!(
-            "`{command}` in {} failed ({}):\n{}{}",
-            root.display(),
+            "`rt lib` in {at} failed ({}):\n{}{}",
             output.status,
             String::from_utf8_lossy(&output.stdout),
             String::from_utf8_lossy(&output.stderr)

@@ -1,8 +1,8 @@
 /*
  * The exported calls of Tillercoral, a proved printer of Rust types and declarations.
  *
- * Link with libcapi.a, which `rt staticlib capi` writes to target/staticlib. Of the C library it
- * needs memcpy, memmove and memset, and nothing else. C99 or later, and C++; x86-64.
+ * Link with libcapi.a, which `rt lib` in crates/capi writes to crates/capi/out. Of the C library
+ * it needs memmove and memset, and nothing else. C99 or later, and C++; x86-64.
  *
  * Arguments
  *

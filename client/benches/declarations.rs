@@ -1,6 +1,6 @@
 //! Times the text of declarations, as `text` does for types, and the program `printdecl` as a whole.
 //!
-//! The program is `../target/bin/printdecl`, or another one named by `TILLERCORAL_PRINTDECL`; the one
+//! The program is `../crates/printdecl/out/printdecl`, or another one named by `TILLERCORAL_PRINTDECL`; the one
 //! it is compared with is `printdecl_tuned` of this package.
 
 mod timing;
@@ -324,13 +324,13 @@ const PROCESS_ROUNDS: usize = 200;
 
 fn print_program_times() {
     let ours = env::var_os("TILLERCORAL_PRINTDECL").map_or_else(
-        || Path::new(env!("CARGO_MANIFEST_DIR")).join("../target/bin/printdecl"),
+        || Path::new(env!("CARGO_MANIFEST_DIR")).join("../crates/printdecl/out/printdecl"),
         PathBuf::from,
     );
     println!();
     if !ours.is_file() {
         println!(
-            "there is no {}: run `rt check printdecl` to have it timed",
+            "there is no {}: run `rt run` in crates/printdecl to have it timed",
             ours.display()
         );
         return;

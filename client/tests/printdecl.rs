@@ -1,7 +1,7 @@
 //! Runs the program `printdecl` on whole files and compares what it prints with the reference.
 //!
-//! The program is `../target/bin/printdecl`, which the script `../printdecl` builds if it is missing,
-//! or another one named by `TILLERCORAL_PRINTDECL`.
+//! The program is `../crates/printdecl/out/printdecl`, which the script `../printdecl` builds if it is
+//! missing, or another one named by `TILLERCORAL_PRINTDECL`.
 
 use std::fs::{self, File};
 use std::io::{Read, Write};
@@ -33,7 +33,7 @@ fn program() -> PathBuf {
 
 /// The repository's own program. The first test that asks for it has it built, the others wait.
 static BUILT_PROGRAM: LazyLock<PathBuf> = LazyLock::new(|| {
-    let path = in_repository("target/bin/printdecl");
+    let path = in_repository("crates/printdecl/out/printdecl");
     if !path.is_file() {
         let ended = Command::new(in_repository("printdecl"))
             .arg(in_repository("examples/gauge.bin"))
@@ -73,7 +73,7 @@ fn output_of(write: impl FnOnce(&mut ChildStdin) -> io::Result<()> + Send) -> Ve
             .expect("the output can be read");
     });
     let status = child.wait().expect("printdecl ends");
-    assert!(status.code().is_some(), "printdecl was killed: {status}");
+    assert_eq!(status.code(), Some(0), "{status}");
     output
 }
 
@@ -372,6 +372,7 @@ fn a_read_error_prints_nothing() {
         .expect("printdecl starts");
     assert_eq!(output.stdout, b"");
     assert_ne!(output.stderr, b"", "the failure must be told");
+    assert_eq!(output.status.code(), Some(1));
 }
 
 /// A device that takes nothing.
@@ -388,6 +389,7 @@ fn a_write_error_is_told() {
         .output()
         .expect("printdecl starts");
     assert_ne!(output.stderr, b"", "the failure must be told");
+    assert_eq!(output.status.code(), Some(1));
 }
 
 /// The script gives both as a status, and a refusal as an answer.

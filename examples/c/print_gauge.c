@@ -1,8 +1,8 @@
 /*
  * Prints a declaration, and makes every other call once.
  *
- *   rt staticlib capi
- *   cc -std=c99 -Iinclude examples/c/print_gauge.c target/staticlib/libcapi.a -o print_gauge
+ *   (cd crates/capi && rt lib)
+ *   cc -std=c99 -Iinclude examples/c/print_gauge.c crates/capi/out/libcapi.a -o print_gauge
  *   ./print_gauge
  *
  * It prints what stands in print_gauge.txt.

@@ -2,7 +2,7 @@
 //!
 //! ```text
 //! cargo run --release --bin encode -- ../examples/gauge.txt ../examples/gauge.bin
-//! ../target/bin/printdecl < ../examples/gauge.bin
+//! ../crates/printdecl/out/printdecl < ../examples/gauge.bin
 //! ```
 //!
 //! The form, in short (the module `tillercoral::source` has all of it):

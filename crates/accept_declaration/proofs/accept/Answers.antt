@@ -2,7 +2,6 @@ use Rattle.encoding.specs.Scans.{ended}
 use Rattle.accept_declaration.specs.Ends.{held_at}
 use Rattle.accept_declaration.specs.declared.Whole.{Whole}
 use mathlib.Core.Path.{◌≡◌, subst, sym}
-use borrow.Author.Rules.{rules}
 use Rattle.accept_declaration.proofs.accept.Goals as goal
 
 pub returns-in-AType : goal.returns-in-AType

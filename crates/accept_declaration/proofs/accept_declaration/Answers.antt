@@ -7,7 +7,6 @@ use Rattle.accept_declaration.specs.Ends.{enum_at, struct_at, synonym_at}
 use Rattle.declaration_walk.proofs.Scans.{ended-made}
 use Rattle.accept_declaration.proofs.Ends.{head-unknown, use-ended}
 use mathlib.Core.Path.{◌∙◌, sym}
-use borrow.Author.Rules.{rules}
 use Rattle.accept_declaration.proofs.accept_declaration.Goals as goal
 
 pub returns-in-25 : goal.returns-in-25

@@ -1,7 +1,6 @@
 use Rattle.accept_declaration.specs.Ends.{case_at}
 use Rattle.declaration_walk.proofs.Scans.{counted-ended}
 use mathlib.Core.Path.{◌∙◌, sym}
-use borrow.Author.Rules.{rules}
 use Rattle.accept_declaration.proofs.scan_cases.Goals as goal
 
 pub returns-in-Word : goal.returns-in-Word

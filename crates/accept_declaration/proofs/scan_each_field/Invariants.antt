@@ -1,9 +1,5 @@
 use Rattle.accept_declaration.specs.Ends.{each_field_end}
-use Rattle.accept_declaration.proofs.Ends.{fields-each}
-use Rattle.declaration_walk.proofs.Scans.{each-ended, each_next, each-refused}
-use mathlib.Core.Path.{◌≡◌, refl}
-use native.Mathlib.Omega.{arith}
-use borrow.Author.Rules.{rules}
+use mathlib.Core.Path.{◌≡◌}
 use Rattle.accept_declaration.proofs.scan_each_field.Given as goal
 
 abbrev pub invariant-loop-left : goal.invariant-loop-left

@@ -1,8 +1,6 @@
-use Rattle.encoding.specs.Scans.{ended}
 use Rattle.accept_declaration.specs.Ends.{parameter_at}
-use Rattle.encoding.specs.Declarations.{read_list}
 use Rattle.declaration_walk.proofs.Scans.{each-ended, each_next, each-refused, list-each}
-use mathlib.Core.Path.{◌≡◌, refl}
+use mathlib.Core.Path.{refl}
 use native.Mathlib.Omega.{arith}
 use borrow.Author.Rules.{rules}
 use Rattle.accept_declaration.proofs.scan_each_parameter.Goals as goal

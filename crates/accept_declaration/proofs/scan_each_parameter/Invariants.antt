@@ -1,10 +1,7 @@
 use Rattle.encoding.specs.Scans.{ended}
 use Rattle.accept_declaration.specs.Ends.{parameter_at}
 use Rattle.encoding.specs.Declarations.{read_list}
-use Rattle.declaration_walk.proofs.Scans.{each-ended, each_next, each-refused, list-each}
-use mathlib.Core.Path.{◌≡◌, refl}
-use native.Mathlib.Omega.{arith}
-use borrow.Author.Rules.{rules}
+use mathlib.Core.Path.{◌≡◌}
 use Rattle.accept_declaration.proofs.scan_each_parameter.Given as goal
 
 abbrev pub invariant-loop-left : goal.invariant-loop-left

@@ -1,6 +1,5 @@
 use Rattle.accept_declaration.proofs.Ends.{enum-ended}
 use mathlib.Core.Path.{◌∙◌, sym}
-use borrow.Author.Rules.{rules}
 use Rattle.accept_declaration.proofs.scan_enum.Goals as goal
 
 pub returns-in-At : goal.returns-in-At

@@ -1,6 +1,5 @@
 use Rattle.accept_declaration.proofs.Ends.{field-ended, named-member, nameless-member}
 use mathlib.Core.Path.{◌∙◌, sym}
-use borrow.Author.Rules.{rules}
 use Rattle.accept_declaration.proofs.scan_field.Goals as goal
 
 pub returns-then-kind-eq-NAMED : goal.returns-then-kind-eq-NAMED

@@ -1,6 +1,5 @@
 use Rattle.accept_declaration.proofs.Ends.{formal-ended}
 use mathlib.Core.Path.{◌∙◌, sym}
-use borrow.Author.Rules.{rules}
 use Rattle.accept_declaration.proofs.scan_formal.Goals as goal
 
 pub returns-in-Word : goal.returns-in-Word

@@ -4,7 +4,6 @@ use Rattle.encoding.proofs.Reading.{scan-stop, word_got, word-stop}
 use Rattle.declaration_walk.specs.Walks.{read_attributes}
 use Rattle.declaration_walk.proofs.Scans.{end-got}
 use mathlib.Core.Path.{◌∙◌}
-use borrow.Author.Rules.{rules}
 use Rattle.accept_declaration.proofs.scan_heading.Goals as goal
 
 pub returns-in-At : goal.returns-in-At

@@ -1,6 +1,5 @@
 use Rattle.accept_declaration.proofs.Ends.{parameter-ended}
 use mathlib.Core.Path.{◌∙◌, sym}
-use borrow.Author.Rules.{rules}
 use Rattle.accept_declaration.proofs.scan_parameter.Goals as goal
 
 pub returns-in-Both : goal.returns-in-Both

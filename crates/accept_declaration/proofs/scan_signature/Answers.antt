@@ -1,7 +1,6 @@
 use Rattle.accept_declaration.specs.Ends.{parameter_at}
 use Rattle.accept_declaration.proofs.Ends.{signature-ended}
 use mathlib.Core.Path.{◌∙◌, sym}
-use borrow.Author.Rules.{rules}
 use Rattle.accept_declaration.proofs.scan_signature.Goals as goal
 
 pub returns-in-Both : goal.returns-in-Both

@@ -1,7 +1,6 @@
 use Rattle.encoding.specs.Reading.{read_below}
 use Rattle.encoding.specs.Heads.{read_path}
 use Rattle.encoding.proofs.Reading.{path-got, path-stop, word_got, word-stop}
-use borrow.Author.Rules.{rules}
 use Rattle.accept_declaration.proofs.scan_use.Goals as goal
 
 pub returns-in-OwnPath : goal.returns-in-OwnPath

@@ -1,13 +1,9 @@
-use Prim.Native.Nat.{◌-◌}
-use mathlib.Core.Path.{◌∙◌, ◌≡◌, ap, refl, sym}
-use lib.ListN.{length}
+use mathlib.Core.Path.{◌∙◌, ap, refl, sym}
 use Rattle.encoding.specs.Scans.{ended}
-use Rattle.text_measure.specs.Levels.{Kept, rest_of}
 use Rattle.text_measure.proofs.Steps.{came-to-end, was-halted, went_on}
-use Rattle.accept_type.specs.Walks.{pass_of, pass_levels, pass_step}
+use Rattle.accept_type.specs.Walks.{pass_step}
 use Rattle.accept_type.proofs.Walks.{start, zero-levels, end-early}
 use native.Mathlib.Omega.{arith}
-use borrow.Author.Rules.{rules}
 use Rattle.accept_type.proofs.accept_type.Goals as goal
 
 pub returns-then-words-at : goal.returns-then-words-at

@@ -1,13 +1,8 @@
 use Prim.Native.Nat.{◌-◌}
-use mathlib.Core.Path.{◌∙◌, ◌≡◌, ap, refl, sym}
+use mathlib.Core.Path.{◌≡◌}
 use lib.ListN.{length}
-use Rattle.encoding.specs.Scans.{ended}
 use Rattle.text_measure.specs.Levels.{Kept, rest_of}
-use Rattle.text_measure.proofs.Steps.{came-to-end, was-halted, went_on}
-use Rattle.accept_type.specs.Walks.{pass_of, pass_levels, pass_step}
-use Rattle.accept_type.proofs.Walks.{start, zero-levels, end-early}
-use native.Mathlib.Omega.{arith}
-use borrow.Author.Rules.{rules}
+use Rattle.accept_type.specs.Walks.{pass_of, pass_levels}
 use Rattle.accept_type.proofs.accept_type.Given as goal
 
 abbrev pub invariant-loop-p : goal.invariant-loop-p

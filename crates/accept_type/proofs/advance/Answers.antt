@@ -4,7 +4,6 @@ use Rattle.accept_type.specs.Walks.{pass_of, pass_levels}
 use Rattle.accept_type.proofs.Scans.{scanned-within, leaf-here, node-here, none_here}
 use mathlib.Core.Path.{refl, ap}
 use native.Mathlib.Omega.{arith}
-use borrow.Author.Rules.{rules}
 use Rattle.accept_type.proofs.advance.Goals as goal
 
 pub scan_own-requires : goal.scan_own-requires

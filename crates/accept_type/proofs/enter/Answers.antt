@@ -1,7 +1,6 @@
 use Prim.Native.Nat.{◌-◌}
 use mathlib.Core.Path.{refl}
 use Rattle.accept_type.proofs.Walks.{level-set}
-use borrow.Author.Rules.{rules}
 use Rattle.accept_type.proofs.enter.Goals as goal
 
 pub returns : goal.returns

@@ -4,7 +4,6 @@ use Rattle.encoding.specs.Heads.{head_after}
 use Rattle.encoding.proofs.Heads.{head-none}
 use Rattle.accept_type.proofs.Scans.{scanned-node, scanned-stop, scanned-as}
 use native.Mathlib.Omega.{arith}
-use borrow.Author.Rules.{rules}
 use Rattle.accept_type.proofs.own_after.Goals as goal
 
 pub own_path-requires : goal.own_path-requires

@@ -6,7 +6,6 @@ use Rattle.text_measure.specs.Lengths.{worded}
 use Rattle.text_measure.proofs.Scans.{counted-more}
 use Rattle.accept_type.specs.Walks.{node, none}
 use native.Mathlib.Omega.{arith}
-use borrow.Author.Rules.{rules}
 use Rattle.accept_type.proofs.own_more.Goals as goal
 
 pub returns-in-Word : goal.returns-in-Word

@@ -3,7 +3,6 @@ use Rattle.encoding.specs.declared.Head.TheVariants.{Name}
 use Rattle.encoding.specs.Reading.{read_below}
 use Rattle.text_measure.proofs.Scans.{worded-got, worded-stop}
 use Rattle.accept_type.specs.Walks.{leaf, none}
-use borrow.Author.Rules.{rules}
 use Rattle.accept_type.proofs.own_name.Goals as goal
 
 pub returns-in-Word : goal.returns-in-Word

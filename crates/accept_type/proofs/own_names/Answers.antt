@@ -1,9 +1,9 @@
-use Prim.Native.Nat.{◌+◌, ◌-◌}
+use Prim.Native.Nat.{◌+◌}
 use mathlib.Core.Path.{refl}
 use Rattle.encoding.specs.declared.Head.TheVariants.{FromPath}
 use Rattle.encoding.specs.Reading.{read_below}
 use Rattle.encoding.proofs.Reading.{word_got, word-stop}
-use Rattle.text_measure.proofs.PathNames.{NamesTo, names-on, path-halt, path-all}
+use Rattle.text_measure.proofs.PathNames.{names-on, path-halt, path-all}
 use Rattle.text_measure.proofs.Scans.{below-got}
 use Rattle.accept_type.proofs.Scans.{scanned-leaf, scanned-stop}
 use native.Mathlib.Omega.{arith}

@@ -5,7 +5,6 @@ use Rattle.encoding.proofs.Reading.{word_got, word-stop}
 use Rattle.text_measure.specs.Lengths.{worded, exact}
 use Rattle.accept_type.specs.Walks.{node, none}
 use native.Mathlib.Omega.{arith}
-use borrow.Author.Rules.{rules}
 use Rattle.accept_type.proofs.own_one.Goals as goal
 
 pub returns-in-Word : goal.returns-in-Word

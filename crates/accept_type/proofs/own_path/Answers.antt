@@ -7,7 +7,6 @@ use Rattle.text_measure.specs.Lengths.{head_of_path}
 use Rattle.text_measure.proofs.Scans.{path_names}
 use Rattle.accept_type.proofs.Scans.{scanned-stop, scanned-as}
 use native.Mathlib.Omega.{arith}
-use borrow.Author.Rules.{rules}
 use Rattle.accept_type.proofs.own_path.Goals as goal
 
 pub own_names-requires : goal.own_names-requires

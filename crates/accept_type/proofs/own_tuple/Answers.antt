@@ -3,7 +3,6 @@ use Rattle.encoding.specs.Reading.{read_word}
 use Rattle.text_measure.proofs.Scans.{worded-got, worded-stop, counted-some}
 use Rattle.accept_type.specs.Walks.{leaf, node, none}
 use native.Mathlib.Omega.{arith}
-use borrow.Author.Rules.{rules}
 use Rattle.accept_type.proofs.own_tuple.Goals as goal
 
 pub returns-then-value-eq0 : goal.returns-then-value-eq0

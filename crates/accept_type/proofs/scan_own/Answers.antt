@@ -2,7 +2,6 @@ use mathlib.Core.Path.{refl}
 use Rattle.encoding.proofs.Heads.{head_at, head-end, plain-head}
 use Rattle.accept_type.specs.Walks.{leaf, none}
 use Rattle.accept_type.proofs.Scans.{scanned-as}
-use borrow.Author.Rules.{rules}
 use Rattle.accept_type.proofs.scan_own.Goals as goal
 
 pub returns-then-words-at : goal.returns-then-words-at

@@ -1,8 +1,5 @@
-use mathlib.Core.Path.{ap}
 use Rattle.text_measure.specs.Levels.{Outward}
-use Rattle.text_measure.proofs.Steps.{outward-here, outward-more}
 use Rattle.accept_type.specs.Walks.{pass_of, pass_levels}
-use native.Mathlib.Omega.{arith}
 use Rattle.accept_type.proofs.settle.Given as goal
 
 abbrev pub invariant-loop-p : goal.invariant-loop-p

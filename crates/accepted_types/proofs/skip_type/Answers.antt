@@ -1,6 +1,4 @@
-use Prim.Native.Nat.{◌-◌}
-use lib.ListN.{length}
-use Rattle.accepted_types.proofs.Skipping.{Skipping, skip-start, head-due, skip-words, skip-end}
+use Rattle.accepted_types.proofs.Skipping.{skip-start, head-due, skip-words, skip-end}
 use native.Mathlib.Omega.{arith}
 use Rattle.accepted_types.proofs.skip_type.Goals as goal
 

@@ -1,7 +1,6 @@
 use Prim.Native.Nat.{◌-◌}
 use lib.ListN.{length}
-use Rattle.accepted_types.proofs.Skipping.{Skipping, skip-start, head-due, skip-words, skip-end}
-use native.Mathlib.Omega.{arith}
+use Rattle.accepted_types.proofs.Skipping.{Skipping}
 use Rattle.accepted_types.proofs.skip_type.Given as goal
 
 abbrev pub invariant-loop-due : goal.invariant-loop-due

@@ -1,5 +1,4 @@
 use native.Mathlib.Omega.{arith}
-use borrow.Author.Rules.{rules}
 use Rattle.answer_numbers.proofs.part_number.Goals as goal
 
 pub overflow_mul-result : goal.overflow_mul-result

@@ -17,4 +17,4 @@ returns-then-write c = laid-wrote c.if-write.true c.put_part.ensures
 pub returns : goal.returns
 returns c =
     let size : length (take c.args.count (drop c.args.start c.args.bytes.now)) ≡ c.args.count = part_length c.args.bytes.now c.args.start c.args.count c.requires.0 in
-    laid-size c.if-write.false c.count_few.ensures (sym (size))
+    laid-size c.if-write.false c.count_few.ensures (sym size)

@@ -1,4 +1,3 @@
-use borrow.Author.Rules.{rules}
 use Rattle.capi.proofs.tillercoral_can_read_without_clone.Goals as goal
 
 pub returns : goal.returns

@@ -1,6 +1,5 @@
 use mathlib.Core.Path.{ap}
 use Rattle.answer_numbers.specs.Numbers.{text_call}
-use borrow.Author.Rules.{rules}
 use Rattle.capi.proofs.tillercoral_declaration_text.Goals as goal
 
 pub returns : goal.returns

@@ -1,4 +1,3 @@
-use borrow.Author.Rules.{rules}
 use Rattle.capi.proofs.tillercoral_ends_with_name_that_can_accept_generics.Goals as goal
 
 pub returns : goal.returns

@@ -1,6 +1,5 @@
 use Rattle.capi.proofs.Small.{part_small}
 use Rattle.shapes.proofs.Parts.{placebo-keeps}
-use borrow.Author.Rules.{rules}
 use Rattle.capi.proofs.tillercoral_extract_maybe_placebo.Goals as goal
 
 pub part_number-requires : goal.part_number-requires

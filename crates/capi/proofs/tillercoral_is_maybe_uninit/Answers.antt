@@ -1,4 +1,3 @@
-use borrow.Author.Rules.{rules}
 use Rattle.capi.proofs.tillercoral_is_maybe_uninit.Goals as goal
 
 pub returns : goal.returns

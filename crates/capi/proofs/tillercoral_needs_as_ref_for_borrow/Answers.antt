@@ -1,4 +1,3 @@
-use borrow.Author.Rules.{rules}
 use Rattle.capi.proofs.tillercoral_needs_as_ref_for_borrow.Goals as goal
 
 pub returns : goal.returns

@@ -1,6 +1,5 @@
 use Rattle.capi.proofs.Small.{part_small}
 use Rattle.shapes.proofs.Parts.{pointer-keeps}
-use borrow.Author.Rules.{rules}
 use Rattle.capi.proofs.tillercoral_object_or_pointer_underlying.Goals as goal
 
 pub part_number-requires : goal.part_number-requires

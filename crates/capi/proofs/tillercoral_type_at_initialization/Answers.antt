@@ -1,6 +1,5 @@
 use Rattle.answer_numbers.specs.Numbers.{rebuild_call}
 use mathlib.Core.Path.{ap}
-use borrow.Author.Rules.{rules}
 use Rattle.capi.proofs.tillercoral_type_at_initialization.Goals as goal
 
 pub returns : goal.returns

@@ -1,4 +1,4 @@
-use Rattle.std.proofs.Common.{◌≡◌, ◌≤◌, List, length, arith, rules, sym}
+use Rattle.std.proofs.Common.{◌≤◌, length, arith, sym}
 use lib.Seq.{length_front, length-take-le}
 use Rattle.rast.specs.Bytes.{ascii}
 use Rattle.text_calls.proofs.Calls.{within}

@@ -1,7 +1,6 @@
 use Rattle.file.proofs.Printing.{one-digit, two_digits}
 use lib.ListN.{length-set}
 use native.Mathlib.Omega.{arith}
-use borrow.Author.Rules.{rules}
 use Rattle.file.proofs.put_decimal.Goals as goal
 
 pub returns-then-n-lt10 : goal.returns-then-n-lt10

@@ -2,7 +2,7 @@ use Rattle.known_paths.proofs.Finding.{argument-class, argument-count, argument-
 use Rattle.encoding.proofs.Inside.{head-lies}
 use Rattle.encoding.specs.Tables.{name_count}
 use borrow.Enum.Refused.{opened}
-use Rattle.std.proofs.Common.{refl, rules}
+use Rattle.std.proofs.Common.{refl}
 use Rattle.known_paths.proofs.first_argument.Goals as goal
 
 pub returns-in_default : goal.returns-in_default

@@ -1,5 +1,4 @@
 use Rattle.known_paths.specs.Classes.{arity, name_count_of}
-use Rattle.std.proofs.Common.{rules}
 use Rattle.known_paths.proofs.form_of.Goals as goal
 
 pub returns-in-Counted : goal.returns-in-Counted

@@ -1,6 +1,6 @@
 use Rattle.rast.specs.Bytes.{Bytes, ascii, begins, same}
 use Rattle.known_paths.proofs.Paths.{begins-long, begins-short, fixed-no-array}
-use Rattle.std.proofs.Common.{sym, ap, ◌∙◌, arith, rules}
+use Rattle.std.proofs.Common.{sym, ap, ◌∙◌, arith}
 use Rattle.known_paths.proofs.is_array_name.Goals as goal
 
 pub returns-then-name-lt-FIRST_PAIR : goal.returns-then-name-lt-FIRST_PAIR

@@ -2,7 +2,7 @@ use Rattle.encoding.specs.Tables.{fixed_names}
 use Rattle.rast.specs.Bytes.{ascii}
 use Rattle.known_paths.specs.Paths.{ArcPath, RcPath}
 use Rattle.known_paths.proofs.Paths.{counted-no, counted-yes}
-use Rattle.std.proofs.Common.{refl, arith, rules}
+use Rattle.std.proofs.Common.{refl, arith}
 use Rattle.known_paths.proofs.is_counted.Goals as goal
 
 pub is_in_std-requires : goal.is_in_std-requires

@@ -3,7 +3,7 @@ use Rattle.rast.specs.Bytes.{ascii}
 use Rattle.known_paths.specs.Classes.{in_class, name_count_of}
 use Rattle.known_paths.specs.Paths.{BoxPath, MaybeUninitPath}
 use Rattle.known_paths.proofs.Paths.{class-member}
-use Rattle.std.proofs.Common.{refl, ap, ◌∙◌, arith, rules}
+use Rattle.std.proofs.Common.{refl, ap, ◌∙◌, arith}
 use Rattle.known_paths.proofs.is_in_class.Goals as goal
 
 pub is_counted-requires : goal.is_counted-requires

@@ -1,7 +1,7 @@
 use Rattle.encoding.specs.Tables.{fixed_names}
 use Rattle.rast.specs.Bytes.{ascii}
 use Rattle.known_paths.proofs.Paths.{runtime-count, runtime-name, runtime-root}
-use Rattle.std.proofs.Common.{refl, arith, rules}
+use Rattle.std.proofs.Common.{refl, arith}
 use Rattle.known_paths.proofs.is_in_runtime.Goals as goal
 
 pub returns-then-path-ne-GLOBAL : goal.returns-then-path-ne-GLOBAL

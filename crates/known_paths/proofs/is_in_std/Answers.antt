@@ -2,7 +2,6 @@ use Rattle.std.proofs.Common.{◌+◌, sym, refl, arith, rules}
 use Rattle.encoding.specs.Tables.{fixed_names, name_bytes, name_count}
 use Rattle.rast.specs.Bytes.{ascii}
 use Rattle.known_paths.proofs.Paths.{std-count, std-last, std-no-first, std-no-second, std-root}
-use borrow.Author.Tests.{not-false, not-true}
 use Rattle.known_paths.proofs.is_in_std.Goals as goal
 
 pub returns-then-path-ne-GLOBAL : goal.returns-then-path-ne-GLOBAL

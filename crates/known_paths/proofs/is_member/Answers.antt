@@ -1,7 +1,7 @@
 use Rattle.encoding.specs.Tables.{fixed_names}
 use Rattle.rast.specs.Bytes.{◌and◌, among, ascii, same}
 use Rattle.known_paths.specs.Classes.{member_in}
-use Rattle.std.proofs.Common.{refl, arith, rules}
+use Rattle.std.proofs.Common.{refl, arith}
 use Rattle.known_paths.proofs.is_member.Goals as goal
 
 pub is_name-requires : goal.is_name-requires

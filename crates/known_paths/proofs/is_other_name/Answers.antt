@@ -1,6 +1,6 @@
 use Rattle.rast.specs.Bytes.{Bytes, same}
 use Rattle.known_paths.proofs.Paths.{fixed-other}
-use Rattle.std.proofs.Common.{sym, ap, ◌∙◌, arith, rules}
+use Rattle.std.proofs.Common.{sym, ap, ◌∙◌, arith}
 use Rattle.known_paths.proofs.is_other_name.Goals as goal
 
 pub returns-then-name-lt-FIRST_PAIR : goal.returns-then-name-lt-FIRST_PAIR

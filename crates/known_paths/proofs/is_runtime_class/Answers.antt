@@ -1,7 +1,6 @@
 use Rattle.std.proofs.Common.{◌+◌, arith}
 use Rattle.known_paths.specs.Classes.{member_in}
 use Rattle.known_paths.proofs.Paths.{runtime-no, runtime-yes}
-use borrow.Author.Tests.{not-false, not-true}
 use Rattle.known_paths.proofs.is_runtime_class.Goals as goal
 
 pub is_in_runtime-requires : goal.is_in_runtime-requires

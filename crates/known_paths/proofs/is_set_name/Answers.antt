@@ -1,7 +1,7 @@
 use Rattle.encoding.specs.Tables.{fixed_names}
 use Rattle.rast.specs.Bytes.{◌and◌, among, ascii, same}
 use Rattle.known_paths.proofs.Paths.{set_first, set-second, set-third}
-use Rattle.std.proofs.Common.{refl, rules}
+use Rattle.std.proofs.Common.{refl}
 use Rattle.known_paths.proofs.is_set_name.Goals as goal
 
 pub is_other_name-requires : goal.is_other_name-requires

@@ -1,7 +1,6 @@
 use Rattle.shapes.proofs.Answers.{accepted, ready}
 use Rattle.shapes.specs.Parts.{ExpandAt}
 use Rattle.parts.proofs.Spans.{expanded-end, expanded-given, part-forward, part-refused}
-use borrow.Author.Rules.{rules}
 use Rattle.parts.proofs.expand_at.Goals as goal
 
 pub expand-start-requires : goal.expand-start-requires

@@ -2,7 +2,6 @@ use Rattle.known_paths.specs.Classes.{arity, first, in_class, is_of}
 use Rattle.shapes.specs.Parts.{BoxUnderlying, ExtractMaybePlacebo, RcUnderlying}
 use Rattle.shapes.specs.Shapes.{IsBox, IsRc}
 use Rattle.parts.proofs.Spans.{expanded-finds, owned-finds, removed-finds}
-use borrow.Author.Rules.{rules}
 use Rattle.parts.proofs.find.Goals as goal
 
 pub remove_wrappers-requires : goal.remove_wrappers-requires

@@ -1,7 +1,6 @@
 use Rattle.parts.specs.Asked.{part_for}
 use Rattle.known_paths.proofs.Finding.{found-readable}
 use Rattle.parts.proofs.Spans.{part-forward, part-keeps, span-found, span_none}
-use borrow.Author.Rules.{rules}
 use Rattle.parts.proofs.part_at.Goals as goal
 
 pub returns-in_default : goal.returns-in_default

@@ -1,7 +1,6 @@
 use Rattle.parts.specs.Asked.{part_for}
 use Rattle.shapes.proofs.Answers.{accepted, ready}
 use Rattle.parts.proofs.Spans.{part-given, part-refused}
-use borrow.Author.Rules.{rules}
 use Rattle.parts.proofs.part_in.Goals as goal
 
 pub part_at-requires : goal.part_at-requires

@@ -24,22 +24,22 @@ rebuild_type-requires c =
 pub returns-in-To : goal.returns-in-To
 returns-in-To c =
     let own : let s = c in OwnLaid s.args.words.now s.args.pairs.now s.args.walk c.in-OwnWords.next = own-laid c.requires c.name_count.ensures c.next_piece.ensures c.in-OwnWords.is in
-    own-further c.requires (own) c.add_words.ensures c.in-To.is
+    own-further c.requires own c.add_words.ensures c.in-To.is
 
 pub returns-in-Over : goal.returns-in-Over
 returns-in-Over c =
     let own : let s = c in OwnLaid s.args.words.now s.args.pairs.now s.args.walk c.in-OwnWords.next = own-laid c.requires c.name_count.ensures c.next_piece.ensures c.in-OwnWords.is in
-    own-full c.requires (own) c.add_words.ensures c.in-Over.is
+    own-full c.requires own c.add_words.ensures c.in-Over.is
 
 pub returns-in-Done : goal.returns-in-Done
 returns-in-Done c =
     let due : let s = c in TypeLeft s.args.words.now s.args.pairs.now s.args.walk c.in-TypeDue.field-0 c.in-TypeDue.next = type-left c.requires c.name_count.ensures c.next_piece.ensures c.in-TypeDue.is in
-    rw c.move_to.ensures (type-further c.requires (due) c.rebuild_type.ensures c.in-Done.is)
+    rw c.move_to.ensures (type-further c.requires due c.rebuild_type.ensures c.in-Done.is)
 
 pub returns-in-Full : goal.returns-in-Full
 returns-in-Full c =
     let due : let s = c in TypeLeft s.args.words.now s.args.pairs.now s.args.walk c.in-TypeDue.field-0 c.in-TypeDue.next = type-left c.requires c.name_count.ensures c.next_piece.ensures c.in-TypeDue.is in
-    type-full c.requires (due) c.rebuild_type.ensures c.in-Full.is
+    type-full c.requires due c.rebuild_type.ensures c.in-Full.is
 
 pub returns-in-Ended : goal.returns-in-Ended
 returns-in-Ended c = nothing_left c.requires c.name_count.ensures c.next_piece.ensures c.in-Ended.is

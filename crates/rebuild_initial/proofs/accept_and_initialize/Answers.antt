@@ -11,4 +11,4 @@ initialize-requires c =
 pub returns-in-Passed : goal.returns-in-Passed
 returns-in-Passed c =
     let whole : FillsWhole c.args.words.now c.args.pairs.now false = let a = c.args in lower-whole a.words.now a.pairs.now a.text.now c.accept_within.ensures c.in-Passed.is in
-    let a = c.args in whole-filled a.words.now a.pairs.now a.text.now (whole) c.initialize.ensures
+    let a = c.args in whole-filled a.words.now a.pairs.now a.text.now whole c.initialize.ensures

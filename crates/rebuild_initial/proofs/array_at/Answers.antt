@@ -36,12 +36,12 @@ expand-start-requires c = let s = c in let a = s.args in type-readable a.words.n
 pub offset_bounds-words-start : goal.offset_bounds-words-start
 offset_bounds-words-start c =
     let behind : Readable (type_at c.args.words.now c.args.pairs.now c.args.text.now c.expand-start.result) = let s = c in let a = s.args in expanded-readable a.words.now a.pairs.now a.text.now a.at s.requires.1 c.expand-start.ensures in
-    let a = c.args in let h = word-here a.words.now a.pairs.now a.text.now _ (behind) in search rules
+    let a = c.args in let h = word-here a.words.now a.pairs.now a.text.now _ behind in search rules
 
 pub bounds-words-start : goal.bounds-words-start
 bounds-words-start c =
     let behind : Readable (type_at c.args.words.now c.args.pairs.now c.args.text.now c.expand-start.result) = let s = c in let a = s.args in expanded-readable a.words.now a.pairs.now a.text.now a.at s.requires.1 c.expand-start.ensures in
-    let a = c.args in word-here a.words.now a.pairs.now a.text.now _ (behind)
+    let a = c.args in word-here a.words.now a.pairs.now a.text.now _ behind
 
 pub returns-then-words-start-ne-TYPE_APP : goal.returns-then-words-start-ne-TYPE_APP
 returns-then-words-start-ne-TYPE_APP c =

@@ -11,7 +11,7 @@ initialize-requires c =
 pub returns-in-Passed : goal.returns-in-Passed
 returns-in-Passed c =
     let whole : FillsWhole c.args.words.now c.args.pairs.now true = let a = c.args in deepest-whole a.words.now a.pairs.now a.text.now c.accept_within.ensures c.in-Passed.is in
-    let a = c.args in whole-filled a.words.now a.pairs.now a.text.now (whole) c.initialize.ensures
+    let a = c.args in whole-filled a.words.now a.pairs.now a.text.now whole c.initialize.ensures
 
 pub returns-in-Failed : goal.returns-in-Failed
 returns-in-Failed c =

@@ -70,7 +70,7 @@ pub returns-then-words-base-ne-GLOBAL : goal.returns-then-words-base-ne-GLOBAL
 returns-then-words-base-ne-GLOBAL c =
     let own : let a = c.args in InsidePath (name_count a.pairs.now) a.words.now (record { root = get_or a.words.now (a.at + 2 + 1) 0; start = a.at + 2 + 3; count = get_or a.words.now (a.at + 2 + 2) 0 }) = let s = c in let a = s.args in (path-here a.words.now a.pairs.now a.text.now a.at s.requires.1 c.if-words-at-ne-TYPE_APP.false c.if-words-base-ne-TYPE_FROM_PATH.false).own in
     let s = c in let a = s.args in
-    runtime-path a.words.now a.pairs.now a.text.now a.at s.requires.1 c.if-words-at-ne-TYPE_APP.false c.if-words-at-ne1.false c.if-words-base-ne-TYPE_FROM_PATH.false (runtime-root a.words.now a.pairs.now a.text.now _ (own) c.if-words-base-ne-GLOBAL.true)
+    runtime-path a.words.now a.pairs.now a.text.now a.at s.requires.1 c.if-words-at-ne-TYPE_APP.false c.if-words-at-ne1.false c.if-words-base-ne-TYPE_FROM_PATH.false (runtime-root a.words.now a.pairs.now a.text.now _ own c.if-words-base-ne-GLOBAL.true)
 
 pub overflow_add-base-3 : goal.overflow_add-base-3
 overflow_add-base-3 c =
@@ -91,33 +91,33 @@ pub returns-then-words-base-ne2 : goal.returns-then-words-base-ne2
 returns-then-words-base-ne2 c =
     let own : let a = c.args in InsidePath (name_count a.pairs.now) a.words.now (record { root = get_or a.words.now (a.at + 2 + 1) 0; start = a.at + 2 + 3; count = get_or a.words.now (a.at + 2 + 2) 0 }) = let s = c in let a = s.args in (path-here a.words.now a.pairs.now a.text.now a.at s.requires.1 c.if-words-at-ne-TYPE_APP.false c.if-words-base-ne-TYPE_FROM_PATH.false).own in
     let s = c in let a = s.args in
-    runtime-path a.words.now a.pairs.now a.text.now a.at s.requires.1 c.if-words-at-ne-TYPE_APP.false c.if-words-at-ne1.false c.if-words-base-ne-TYPE_FROM_PATH.false (runtime-count a.words.now a.pairs.now a.text.now _ (own) c.if-words-base-ne2.true)
+    runtime-path a.words.now a.pairs.now a.text.now a.at s.requires.1 c.if-words-at-ne-TYPE_APP.false c.if-words-at-ne1.false c.if-words-base-ne-TYPE_FROM_PATH.false (runtime-count a.words.now a.pairs.now a.text.now _ own c.if-words-base-ne2.true)
 
 pub overflow_add-base-4 : goal.overflow_add-base-4
 overflow_add-base-4 c =
     let own : let a = c.args in InsidePath (name_count a.pairs.now) a.words.now (record { root = get_or a.words.now (a.at + 2 + 1) 0; start = a.at + 2 + 3; count = get_or a.words.now (a.at + 2 + 2) 0 }) = let s = c in let a = s.args in (path-here a.words.now a.pairs.now a.text.now a.at s.requires.1 c.if-words-at-ne-TYPE_APP.false c.if-words-base-ne-TYPE_FROM_PATH.false).own in
-    let h = (own).inside in let n = c.if-words-base-ne2.false in search rules
+    let h = own.inside in let n = c.if-words-base-ne2.false in search rules
 
 pub offset_bounds-words-base-4 : goal.offset_bounds-words-base-4
 offset_bounds-words-base-4 c =
     let own : let a = c.args in InsidePath (name_count a.pairs.now) a.words.now (record { root = get_or a.words.now (a.at + 2 + 1) 0; start = a.at + 2 + 3; count = get_or a.words.now (a.at + 2 + 2) 0 }) = let s = c in let a = s.args in (path-here a.words.now a.pairs.now a.text.now a.at s.requires.1 c.if-words-at-ne-TYPE_APP.false c.if-words-base-ne-TYPE_FROM_PATH.false).own in
-    let h = (own).inside in let n = c.if-words-base-ne2.false in search rules
+    let h = own.inside in let n = c.if-words-base-ne2.false in search rules
 
 pub bounds-words-base-4 : goal.bounds-words-base-4
 bounds-words-base-4 c =
     let own : let a = c.args in InsidePath (name_count a.pairs.now) a.words.now (record { root = get_or a.words.now (a.at + 2 + 1) 0; start = a.at + 2 + 3; count = get_or a.words.now (a.at + 2 + 2) 0 }) = let s = c in let a = s.args in (path-here a.words.now a.pairs.now a.text.now a.at s.requires.1 c.if-words-at-ne-TYPE_APP.false c.if-words-base-ne-TYPE_FROM_PATH.false).own in
-    omega (arith, (own).inside, c.if-words-base-ne2.false)
+    omega (arith, own.inside, c.if-words-base-ne2.false)
 
 pub is_name-requires : goal.is_name-requires
 unfolding ascii fixed_names
 is_name-requires c =
     let own : let a = c.args in InsidePath (name_count a.pairs.now) a.words.now (record { root = get_or a.words.now (a.at + 2 + 1) 0; start = a.at + 2 + 3; count = get_or a.words.now (a.at + 2 + 2) 0 }) = let s = c in let a = s.args in (path-here a.words.now a.pairs.now a.text.now a.at s.requires.1 c.if-words-at-ne-TYPE_APP.false c.if-words-base-ne-TYPE_FROM_PATH.false).own in
     let s = c in
-    ((own).below (s.args.at + 2 + 3) (omega arith) (omega (arith, c.if-words-base-ne2.false)), s.requires.0, omega arith, refl)
+    (own.below (s.args.at + 2 + 3) (omega arith) (omega (arith, c.if-words-base-ne2.false)), s.requires.0, omega arith, refl)
 
 pub returns : goal.returns
 unfolding fixed_names
 returns c =
     let own : let a = c.args in InsidePath (name_count a.pairs.now) a.words.now (record { root = get_or a.words.now (a.at + 2 + 1) 0; start = a.at + 2 + 3; count = get_or a.words.now (a.at + 2 + 2) 0 }) = let s = c in let a = s.args in (path-here a.words.now a.pairs.now a.text.now a.at s.requires.1 c.if-words-at-ne-TYPE_APP.false c.if-words-base-ne-TYPE_FROM_PATH.false).own in
     let s = c in let a = s.args in
-    runtime-path a.words.now a.pairs.now a.text.now a.at s.requires.1 c.if-words-at-ne-TYPE_APP.false c.if-words-at-ne1.false c.if-words-base-ne-TYPE_FROM_PATH.false (runtime-name a.words.now a.pairs.now a.text.now _ (own) c.if-words-base-ne-GLOBAL.false c.if-words-base-ne2.false c.is_name.ensures)
+    runtime-path a.words.now a.pairs.now a.text.now a.at s.requires.1 c.if-words-at-ne-TYPE_APP.false c.if-words-at-ne1.false c.if-words-base-ne-TYPE_FROM_PATH.false (runtime-name a.words.now a.pairs.now a.text.now _ own c.if-words-base-ne-GLOBAL.false c.if-words-base-ne2.false c.is_name.ensures)

@@ -1,10 +1,5 @@
-use Prim.Native.Nat.{◌*◌, ◌+◌, ◌-◌, ◌<◌, ◌≤◌, ℕ}
-use Rattle.encoding.specs.Types.{read_types}
-use Rattle.rebuild_rules.proofs.Depths.{Deepening, alone, deepening-ends, deepening-starts, head-due, inner}
-use Rattle.tree_words.specs.Numbered.{tree_at}
-use lib.ListN.{length}
+use Rattle.rebuild_rules.proofs.Depths.{alone, deepening-ends, deepening-starts, head-due, inner}
 use native.Mathlib.Omega.{arith}
-use borrow.Author.Rules.{rules}
 use Rattle.rebuild_rules.proofs.+deepest_depth_below.Goals as goal
 
 pub deepest-loop-left-init : goal.deepest-loop-left-init

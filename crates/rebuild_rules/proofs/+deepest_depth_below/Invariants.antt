@@ -1,10 +1,8 @@
-use Prim.Native.Nat.{◌*◌, ◌+◌, ◌-◌, ◌<◌, ◌≤◌, ℕ}
+use Prim.Native.Nat.{◌*◌, ◌+◌, ◌-◌, ◌≤◌}
 use Rattle.encoding.specs.Types.{read_types}
-use Rattle.rebuild_rules.proofs.Depths.{Deepening, alone, deepening-ends, deepening-starts, head-due, inner}
+use Rattle.rebuild_rules.proofs.Depths.{Deepening}
 use Rattle.tree_words.specs.Numbered.{tree_at}
 use lib.ListN.{length}
-use native.Mathlib.Omega.{arith}
-use borrow.Author.Rules.{rules}
 use Rattle.rebuild_rules.proofs.+deepest_depth_below.Given as goal
 
 abbrev pub decreases-deepest : goal.decreases-deepest

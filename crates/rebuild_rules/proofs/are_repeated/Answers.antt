@@ -1,10 +1,8 @@
-use Prim.Native.Nat.{◌-◌, ◌≤◌}
+use Prim.Native.Nat.{◌-◌}
 use Rattle.encoding.specs.Tables.{name_bytes}
 use Rattle.rebuild_rules.proofs.Steps.{repeated-here, repeated-later, repeated-never}
-use Rattle.rebuild_rules.specs.Table.{repeated_from}
 use mathlib.Core.Path.{◌∙◌, ◌≡◌, refl, sym}
 use native.Mathlib.Omega.{arith}
-use borrow.Author.Rules.{rules}
 use Rattle.rebuild_rules.proofs.are_repeated.Goals as goal
 
 pub loop-i-init : goal.loop-i-init

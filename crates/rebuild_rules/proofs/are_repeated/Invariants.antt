@@ -1,10 +1,7 @@
 use Prim.Native.Nat.{◌-◌, ◌≤◌}
 use Rattle.encoding.specs.Tables.{name_bytes}
-use Rattle.rebuild_rules.proofs.Steps.{repeated-here, repeated-later, repeated-never}
 use Rattle.rebuild_rules.specs.Table.{repeated_from}
-use mathlib.Core.Path.{◌∙◌, ◌≡◌, refl, sym}
-use native.Mathlib.Omega.{arith}
-use borrow.Author.Rules.{rules}
+use mathlib.Core.Path.{◌≡◌}
 use Rattle.rebuild_rules.proofs.are_repeated.Given as goal
 
 abbrev pub invariant-loop-i : goal.invariant-loop-i

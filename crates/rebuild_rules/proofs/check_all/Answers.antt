@@ -1,6 +1,5 @@
 use Rattle.rebuild_rules.proofs.Lists.{check-overlong, check-tables}
 use mathlib.Core.Path.{◌∙◌, sym}
-use borrow.Author.Rules.{rules}
 use Rattle.rebuild_rules.proofs.check_all.Goals as goal
 
 pub returns-then-rules-gt-MAX_WORDS : goal.returns-then-rules-gt-MAX_WORDS

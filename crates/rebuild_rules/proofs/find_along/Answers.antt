@@ -1,11 +1,8 @@
 use Rattle.encoding.specs.Tables.{name_bytes}
-use Rattle.rebuild_rules.proofs.Links.{Search, search-here, search-less, search-none, search-on, search-within, togo}
+use Rattle.rebuild_rules.proofs.Links.{search-here, search-less, search-none, search-on, search-within}
 use Rattle.rebuild_rules.proofs.Steps.{from-missed}
-use Rattle.rebuild_rules.specs.Table.{first_along, is_from, slot}
-use lib.ListN.{drop, get_or, take}
 use mathlib.Core.Path.{◌∙◌, refl, sym}
 use native.Mathlib.Omega.{arith}
-use borrow.Author.Rules.{rules}
 use Rattle.rebuild_rules.proofs.find_along.Goals as goal
 
 pub loop-next-init : goal.loop-next-init

@@ -1,6 +1,5 @@
 use mathlib.Core.Path.{◌∙◌, ap}
 use lib.ListN.{get_or}
-use borrow.Author.Rules.{rules}
 use Rattle.rebuild_rules.proofs.first_link.Goals as goal
 
 pub returns : goal.returns

@@ -4,7 +4,6 @@ use Rattle.rebuild_rules.proofs.Steps.{from_at, from_some}
 use Rattle.rebuild_rules.specs.Table.{is_found_rule}
 use mathlib.Core.Path.{◌∙◌, ap}
 use native.Mathlib.Omega.{arith}
-use borrow.Author.Rules.{rules}
 use Rattle.rebuild_rules.proofs.is_among.Goals as goal
 
 pub overflow_sub-count : goal.overflow_sub-count

@@ -1,6 +1,5 @@
 use Rattle.rebuild_rules.specs.Table.{is_found_rule}
 use mathlib.Core.Path.{ap, sym}
-use borrow.Author.Rules.{rules}
 use Rattle.rebuild_rules.proofs.is_found_rule.Goals as goal
 
 pub returns-in-At : goal.returns-in-At

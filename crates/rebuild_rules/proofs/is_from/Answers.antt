@@ -3,7 +3,6 @@ use Rattle.rebuild_rules.proofs.Steps.{from_at, from-even, from_some, from-uneve
 use lib.ListN.{drop, take}
 use mathlib.Core.Path.{◌∙◌, sym}
 use native.Mathlib.Omega.{arith}
-use borrow.Author.Rules.{rules}
 use Rattle.rebuild_rules.proofs.is_from.Goals as goal
 
 pub overflow_sub-entry : goal.overflow_sub-entry

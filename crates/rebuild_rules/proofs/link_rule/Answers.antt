@@ -1,6 +1,5 @@
 use Rattle.rebuild_rules.specs.Table.{linked, slot_of}
 use mathlib.Core.Path.{refl}
-use borrow.Author.Rules.{rules}
 use Rattle.rebuild_rules.proofs.link_rule.Goals as goal
 
 pub returns : goal.returns

@@ -2,7 +2,6 @@ use Prim.Native.Nat.{◌+◌, ◌-◌, ◌<◌}
 use Rattle.rebuild_rules.proofs.Links.{Linking, linking-next, linking-starts}
 use mathlib.Core.Path.{◌≡◌, subst}
 use native.Mathlib.Omega.{arith}
-use borrow.Author.Rules.{rules}
 use Rattle.rebuild_rules.proofs.link_rules.Goals as goal
 
 pub loop-i-init : goal.loop-i-init

@@ -1,8 +1,4 @@
-use Prim.Native.Nat.{◌+◌, ◌-◌, ◌<◌}
-use Rattle.rebuild_rules.proofs.Links.{Linking, linking-next, linking-starts}
-use mathlib.Core.Path.{◌≡◌, subst}
-use native.Mathlib.Omega.{arith}
-use borrow.Author.Rules.{rules}
+use Rattle.rebuild_rules.proofs.Links.{Linking}
 use Rattle.rebuild_rules.proofs.link_rules.Given as goal
 
 abbrev pub invariant-loop-i : goal.invariant-loop-i

@@ -1,10 +1,6 @@
-use Prim.Native.Nat.{◌-◌}
 use Rattle.encoding.specs.Tables.{name_bytes}
 use Rattle.rebuild_rules.proofs.Steps.{none_here, none-later, none_never}
-use Rattle.rebuild_rules.specs.Table.{none_stands}
-use lib.ListN.{drop, length}
-use mathlib.Core.Path.{◌∙◌, ◌≡◌, refl, sym}
-use borrow.Author.Rules.{rules}
+use mathlib.Core.Path.{◌∙◌, refl, sym}
 use Rattle.rebuild_rules.proofs.none_stands.Goals as goal
 
 pub loop-at-init : goal.loop-at-init

@@ -5,7 +5,6 @@ use Rattle.rebuild_rules.proofs.Lists.{first_stops, linked-tabled, listed-got, l
 use Rattle.rebuild_rules.proofs.Tables.{tabled-fits}
 use mathlib.Core.Path.{◌∙◌, sym}
 use native.Mathlib.Omega.{arith}
-use borrow.Author.Rules.{rules}
 use Rattle.rebuild_rules.proofs.read_rules.Goals as goal
 
 pub scan_list-requires : goal.scan_list-requires

@@ -1,7 +1,5 @@
 use native.Mathlib.Omega.{arith}
-use Prim.Native.Nat.{◌-◌}
-use Rattle.rebuild_rules.proofs.Lists.{Filling, filling-ends, filling-more, filling-starts, filling-stops, rule_found, rule-inside, rule-stop}
-use borrow.Author.Rules.{rules}
+use Rattle.rebuild_rules.proofs.Lists.{filling-ends, filling-more, filling-starts, filling-stops, rule_found, rule-inside, rule-stop}
 use Rattle.rebuild_rules.proofs.scan_list.Goals as goal
 
 pub loop-i-init : goal.loop-i-init

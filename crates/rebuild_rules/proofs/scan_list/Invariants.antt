@@ -1,7 +1,5 @@
-use native.Mathlib.Omega.{arith}
 use Prim.Native.Nat.{◌-◌}
-use Rattle.rebuild_rules.proofs.Lists.{Filling, filling-ends, filling-more, filling-starts, filling-stops, rule_found, rule-inside, rule-stop}
-use borrow.Author.Rules.{rules}
+use Rattle.rebuild_rules.proofs.Lists.{Filling}
 use Rattle.rebuild_rules.proofs.scan_list.Given as goal
 
 abbrev pub invariant-loop-i : goal.invariant-loop-i

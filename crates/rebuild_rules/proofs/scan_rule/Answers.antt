@@ -1,6 +1,5 @@
 use Rattle.rebuild_rules.proofs.Lists.{from-stops, accepted-no-tree, accepted-tree, rule-read, rule-stops, to-stops}
 use Rattle.tree_words.specs.Numbered.{tree_at}
-use borrow.Author.Rules.{rules}
 use Rattle.rebuild_rules.proofs.scan_rule.Goals as goal
 
 pub returns-in-At-scan_type : goal.returns-in-At-scan_type

@@ -1,7 +1,6 @@
 use Rattle.rebuild_rules.proofs.Links.{slot-large, slot_small}
 use mathlib.Core.Path.{sym}
 use native.Mathlib.Omega.{arith}
-use borrow.Author.Rules.{rules}
 use Rattle.rebuild_rules.proofs.slot_of.Goals as goal
 
 pub returns-then-word-lt32 : goal.returns-then-word-lt32

@@ -1,11 +1,10 @@
 use Rattle.encoding.specs.Tables.{name_bytes}
-use Rattle.rebuild_rules.proofs.Links.{Search, along-first, search-here, search-less, search-none, search-on, search-within, some_along, togo}
+use Rattle.rebuild_rules.proofs.Links.{along-first, search-here, search-less, search-none, search-on, search-within, some_along}
 use Rattle.rebuild_rules.proofs.Steps.{stands-missed}
-use Rattle.rebuild_rules.specs.Table.{is_found_rule, slot, some_stands, stands}
-use lib.ListN.{drop, get_or}
+use Rattle.rebuild_rules.specs.Table.{is_found_rule}
+use lib.ListN.{get_or}
 use mathlib.Core.Path.{◌∙◌, sym}
 use native.Mathlib.Omega.{arith}
-use borrow.Author.Rules.{rules}
 use Rattle.rebuild_rules.proofs.some_stands.Goals as goal
 
 pub loop-next-init : goal.loop-next-init

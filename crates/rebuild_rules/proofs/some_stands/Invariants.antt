@@ -1,11 +1,7 @@
 use Rattle.encoding.specs.Tables.{name_bytes}
-use Rattle.rebuild_rules.proofs.Links.{Search, along-first, search-here, search-less, search-none, search-on, search-within, some_along, togo}
-use Rattle.rebuild_rules.proofs.Steps.{stands-missed}
+use Rattle.rebuild_rules.proofs.Links.{Search, togo}
 use Rattle.rebuild_rules.specs.Table.{is_found_rule, slot, some_stands, stands}
 use lib.ListN.{drop, get_or}
-use mathlib.Core.Path.{◌∙◌, sym}
-use native.Mathlib.Omega.{arith}
-use borrow.Author.Rules.{rules}
 use Rattle.rebuild_rules.proofs.some_stands.Given as goal
 
 abbrev pub invariant-loop-next : goal.invariant-loop-next

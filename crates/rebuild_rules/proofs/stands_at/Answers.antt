@@ -3,7 +3,6 @@ use Rattle.rebuild_rules.proofs.Steps.{from_at, from_some, stands-run, stands-sh
 use lib.ListN.{drop}
 use mathlib.Core.Path.{◌∙◌, sym}
 use native.Mathlib.Omega.{arith}
-use borrow.Author.Rules.{rules}
 use Rattle.rebuild_rules.proofs.stands_at.Goals as goal
 
 pub overflow_sub-count : goal.overflow_sub-count

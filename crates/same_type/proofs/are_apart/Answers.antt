@@ -6,7 +6,6 @@ use Rattle.encoding.specs.Tables.{name_bytes}
 use Rattle.same_type.specs.declared.Due.TheVariants.{Kind}
 use Rattle.same_type.proofs.Steps.{runs-later, runs-differ}
 use Rattle.same_type.proofs.Looks.{may-not, told-apart}
-use borrow.Author.Rules.{rules}
 use Rattle.same_type.proofs.are_apart.Goals as goal
 
 pub returns-then-numbers_apart : goal.returns-then-numbers_apart

@@ -5,7 +5,6 @@ use Rattle.encoding.specs.Tables.{name_bytes}
 use Rattle.rast.specs.Bytes.{same}
 use mathlib.Core.Path.{◌∙◌, ap, sym}
 use native.Mathlib.Omega.{arith}
-use borrow.Author.Rules.{rules}
 use Rattle.same_type.proofs.are_fixed.Goals as goal
 
 pub returns-then-name_length-bytes : goal.returns-then-name_length-bytes

@@ -1,6 +1,5 @@
 use Rattle.same_type.specs.Runs.{after}
 use borrow.Author.Tests.{le-ltb, lt-ltb}
-use borrow.Author.Rules.{rules}
 use Rattle.same_type.proofs.due_after.Goals as goal
 
 pub returns-then-x-gt0 : goal.returns-then-x-gt0

@@ -1,5 +1,4 @@
 use Prim.Native.Nat.{◌-◌, ◌≤◌}
-use borrow.Author.Rules.{rules}
 use Rattle.same_type.proofs.equal_front.Given as goal
 
 abbrev pub invariant-loop-k : goal.invariant-loop-k

@@ -1,11 +1,7 @@
-use Rattle.same_type.proofs.Looks.{looks-step}
-use Rattle.same_type.proofs.Words.{Compares, compares-none, compares-on, compares-stop}
+use Rattle.same_type.proofs.Words.{Compares}
 use Rattle.same_type.specs.Looks.{looks}
 use lib.ListN.{drop, take}
 use mathlib.Core.Bool.{true}
-use mathlib.Core.Path.{◌∙◌, sym}
-use native.Mathlib.Omega.{arith}
-use borrow.Author.Rules.{rules}
 use Rattle.same_type.proofs.look_at_words.Given as goal
 
 abbrev pub invariant-loop-left : goal.invariant-loop-left

@@ -2,7 +2,6 @@ use Rattle.same_type.proofs.Looks.{may-name, may-size}
 use Rattle.encoding.proofs.Names.{same-apart}
 use Rattle.encoding.specs.Tables.{name_bytes}
 use mathlib.Core.Path.{◌∙◌, sym}
-use borrow.Author.Rules.{rules}
 use Rattle.same_type.proofs.may_agree.Goals as goal
 
 pub returns-then-before-eq-ARRAY : goal.returns-then-before-eq-ARRAY

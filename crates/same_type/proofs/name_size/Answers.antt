@@ -3,7 +3,6 @@ use Rattle.encoding.proofs.Tables.{name-length}
 use lib.ListN.{length}
 use mathlib.Core.Path.{◌∙◌, ap, sym}
 use native.Mathlib.Omega.{arith}
-use borrow.Author.Rules.{rules}
 use Rattle.same_type.proofs.name_size.Goals as goal
 
 pub returns-then-name_count-name : goal.returns-then-name_count-name

@@ -1,6 +1,5 @@
 use Rattle.same_type.specs.Looks.{told_apart}
 use mathlib.Core.Path.{◌∙◌, ap, sym}
-use borrow.Author.Rules.{rules}
 use Rattle.same_type.proofs.numbers_apart.Goals as goal
 
 pub returns-in-Same : goal.returns-in-Same

@@ -1,7 +1,6 @@
 use Rattle.same_type.proofs.Steps.{no_name}
 use mathlib.Core.Path.{◌∙◌, sym}
 use native.Mathlib.Omega.{arith}
-use borrow.Author.Rules.{rules}
 use Rattle.same_type.proofs.other_bytes.Goals as goal
 
 pub returns-then-name_count-name : goal.returns-then-name_count-name

@@ -3,7 +3,6 @@ use Rattle.encoding.specs.Tables.{name_bytes}
 use Rattle.rast.specs.Bytes.{same}
 use Rattle.rast.proofs.BytesLaws.{same_self}
 use mathlib.Core.Path.{◌∙◌, ap, sym}
-use borrow.Author.Rules.{rules}
 use Rattle.same_type.proofs.same_name.Goals as goal
 
 pub returns-then-x-y : goal.returns-then-x-y

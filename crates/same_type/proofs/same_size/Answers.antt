@@ -1,6 +1,5 @@
 use Rattle.same_type.specs.Runs.{agrees}
 use borrow.Author.Tests.{ne_eqb}
-use borrow.Author.Rules.{rules}
 use Rattle.same_type.proofs.same_size.Goals as goal
 
 pub returns-then-x-eq0 : goal.returns-then-x-eq0

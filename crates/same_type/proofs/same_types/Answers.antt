@@ -1,13 +1,10 @@
 use Rattle.same_type.proofs.Steps.{runs-step}
-use Rattle.same_type.proofs.Words.{Compares, compares-none, compares-on, compares-stop}
+use Rattle.same_type.proofs.Words.{compares-none, compares-on, compares-stop}
 use Rattle.same_type.specs.Runs.{same_runs}
-use Rattle.same_type.specs.declared.Due.TheVariants.{Kind}
 use Rattle.encoding.specs.Tables.{name_bytes}
-use lib.ListN.{drop, take}
 use mathlib.Core.Bool.{not}
 use mathlib.Core.Path.{◌∙◌, ap, sym}
 use native.Mathlib.Omega.{arith}
-use borrow.Author.Rules.{rules}
 use Rattle.same_type.proofs.same_types.Goals as goal
 
 pub returns-then-not-words_agree : goal.returns-then-not-words_agree

@@ -4,7 +4,6 @@ use Rattle.encoding.specs.Tables.{name_bytes}
 use Rattle.buffer.proofs.Laws.{part_length}
 use mathlib.Core.Bool.{true}
 use mathlib.Core.Path.{◌∙◌, sym}
-use borrow.Author.Rules.{rules}
 use Rattle.same_type.proofs.same_words.Goals as goal
 
 pub returns-in-Same : goal.returns-in-Same

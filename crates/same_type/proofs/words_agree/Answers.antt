@@ -1,5 +1,4 @@
 use Rattle.same_type.specs.Runs.{agrees}
-use borrow.Author.Rules.{rules}
 use Rattle.same_type.proofs.words_agree.Goals as goal
 
 pub returns-in-Kind : goal.returns-in-Kind

@@ -1,6 +1,5 @@
 use Rattle.encoding.proofs.Tables.{tables-hold}
 use Rattle.shapes.proofs.Answers.{tables-failed, tables-whole}
-use borrow.Author.Rules.{rules}
 use Rattle.shapes.proofs.accept.Goals as goal
 
 pub accept_words-requires : goal.accept_words-requires

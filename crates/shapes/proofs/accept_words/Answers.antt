@@ -2,7 +2,6 @@ use native.Mathlib.Omega.{arith}
 use Rattle.encoding.specs.Types.{type_at}
 use Rattle.shapes.proofs.Answers.{whole-left, whole-passed, whole-stopped}
 use lib.ListN.{length}
-use borrow.Author.Rules.{rules}
 use Rattle.shapes.proofs.accept_words.Goals as goal
 
 pub accept_type-requires : goal.accept_type-requires

@@ -1,9 +1,7 @@
 use Prim.Native.Nat.{◌-◌}
-use Rattle.unwrap.proofs.Going.{Going, first_ends, going-base, going-readable, going_start, meta-inside, synonym-readable}
-use Rattle.shapes.proofs.Judging.{can-arrived, can-base, can-copy-arrived, can-going, can-number-arrived, can_at}
+use Rattle.unwrap.proofs.Going.{Going}
+use Rattle.shapes.proofs.Judging.{can_at}
 use lib.ListN.{length}
-use native.Mathlib.Omega.{arith}
-use borrow.Author.Rules.{rules}
 use Rattle.shapes.proofs.can_read_at.Given as goal
 
 abbrev pub invariant-loop-at : goal.invariant-loop-at

@@ -1,6 +1,5 @@
 use Rattle.shapes.specs.Shapes.{CanReadWithoutClone}
 use Rattle.shapes.proofs.Answers.{ready, shape-answered, shape-refused}
-use borrow.Author.Rules.{rules}
 use Rattle.shapes.proofs.can_read_without_clone.Goals as goal
 
 pub can_read_at-requires : goal.can_read_at-requires

@@ -2,7 +2,6 @@ use Rattle.known_paths.specs.declared.Class.TheVariants.{MapClass}
 use Rattle.known_paths.proofs.Finding.{first-keeps, found-readable}
 use Rattle.unwrap.proofs.Expanding.{expands-readable, expands-ready}
 use Rattle.shapes.proofs.Parts.{map-finds, set-finds}
-use borrow.Author.Rules.{rules}
 use Rattle.shapes.proofs.collection_part.Goals as goal
 
 pub first_argument-requires : goal.first_argument-requires

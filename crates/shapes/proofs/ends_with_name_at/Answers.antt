@@ -1,7 +1,5 @@
-use Prim.Native.Nat.{◌-◌}
-use Rattle.unwrap.proofs.Going.{Going, first_ends, going-right, going_start, left-readable}
-use Rattle.shapes.proofs.Judging.{ends_at, going-name, name-arrived, name-right}
-use lib.ListN.{length}
+use Rattle.unwrap.proofs.Going.{first_ends, going-right, going_start, left-readable}
+use Rattle.shapes.proofs.Judging.{going-name, name-arrived, name-right}
 use native.Mathlib.Omega.{arith}
 use borrow.Author.Rules.{rules}
 use Rattle.shapes.proofs.ends_with_name_at.Goals as goal

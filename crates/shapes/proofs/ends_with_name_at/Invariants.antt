@@ -1,9 +1,7 @@
 use Prim.Native.Nat.{◌-◌}
-use Rattle.unwrap.proofs.Going.{Going, first_ends, going-right, going_start, left-readable}
-use Rattle.shapes.proofs.Judging.{ends_at, going-name, name-arrived, name-right}
+use Rattle.unwrap.proofs.Going.{Going}
+use Rattle.shapes.proofs.Judging.{ends_at}
 use lib.ListN.{length}
-use native.Mathlib.Omega.{arith}
-use borrow.Author.Rules.{rules}
 use Rattle.shapes.proofs.ends_with_name_at.Given as goal
 
 abbrev pub invariant-loop-place : goal.invariant-loop-place

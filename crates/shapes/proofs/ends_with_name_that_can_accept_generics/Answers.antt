@@ -1,6 +1,5 @@
 use Rattle.shapes.specs.Shapes.{EndsWithNameThatCanAcceptGenerics}
 use Rattle.shapes.proofs.Answers.{ready, shape-answered, shape-refused}
-use borrow.Author.Rules.{rules}
 use Rattle.shapes.proofs.ends_with_name_that_can_accept_generics.Goals as goal
 
 pub ends_with_name_at-requires : goal.ends_with_name_at-requires

@@ -1,6 +1,5 @@
 use Rattle.shapes.specs.Shapes.{IsAutoSize}
 use Rattle.shapes.proofs.Answers.{ready, shape-answered, shape-refused}
-use borrow.Author.Rules.{rules}
 use Rattle.shapes.proofs.is_auto_size.Goals as goal
 
 pub is_auto_size_at-requires : goal.is_auto_size_at-requires

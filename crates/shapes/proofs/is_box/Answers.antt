@@ -1,7 +1,6 @@
 use Rattle.known_paths.specs.Classes.{arity, in_class, is_of}
 use Rattle.shapes.specs.Shapes.{IsBox}
 use Rattle.shapes.proofs.Answers.{ready, shape-answered, shape-refused}
-use borrow.Author.Rules.{rules}
 use Rattle.shapes.proofs.is_box.Goals as goal
 
 pub is_of-requires : goal.is_of-requires

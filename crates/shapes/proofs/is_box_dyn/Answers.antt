@@ -1,6 +1,5 @@
 use Rattle.shapes.specs.Shapes.{IsBoxDyn}
 use Rattle.shapes.proofs.Answers.{ready, shape-answered, shape-refused}
-use borrow.Author.Rules.{rules}
 use Rattle.shapes.proofs.is_box_dyn.Goals as goal
 
 pub is_box_dyn_at-requires : goal.is_box_dyn_at-requires

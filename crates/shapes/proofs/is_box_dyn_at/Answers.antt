@@ -2,7 +2,6 @@ use Rattle.shapes.specs.Parts.{BoxDynUnderlying}
 use Rattle.shapes.specs.Shapes.{IsBoxDyn}
 use Rattle.shapes.proofs.Elements.{box-dyn-found}
 use Rattle.shapes.proofs.Judging.{judge-found}
-use borrow.Author.Rules.{rules}
 use Rattle.shapes.proofs.is_box_dyn_at.Goals as goal
 
 pub returns : goal.returns

@@ -2,7 +2,6 @@ use Rattle.known_paths.specs.declared.Class.TheVariants.{Boxed, Counted}
 use Rattle.known_paths.specs.Classes.{arity, in_class, is_of}
 use Rattle.shapes.specs.Shapes.{IsBox, IsRc}
 use Rattle.shapes.proofs.Judging.{judge-one, judge-other}
-use borrow.Author.Rules.{rules}
 use Rattle.shapes.proofs.is_box_or_rc.Goals as goal
 
 pub returns-then-is_of : goal.returns-then-is_of

@@ -1,6 +1,5 @@
 use Rattle.shapes.specs.Shapes.{IsBuiltinCollection}
 use Rattle.shapes.proofs.Answers.{ready, shape-answered, shape-refused}
-use borrow.Author.Rules.{rules}
 use Rattle.shapes.proofs.is_builtin_collection.Goals as goal
 
 pub is_collection_at-requires : goal.is_collection_at-requires

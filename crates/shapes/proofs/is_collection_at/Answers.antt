@@ -3,7 +3,6 @@ use Rattle.known_paths.specs.declared.Class.TheVariants.{Collection, MapClass}
 use Rattle.shapes.specs.Shapes.{IsBuiltinCollection}
 use Rattle.shapes.proofs.Collections.{collection-is}
 use Rattle.shapes.proofs.Judging.{judge-class, judge-other-class}
-use borrow.Author.Rules.{rules}
 use Rattle.shapes.proofs.is_collection_at.Goals as goal
 
 pub is_of-requires : goal.is_of-requires

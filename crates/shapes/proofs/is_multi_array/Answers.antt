@@ -1,6 +1,5 @@
 use Rattle.shapes.specs.Shapes.{IsMultiArray}
 use Rattle.shapes.proofs.Answers.{ready, shape-answered, shape-refused}
-use borrow.Author.Rules.{rules}
 use Rattle.shapes.proofs.is_multi_array.Goals as goal
 
 pub is_multi_array_at-requires : goal.is_multi_array_at-requires

@@ -5,7 +5,6 @@ use Rattle.known_paths.specs.Classes.{is_of}
 use Rattle.shapes.specs.Shapes.{IsMultiArray}
 use Rattle.shapes.proofs.Pointers.{multi-array-is}
 use Rattle.shapes.proofs.Judging.{judge-expanded}
-use borrow.Author.Rules.{rules}
 use Rattle.shapes.proofs.is_multi_array_at.Goals as goal
 
 pub is_of-requires : goal.is_of-requires

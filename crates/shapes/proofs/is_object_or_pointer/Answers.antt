@@ -1,6 +1,5 @@
 use Rattle.shapes.specs.Shapes.{IsObjectOrPointer}
 use Rattle.shapes.proofs.Answers.{ready, shape-answered, shape-refused}
-use borrow.Author.Rules.{rules}
 use Rattle.shapes.proofs.is_object_or_pointer.Goals as goal
 
 pub is_object_or_pointer_at-requires : goal.is_object_or_pointer_at-requires

@@ -3,7 +3,6 @@ use Rattle.known_paths.specs.declared.Class.TheVariants.{PtrClass, ObjectClass}
 use Rattle.shapes.specs.Shapes.{IsObjectOrPointer}
 use Rattle.shapes.proofs.Pointers.{pointer_is}
 use Rattle.shapes.proofs.Judging.{judge-class, judge-other-class}
-use borrow.Author.Rules.{rules}
 use Rattle.shapes.proofs.is_object_or_pointer_at.Goals as goal
 
 pub is_of-requires : goal.is_of-requires

@@ -1,9 +1,6 @@
-use Prim.Native.Nat.{◌-◌}
-use Rattle.unwrap.proofs.Going.{Going, first_ends, going-base, going-readable, going-ref, going_start, synonym-readable}
-use Rattle.shapes.proofs.Judging.{rc-arrived, rc-base, rc-ref, rc_at}
-use lib.ListN.{length}
+use Rattle.unwrap.proofs.Going.{first_ends, going-base, going-readable, going-ref, going_start, synonym-readable}
+use Rattle.shapes.proofs.Judging.{rc-arrived, rc-base, rc-ref}
 use native.Mathlib.Omega.{arith}
-use borrow.Author.Rules.{rules}
 use Rattle.shapes.proofs.is_rc_or_borrowed_at.Goals as goal
 
 pub loop-place-init : goal.loop-place-init

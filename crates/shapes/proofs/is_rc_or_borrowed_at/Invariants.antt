@@ -1,9 +1,7 @@
 use Prim.Native.Nat.{◌-◌}
-use Rattle.unwrap.proofs.Going.{Going, first_ends, going-base, going-readable, going-ref, going_start, synonym-readable}
-use Rattle.shapes.proofs.Judging.{rc-arrived, rc-base, rc-ref, rc_at}
+use Rattle.unwrap.proofs.Going.{Going}
+use Rattle.shapes.proofs.Judging.{rc_at}
 use lib.ListN.{length}
-use native.Mathlib.Omega.{arith}
-use borrow.Author.Rules.{rules}
 use Rattle.shapes.proofs.is_rc_or_borrowed_at.Given as goal
 
 abbrev pub invariant-loop-place : goal.invariant-loop-place

@@ -1,6 +1,5 @@
 use Rattle.shapes.specs.Shapes.{IsRcOrBorrowedRc}
 use Rattle.shapes.proofs.Answers.{ready, shape-answered, shape-refused}
-use borrow.Author.Rules.{rules}
 use Rattle.shapes.proofs.is_rc_or_borrowed_rc.Goals as goal
 
 pub is_rc_or_borrowed_at-requires : goal.is_rc_or_borrowed_at-requires

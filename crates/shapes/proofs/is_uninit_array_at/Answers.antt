@@ -2,7 +2,6 @@ use Rattle.known_paths.proofs.Finding.{found-readable, found-ready}
 use Rattle.unwrap.proofs.Expanding.{expands-ready}
 use Rattle.shapes.proofs.Judging.{judge-no-pointer, judge-pointed}
 use Rattle.shapes.proofs.Parts.{pointer-keeps}
-use borrow.Author.Rules.{rules}
 use Rattle.shapes.proofs.is_uninit_array_at.Goals as goal
 
 pub returns-in_default : goal.returns-in_default

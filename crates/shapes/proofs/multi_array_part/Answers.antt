@@ -1,6 +1,5 @@
 use Rattle.unwrap.proofs.Expanding.{expands-ready}
 use Rattle.shapes.proofs.Parts.{multi-array-finds}
-use borrow.Author.Rules.{rules}
 use Rattle.shapes.proofs.multi_array_part.Goals as goal
 
 pub first_argument-requires : goal.first_argument-requires

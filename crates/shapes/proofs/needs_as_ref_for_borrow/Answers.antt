@@ -1,6 +1,5 @@
 use Rattle.shapes.specs.Shapes.{NeedsAsRefForBorrow}
 use Rattle.shapes.proofs.Answers.{ready, shape-answered, shape-refused}
-use borrow.Author.Rules.{rules}
 use Rattle.shapes.proofs.needs_as_ref_for_borrow.Goals as goal
 
 pub needs_as_ref_at-requires : goal.needs_as_ref_at-requires

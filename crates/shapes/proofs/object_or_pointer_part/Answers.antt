@@ -1,6 +1,5 @@
 use Rattle.unwrap.proofs.Expanding.{expands-ready}
 use Rattle.shapes.proofs.Parts.{object-finds, pointer-finds}
-use borrow.Author.Rules.{rules}
 use Rattle.shapes.proofs.object_or_pointer_part.Goals as goal
 
 pub first_argument-requires : goal.first_argument-requires

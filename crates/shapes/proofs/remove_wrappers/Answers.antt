@@ -1,7 +1,5 @@
-use Prim.Native.Nat.{◌-◌}
-use Rattle.unwrap.proofs.Going.{Going, going-display, going-meta, going_start, meta-inside}
-use Rattle.shapes.proofs.Judging.{removed-arrived, removed-display, removed-meta, removed_to}
-use lib.ListN.{length}
+use Rattle.unwrap.proofs.Going.{going-display, going-meta, going_start, meta-inside}
+use Rattle.shapes.proofs.Judging.{removed-arrived, removed-display, removed-meta}
 use borrow.Author.Rules.{rules}
 use Rattle.shapes.proofs.remove_wrappers.Goals as goal
 

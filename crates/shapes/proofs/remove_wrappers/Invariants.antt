@@ -1,8 +1,7 @@
 use Prim.Native.Nat.{◌-◌}
-use Rattle.unwrap.proofs.Going.{Going, going-display, going-meta, going_start, meta-inside}
-use Rattle.shapes.proofs.Judging.{removed-arrived, removed-display, removed-meta, removed_to}
+use Rattle.unwrap.proofs.Going.{Going}
+use Rattle.shapes.proofs.Judging.{removed_to}
 use lib.ListN.{length}
-use borrow.Author.Rules.{rules}
 use Rattle.shapes.proofs.remove_wrappers.Given as goal
 
 abbrev pub invariant-loop-place : goal.invariant-loop-place

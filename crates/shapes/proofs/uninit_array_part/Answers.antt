@@ -1,6 +1,5 @@
 use Rattle.known_paths.proofs.Finding.{found-ready}
 use Rattle.shapes.proofs.Parts.{extract-finds, extract-none, pointer-keeps}
-use borrow.Author.Rules.{rules}
 use Rattle.shapes.proofs.uninit_array_part.Goals as goal
 
 pub returns-in_default : goal.returns-in_default

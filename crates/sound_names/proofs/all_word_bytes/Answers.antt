@@ -1,9 +1,5 @@
 use borrow.Author.Rules.{rules}
-use Prim.Native.Nat.{◌-◌}
-use mathlib.Core.Path.{◌≡◌, refl, sym, ◌∙◌}
-use borrow.Author.Tests.{not-true, not-false}
-use lib.ListN.{length, drop}
-use Rattle.rast.specs.Bytes.{each}
+use mathlib.Core.Path.{refl, sym, ◌∙◌}
 use Rattle.rast.specs.Sound.{is_word_byte}
 use Rattle.rast.proofs.BytesLaws.{and_no, and_yes}
 use Rattle.sound_names.proofs.Names.{each_more, each-end}

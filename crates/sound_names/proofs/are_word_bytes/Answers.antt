@@ -1,10 +1,6 @@
 use borrow.Author.Rules.{rules}
 use native.Mathlib.Omega.{arith}
-use Prim.Native.Nat.{◌-◌, ◌≤◌}
-use mathlib.Core.Path.{◌≡◌, refl, sym, ◌∙◌}
-use borrow.Author.Tests.{not-false}
-use lib.ListN.{take, drop}
-use Rattle.rast.specs.Bytes.{each}
+use mathlib.Core.Path.{refl, sym, ◌∙◌}
 use Rattle.rast.specs.Sound.{is_word_byte}
 use Rattle.sound_names.proofs.Names.{part-past, part_end}
 use Rattle.sound_names.proofs.are_word_bytes.Goals as goal

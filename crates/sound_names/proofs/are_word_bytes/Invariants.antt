@@ -1,12 +1,8 @@
-use borrow.Author.Rules.{rules}
-use native.Mathlib.Omega.{arith}
 use Prim.Native.Nat.{◌-◌, ◌≤◌}
-use mathlib.Core.Path.{◌≡◌, refl, sym, ◌∙◌}
-use borrow.Author.Tests.{not-false}
+use mathlib.Core.Path.{◌≡◌}
 use lib.ListN.{take, drop}
 use Rattle.rast.specs.Bytes.{each}
 use Rattle.rast.specs.Sound.{is_word_byte}
-use Rattle.sound_names.proofs.Names.{part-past, part_end}
 use Rattle.sound_names.proofs.are_word_bytes.Given as goal
 
 abbrev pub invariant-loop-i : goal.invariant-loop-i

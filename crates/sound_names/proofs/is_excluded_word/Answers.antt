@@ -7,7 +7,6 @@ use Rattle.sound_names.specs.Words.{letters, word_lengths}
 use Rattle.encoding.proofs.Names.{same-apart}
 use Rattle.sound_names.proofs.Names.{excluded-inside, excluded-length, excluded-part}
 use native.Mathlib.Omega.{arith}
-use borrow.Author.Rules.{rules}
 use Rattle.sound_names.proofs.is_excluded_word.Goals as goal
 
 -- an entry of a table that is lent

@@ -1,7 +1,5 @@
-use Prim.Native.Nat.{◌≤◌, ◌-◌}
-use mathlib.Core.Path.{◌≡◌, refl, sym, ◌∙◌}
-use lib.ListN.{drop}
-use Rattle.rast.specs.Bytes.{ascii, among}
+use mathlib.Core.Path.{refl, sym, ◌∙◌}
+use Rattle.rast.specs.Bytes.{ascii}
 use Rattle.rast.specs.Sound.{excluded}
 use Rattle.sound_names.specs.Words.{letters, word_starts, word_lengths}
 use Rattle.sound_names.proofs.Names.{among-more, among-end}

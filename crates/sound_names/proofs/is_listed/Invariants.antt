@@ -1,11 +1,8 @@
 use Prim.Native.Nat.{◌≤◌, ◌-◌}
-use mathlib.Core.Path.{◌≡◌, refl, sym, ◌∙◌}
+use mathlib.Core.Path.{◌≡◌}
 use lib.ListN.{drop}
-use Rattle.rast.specs.Bytes.{ascii, among}
+use Rattle.rast.specs.Bytes.{among}
 use Rattle.rast.specs.Sound.{excluded}
-use Rattle.sound_names.specs.Words.{letters, word_starts, word_lengths}
-use Rattle.sound_names.proofs.Names.{among-more, among-end}
-use borrow.Author.Rules.{rules}
 use Rattle.sound_names.proofs.is_listed.Given as goal
 
 abbrev pub invariant-loop-k : goal.invariant-loop-k

@@ -2,7 +2,6 @@ use native.Mathlib.Omega.{arith}
 use mathlib.Core.Path.{sym, ◌∙◌}
 use Rattle.rast.proofs.BytesLaws.{and_no, and_yes}
 use Rattle.sound_names.proofs.Names.{word-part, no_word}
-use borrow.Author.Rules.{rules}
 use Rattle.sound_names.proofs.is_word.Goals as goal
 
 pub returns-then-end-start : goal.returns-then-end-start

@@ -2,7 +2,6 @@ use mathlib.Core.Path.{sym, ◌∙◌}
 use borrow.Author.Tests.{le-leb, lt-leb}
 use Rattle.rast.specs.Bytes.{◌and◌}
 use Rattle.rast.specs.Sound.{within, is_word_byte}
-use borrow.Author.Rules.{rules}
 use Rattle.sound_names.proofs.is_word_byte.Goals as goal
 
 pub returns-then-is_word_start : goal.returns-then-is_word_start

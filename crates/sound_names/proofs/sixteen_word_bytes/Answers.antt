@@ -1,9 +1,6 @@
-use borrow.Author.Rules.{rules}
 use native.Mathlib.Omega.{arith}
-use Prim.Native.Nat.{◌+◌, ◌-◌, ◌≤◌}
 use mathlib.Core.Path.{◌≡◌}
 use borrow.Author.Tests.{eqb-true}
-use Rattle.sound_names.specs.Words.{WordBytes}
 use Rattle.sound_names.proofs.Names.{words_more}
 use Rattle.sound_names.proofs.sixteen_word_bytes.Goals as goal
 

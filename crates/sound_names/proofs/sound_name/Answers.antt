@@ -3,7 +3,6 @@ use Rattle.rast.specs.Sound.{is_word, sound_name}
 use Rattle.rast.proofs.BytesLaws.{and_no, and_yes}
 use Rattle.encoding.proofs.Names.{pair-there, pair-part}
 use Rattle.sound_names.proofs.Names.{fixed-sound}
-use borrow.Author.Rules.{rules}
 use Rattle.sound_names.proofs.sound_name.Goals as goal
 
 pub returns-then-name-lt-FIRST_PAIR : goal.returns-then-name-lt-FIRST_PAIR

@@ -2,7 +2,6 @@ use mathlib.Core.Path.{ap, ◌∙◌}
 use lib.ListN.{length, take, drop}
 use Rattle.rast.specs.Bytes.{same}
 use Rattle.encoding.proofs.Names.{part-to}
-use borrow.Author.Rules.{rules}
 use Rattle.sound_names.proofs.stands_at.Goals as goal
 
 pub returns : goal.returns

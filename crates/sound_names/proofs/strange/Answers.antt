@@ -2,7 +2,6 @@ use native.Mathlib.Omega.{arith}
 use mathlib.Core.Path.{sym, ◌∙◌}
 use borrow.Author.Tests.{ne_eqb}
 use Rattle.sound_names.proofs.Names.{word_byte}
-use borrow.Author.Rules.{rules}
 use Rattle.sound_names.proofs.strange.Goals as goal
 
 pub overflow_add-lies : goal.overflow_add-lies

@@ -3,7 +3,6 @@ use mathlib.Core.Path.{sym}
 use lib.ListN.{length}
 use Rattle.encoding.specs.Types.{type_at}
 use Rattle.sound_type.proofs.Accepted.{whole-left, whole-ended, whole-denied}
-use borrow.Author.Rules.{rules}
 use Rattle.sound_type.proofs.accept_whole.Goals as goal
 
 pub accept_type-requires : goal.accept_type-requires

@@ -1,7 +1,6 @@
 use native.Mathlib.Omega.{arith}
 use Rattle.sound_type.proofs.Scans.{own-leaf, own-node, own-unsound, own-stop}
 use Rattle.sound_type.proofs.Steps.{step-deep, step-ended, step_past, step-under, step-unsound, step-stop}
-use borrow.Author.Rules.{rules}
 use Rattle.sound_type.proofs.advance.Goals as goal
 
 pub returns-then-pass-eq-MAX_DEPTH : goal.returns-then-pass-eq-MAX_DEPTH

@@ -5,7 +5,6 @@ use borrow.Author.Tests.{eqb-true}
 use Rattle.encoding.specs.Tables.{name_count}
 use Rattle.sound_type.specs.Judging.{fine, poor, no_name}
 use Rattle.sound_type.proofs.Names.{known_more}
-use borrow.Author.Rules.{rules}
 use Rattle.sound_type.proofs.check_new.Goals as goal
 
 pub returns-then-is_known : goal.returns-then-is_known

@@ -1,4 +1,3 @@
-use borrow.Author.Rules.{rules}
 use Rattle.sound_type.proofs.is_known.Goals as goal
 
 pub returns : goal.returns

@@ -1,9 +1,5 @@
-use borrow.Author.Rules.{rules}
 use native.Mathlib.Omega.{arith}
-use Prim.Native.Nat.{◌-◌}
-use mathlib.Core.Path.{◌≡◌, refl, sym, ◌∙◌}
-use lib.ListN.{length}
-use Rattle.sound_type.specs.Judging.{Known, Kept, rest_of}
+use mathlib.Core.Path.{refl, sym, ◌∙◌}
 use Rattle.sound_type.proofs.Names.{known-none}
 use Rattle.sound_type.proofs.Steps.{went_on, came-to-end, was-unfit, was-halted, whole-ended, whole-unfit, whole-halted}
 use Rattle.sound_type.proofs.judge_whole.Goals as goal

@@ -1,8 +1,5 @@
-use borrow.Author.Rules.{rules}
-use native.Mathlib.Omega.{arith}
 use Prim.Native.Nat.{◌-◌, ◌<◌}
 use Rattle.sound_type.specs.Judging.{Known}
-use Rattle.sound_type.proofs.Names.{known-fixed}
 use Rattle.sound_type.proofs.keep_fixed.Given as goal
 
 abbrev pub invariant-loop-i : goal.invariant-loop-i

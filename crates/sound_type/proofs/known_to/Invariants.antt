@@ -1,12 +1,6 @@
-use borrow.Author.Rules.{rules}
-use native.Mathlib.Omega.{arith}
 use Prim.Native.Nat.{◌-◌}
-use mathlib.Core.Path.{sym, ◌∙◌}
-use borrow.Author.Tests.{eqb-true, not-false}
 use Rattle.encoding.specs.Tables.{name_bytes, name_count}
 use Rattle.sound_type.specs.Judging.{OnwardAlways}
-use Rattle.sound_type.proofs.Names.{judged-sound}
-use Rattle.sound_type.proofs.Paths.{onward-here, onward-more}
 use Rattle.sound_type.proofs.known_to.Given as goal
 
 abbrev pub invariant-loop-i : goal.invariant-loop-i

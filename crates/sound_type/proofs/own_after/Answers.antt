@@ -6,7 +6,6 @@ use Rattle.encoding.proofs.Heads.{head-none}
 use Rattle.text_measure.specs.Lengths.{exact}
 use Rattle.sound_type.specs.Judging.{words_sound}
 use Rattle.sound_type.proofs.Scans.{scanned-node, scanned-both, scanned-wrapper, scanned-stop, scanned-as}
-use borrow.Author.Rules.{rules}
 use Rattle.sound_type.proofs.own_after.Goals as goal
 
 pub own_name-requires : goal.own_name-requires

@@ -6,7 +6,6 @@ use Rattle.sound_type.specs.Judging.{words_sound}
 use borrow.Author.Tests.{lt-ltb}
 use Rattle.text_measure.proofs.Scans.{worded-got, worded-none, worded-stop, counted-more}
 use Rattle.sound_type.proofs.Scans.{counted-level, scanned-bare, scanned-node, scanned-stop}
-use borrow.Author.Rules.{rules}
 use Rattle.sound_type.proofs.own_apply.Goals as goal
 
 pub returns-then-value-eq0 : goal.returns-then-value-eq0

@@ -5,7 +5,6 @@ use Rattle.encoding.specs.declared.Head.TheVariants.{ArrayOf}
 use Rattle.encoding.specs.Reading.{read_below}
 use Rattle.text_measure.proofs.Scans.{below-got, worded-got, worded-stop}
 use Rattle.sound_type.proofs.Scans.{scanned-array, unsound-array, scanned-stop}
-use borrow.Author.Rules.{rules}
 use Rattle.sound_type.proofs.own_array.Goals as goal
 
 pub size_fits-requires : goal.size_fits-requires

@@ -1,5 +1,4 @@
 use borrow.Author.Tests.{ne_eqb}
-use borrow.Author.Rules.{rules}
 use Rattle.sound_type.proofs.own_both.Goals as goal
 
 pub returns-then-ask-eq3 : goal.returns-then-ask-eq3

@@ -6,7 +6,6 @@ use Rattle.text_measure.specs.Lengths.{exact}
 use Rattle.text_measure.proofs.Scans.{worded-got, worded-stop}
 use Rattle.sound_type.specs.Judging.{words_sound}
 use Rattle.sound_type.proofs.Scans.{scanned-wrapper, scanned-stop}
-use borrow.Author.Rules.{rules}
 use Rattle.sound_type.proofs.own_meta.Goals as goal
 
 pub returns-in-Word : goal.returns-in-Word

@@ -8,7 +8,6 @@ use Rattle.text_measure.specs.Lengths.{worded}
 use Rattle.sound_type.proofs.Names.{judged-nothing, judged-all, judged-sound, was-fine, was-poor, was-no-name}
 use Rattle.sound_type.proofs.Scans.{scanned-stop}
 use Rattle.sound_type.proofs.Paths.{name-leaf, name-poor, name-unknown}
-use borrow.Author.Rules.{rules}
 use Rattle.sound_type.proofs.own_name.Goals as goal
 
 pub returns-then-words-at : goal.returns-then-words-at

@@ -1,7 +1,6 @@
 use native.Mathlib.Omega.{arith}
 use mathlib.Core.Path.{refl}
 use Rattle.sound_type.proofs.Paths.{path-leaf}
-use borrow.Author.Rules.{rules}
 use Rattle.sound_type.proofs.own_names.Goals as goal
 
 pub returns-then-ask-eq0 : goal.returns-then-ask-eq0

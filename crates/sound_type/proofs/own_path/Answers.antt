@@ -9,7 +9,6 @@ use Rattle.text_measure.specs.Lengths.{head_of_path}
 use Rattle.text_measure.proofs.Scans.{path_names}
 use Rattle.sound_type.proofs.Scans.{scanned-as, scanned-stop}
 use Rattle.sound_type.proofs.Paths.{path-root}
-use borrow.Author.Rules.{rules}
 use Rattle.sound_type.proofs.own_path.Goals as goal
 
 pub returns-then-count-eq0 : goal.returns-then-count-eq0

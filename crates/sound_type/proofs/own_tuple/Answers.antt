@@ -5,7 +5,6 @@ use Rattle.encoding.specs.Reading.{read_word}
 use Rattle.sound_type.specs.Judging.{words_sound}
 use Rattle.text_measure.proofs.Scans.{worded-got, worded-none, worded-stop, counted-some}
 use Rattle.sound_type.proofs.Scans.{counted-behind, scanned-plain, scanned-node, scanned-stop}
-use borrow.Author.Rules.{rules}
 use Rattle.sound_type.proofs.own_tuple.Goals as goal
 
 pub returns-then-value-eq0 : goal.returns-then-value-eq0

@@ -3,7 +3,6 @@ use Rattle.encoding.specs.declared.Head.TheVariants.{Plain}
 use Rattle.encoding.proofs.Heads.{head_at, head-end, plain-head}
 use Rattle.sound_type.specs.Judging.{words_sound}
 use Rattle.sound_type.proofs.Scans.{scanned-plain, scanned-stop, scanned-as}
-use borrow.Author.Rules.{rules}
 use Rattle.sound_type.proofs.scan_own.Goals as goal
 
 pub returns-then-words-at : goal.returns-then-words-at

@@ -1,5 +1,4 @@
 use native.Mathlib.Omega.{arith}
-use Rattle.sound_type.specs.Judging.{Outward}
 use Rattle.sound_type.proofs.Steps.{outward-here, outward-more}
 use Rattle.sound_type.proofs.settle.Goals as goal
 

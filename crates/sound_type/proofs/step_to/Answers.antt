@@ -1,4 +1,3 @@
-use borrow.Author.Rules.{rules}
 use Rattle.sound_type.proofs.step_to.Goals as goal
 
 pub returns : goal.returns

@@ -3,7 +3,6 @@ use Rattle.encoding.specs.Refusals.{unless, map_answer}
 use Rattle.encoding.specs.Types.{type_of}
 use Rattle.sound_type.specs.Calls.{type_is_sound}
 use Rattle.sound_type.proofs.Steps.{passed-ready}
-use borrow.Author.Rules.{rules}
 use Rattle.sound_type.proofs.type_is_sound.Goals as goal
 
 pub judge_whole-requires : goal.judge_whole-requires

@@ -1,15 +1,6 @@
-use native.Mathlib.Omega.{arith}
-use Prim.Native.Nat.{◌+◌, ◌-◌}
-use mathlib.Core.Path.{refl}
-use Rattle.encoding.specs.Reading.{read_below}
+use Prim.Native.Nat.{◌-◌}
 use Rattle.encoding.specs.Tables.{name_bytes, name_count}
-use Rattle.encoding.proofs.Reading.{word_got, word-stop}
-use Rattle.encoding.proofs.Inside.{below-there}
-use Rattle.text_measure.proofs.Scans.{below-got}
 use Rattle.sound_type.specs.Judging.{NamesOnward}
-use Rattle.sound_type.proofs.Names.{judged-nothing}
-use Rattle.sound_type.proofs.Paths.{onward-here, onward-more, path-leaf, path-stop}
-use borrow.Author.Rules.{rules}
 use Rattle.sound_type.proofs.unjudged_names.Given as goal
 
 abbrev pub invariant-loop-i : goal.invariant-loop-i

@@ -1,14 +1,9 @@
 use Prim.Native.Nat.{◌+◌, ◌<◌, ◌^◌}
-use mathlib.Core.Path.{refl}
 use mathlib.Core.Bool.{false}
 use mathlib.Core.List.{[]}
-use native.Mathlib.Omega.{arith}
 use Rattle.rast.specs.Bytes.{ascii}
-use Rattle.buffer.proofs.Passes.{laid-counted}
-use Rattle.text_pass.specs.Passes.{came}
 use Rattle.text_pass.specs.Texts.{name_at}
-use Rattle.text_pass.proofs.Passes.{Turn, came-to, ready-count, turn_last, turn-next, turn-start, turn-stop}
-use borrow.Author.Rules.{rules}
+use Rattle.text_pass.proofs.Passes.{Turn}
 use Rattle.text_attributes.proofs.count_arguments.Given as goal
 
 abbrev pub invariant-loop-next : goal.invariant-loop-next

@@ -3,7 +3,6 @@ use Rattle.encoding.specs.Reading.{read_word}
 use Rattle.encoding.proofs.Reading.{word_got, word-stop}
 use Rattle.text_pass.proofs.Passes.{stops-here, went-as}
 use Rattle.text_attributes.proofs.Attributes.{attributes-read, attributes-stop}
-use borrow.Author.Rules.{rules}
 use Rattle.text_attributes.proofs.count_attribute_list.Goals as goal
 
 pub count_attributes-requires : goal.count_attributes-requires

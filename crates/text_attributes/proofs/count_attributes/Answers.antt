@@ -1,11 +1,6 @@
-use mathlib.Core.Bool.{false}
-use mathlib.Core.List.{[]}
 use native.Mathlib.Omega.{arith}
-use Rattle.text_pass.specs.Passes.{Along}
 use Rattle.text_pass.proofs.Passes.{along-start, along-stop, came-to, ready-count}
 use Rattle.text_pass.proofs.Lists.{along-each, along-end}
-use Rattle.text_attributes.specs.Texts.{some_attributes}
-use borrow.Author.Rules.{rules}
 use Rattle.text_attributes.proofs.count_attributes.Goals as goal
 
 pub loop-left-init : goal.loop-left-init

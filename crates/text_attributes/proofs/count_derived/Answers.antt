@@ -11,7 +11,6 @@ use Rattle.text_pass.proofs.Passes.{AlongChain, came-to, chain-laid, chain_next,
 use Rattle.text_pass.proofs.Leaves.{count_none, count-refused, count-some}
 use Rattle.text_attributes.specs.Texts.{derived_at, some_arguments}
 use Rattle.text_attributes.proofs.Attributes.{derived-first}
-use borrow.Author.Rules.{rules}
 use Rattle.text_attributes.proofs.count_derived.Goals as goal
 
 pub returns-then-value-eq0 : goal.returns-then-value-eq0
@@ -27,14 +26,14 @@ unfolding ascii
 returns-in_default c =
     let arguments : let start = c in AlongChain false [] start.args.pos (derived_at start.args.words.now start.args.pairs.now start.args.text.now start.args.at) [] (start.args.pos + 1) (some_arguments start.args.words.now start.args.pairs.now start.args.text.now c.in-Word.value c.in-Word.next then λ r. last (got (ascii ")") r)) = let start = c in
     chain-laid (count-some (derived-first start.args.words.now start.args.pairs.now start.args.text.now start.args.at) c.scan_word.ensures c.in-Word.is c.if-value-eq0.false ready-count) (laid-counted refl refl) in
-    chain-stop (arguments) c.count_arguments-list.ensures c.in_default.is
+    chain-stop arguments c.count_arguments-list.ensures c.in_default.is
 
 pub returns-in-At : goal.returns-in-At
 unfolding ascii
 returns-in-At c =
     let arguments : let start = c in AlongChain false [] start.args.pos (derived_at start.args.words.now start.args.pairs.now start.args.text.now start.args.at) [] (start.args.pos + 1) (some_arguments start.args.words.now start.args.pairs.now start.args.text.now c.in-Word.value c.in-Word.next then λ r. last (got (ascii ")") r)) = let start = c in
     chain-laid (count-some (derived-first start.args.words.now start.args.pairs.now start.args.text.now start.args.at) c.scan_word.ensures c.in-Word.is c.if-value-eq0.false ready-count) (laid-counted refl refl) in
-    came (last-laid (chain_next (arguments) (came-to c.count_arguments-list.ensures c.in-At.is)) (laid-counted refl c.count_few.ensures))
+    came (last-laid (chain_next arguments (came-to c.count_arguments-list.ensures c.in-At.is)) (laid-counted refl c.count_few.ensures))
 
 pub returns-in-NoWord : goal.returns-in-NoWord
 returns-in-NoWord c =

@@ -1,11 +1,8 @@
-use mathlib.Core.Bool.{true}
-use mathlib.Core.Path.{◌≡◌, refl}
+use mathlib.Core.Path.{refl}
 use native.Mathlib.Omega.{arith}
-use lib.ListN.{length}
 use Rattle.rast.specs.Bytes.{ascii}
 use Rattle.buffer.proofs.Passes.{laid-wrote}
-use Rattle.text_pass.specs.Texts.{name_at}
-use Rattle.text_pass.proofs.Passes.{Turn, turn_gap, turn-item, turn_last, turn-next, turn-start}
+use Rattle.text_pass.proofs.Passes.{turn_gap, turn-item, turn_last, turn-next, turn-start}
 use Rattle.text_pass.proofs.Leaves.{name-word, word_below}
 use borrow.Author.Rules.{rules}
 use Rattle.text_attributes.proofs.write_arguments.Goals as goal

@@ -6,7 +6,6 @@ use Rattle.encoding.proofs.Reading.{word_in}
 use Rattle.text_pass.proofs.Passes.{came-as, ready-as}
 use Rattle.text_attributes.specs.Texts.{attributes_at, some_attributes}
 use Rattle.text_attributes.proofs.Attributes.{attributes-read, attributes-there}
-use borrow.Author.Rules.{rules}
 use Rattle.text_attributes.proofs.write_attribute_list.Goals as goal
 
 pub offset_bounds-words-at : goal.offset_bounds-words-at
@@ -29,12 +28,12 @@ overflow_add-at c =
 pub write_attributes-requires : goal.write_attributes-requires
 write_attributes-requires c =
     let there : (c.args.at < length c.args.words.now) = attributes-there c.args.words.now c.args.pairs.now c.args.text.now c.args.level c.args.at c.requires.1 in
-    let attributes : attributes_at c.args.words.now c.args.pairs.now c.args.text.now c.args.level c.args.at ≡ some_attributes c.args.words.now c.args.pairs.now c.args.text.now c.args.level (get_or c.args.words.now c.args.at 0) (c.args.at + 1) = attributes-read c.args.words.now c.args.pairs.now c.args.text.now c.args.level c.args.at (word_in c.args.words.now c.args.at (there)) in
+    let attributes : attributes_at c.args.words.now c.args.pairs.now c.args.text.now c.args.level c.args.at ≡ some_attributes c.args.words.now c.args.pairs.now c.args.text.now c.args.level (get_or c.args.words.now c.args.at 0) (c.args.at + 1) = attributes-read c.args.words.now c.args.pairs.now c.args.text.now c.args.level c.args.at (word_in c.args.words.now c.args.at there) in
     let start = c in
-    (start.requires.0, ready-as (attributes) start.requires.1)
+    (start.requires.0, ready-as attributes start.requires.1)
 
 pub returns : goal.returns
 returns c =
     let there : (c.args.at < length c.args.words.now) = attributes-there c.args.words.now c.args.pairs.now c.args.text.now c.args.level c.args.at c.requires.1 in
-    let attributes : attributes_at c.args.words.now c.args.pairs.now c.args.text.now c.args.level c.args.at ≡ some_attributes c.args.words.now c.args.pairs.now c.args.text.now c.args.level (get_or c.args.words.now c.args.at 0) (c.args.at + 1) = attributes-read c.args.words.now c.args.pairs.now c.args.text.now c.args.level c.args.at (word_in c.args.words.now c.args.at (there)) in
-    came-as (sym (attributes)) c.write_attributes.ensures
+    let attributes : attributes_at c.args.words.now c.args.pairs.now c.args.text.now c.args.level c.args.at ≡ some_attributes c.args.words.now c.args.pairs.now c.args.text.now c.args.level (get_or c.args.words.now c.args.at 0) (c.args.at + 1) = attributes-read c.args.words.now c.args.pairs.now c.args.text.now c.args.level c.args.at (word_in c.args.words.now c.args.at there) in
+    came-as (sym attributes) c.write_attributes.ensures

@@ -1,12 +1,8 @@
-use mathlib.Core.Path.{◌≡◌, refl}
+use mathlib.Core.Path.{◌≡◌}
 use mathlib.Core.Bool.{true}
-use native.Mathlib.Omega.{arith}
 use lib.ListN.{length}
 use Rattle.text_pass.specs.Passes.{Along}
-use Rattle.text_pass.proofs.Passes.{along-item, along-start, came-to}
-use Rattle.text_pass.proofs.Lists.{along-each, along-end}
 use Rattle.text_attributes.specs.Texts.{some_attributes}
-use borrow.Author.Rules.{rules}
 use Rattle.text_attributes.proofs.write_attributes.Given as goal
 
 abbrev pub invariant-loop-left : goal.invariant-loop-left

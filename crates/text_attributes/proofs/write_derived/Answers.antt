@@ -11,7 +11,6 @@ use Rattle.text_pass.proofs.Passes.{AlongChain, chain_fits, chain-laid, chain_ne
 use Rattle.text_pass.proofs.Leaves.{count-there, there-none, there-some}
 use Rattle.text_attributes.specs.Texts.{derived_at, some_arguments}
 use Rattle.text_attributes.proofs.Attributes.{derived-first}
-use borrow.Author.Rules.{rules}
 use Rattle.text_attributes.proofs.write_derived.Goals as goal
 
 pub offset_bounds-words-at : goal.offset_bounds-words-at
@@ -41,7 +40,7 @@ unfolding ascii
 put-p-requires c =
     let arguments : let start = c in AlongChain true start.args.out.now start.args.pos (derived_at start.args.words.now start.args.pairs.now start.args.text.now start.args.at) start.args.out.now start.args.pos (got (ascii "(") (start.args.at + 1) then λ q. some_arguments start.args.words.now start.args.pairs.now start.args.text.now (get_or start.args.words.now start.args.at 0) q then λ r. last (got (ascii ")") r)) = let start = c in
     there-some (derived-first start.args.words.now start.args.pairs.now start.args.text.now start.args.at) start.requires.1 c.if-n-eq0.false in
-    (chain_fits (arguments)).room refl
+    (chain_fits arguments).room refl
 
 pub overflow_add-at : goal.overflow_add-at
 overflow_add-at c =
@@ -54,21 +53,21 @@ unfolding ascii
 write_arguments-list-requires c =
     let arguments : let start = c in AlongChain true start.args.out.now start.args.pos (derived_at start.args.words.now start.args.pairs.now start.args.text.now start.args.at) start.args.out.now start.args.pos (got (ascii "(") (start.args.at + 1) then λ q. some_arguments start.args.words.now start.args.pairs.now start.args.text.now (get_or start.args.words.now start.args.at 0) q then λ r. last (got (ascii ")") r)) = let start = c in
     there-some (derived-first start.args.words.now start.args.pairs.now start.args.text.now start.args.at) start.requires.1 c.if-n-eq0.false in
-    let behind : let start = c in AlongChain true start.args.out.now start.args.pos (derived_at start.args.words.now start.args.pairs.now start.args.text.now start.args.at) c.put-p.new.out c.put-p.result (some_arguments start.args.words.now start.args.pairs.now start.args.text.now (get_or start.args.words.now start.args.at 0) (start.args.at + 1) then λ r. last (got (ascii ")") r)) = chain-laid (arguments) (laid-wrote refl c.put-p.ensures) in
-    (c.requires.0, omega (arith, c.if-n-eq0.false), chain-ready (behind))
+    let behind : let start = c in AlongChain true start.args.out.now start.args.pos (derived_at start.args.words.now start.args.pairs.now start.args.text.now start.args.at) c.put-p.new.out c.put-p.result (some_arguments start.args.words.now start.args.pairs.now start.args.text.now (get_or start.args.words.now start.args.at 0) (start.args.at + 1) then λ r. last (got (ascii ")") r)) = chain-laid arguments (laid-wrote refl c.put-p.ensures) in
+    (c.requires.0, omega (arith, c.if-n-eq0.false), chain-ready behind)
 
 pub put-requires : goal.put-requires
 unfolding ascii
 put-requires c =
     let arguments : let start = c in AlongChain true start.args.out.now start.args.pos (derived_at start.args.words.now start.args.pairs.now start.args.text.now start.args.at) start.args.out.now start.args.pos (got (ascii "(") (start.args.at + 1) then λ q. some_arguments start.args.words.now start.args.pairs.now start.args.text.now (get_or start.args.words.now start.args.at 0) q then λ r. last (got (ascii ")") r)) = let start = c in
     there-some (derived-first start.args.words.now start.args.pairs.now start.args.text.now start.args.at) start.requires.1 c.if-n-eq0.false in
-    let behind : let start = c in AlongChain true start.args.out.now start.args.pos (derived_at start.args.words.now start.args.pairs.now start.args.text.now start.args.at) c.put-p.new.out c.put-p.result (some_arguments start.args.words.now start.args.pairs.now start.args.text.now (get_or start.args.words.now start.args.at 0) (start.args.at + 1) then λ r. last (got (ascii ")") r)) = chain-laid (arguments) (laid-wrote refl c.put-p.ensures) in
-    (last_fits (chain_next (behind) c.write_arguments-list.ensures)).room refl
+    let behind : let start = c in AlongChain true start.args.out.now start.args.pos (derived_at start.args.words.now start.args.pairs.now start.args.text.now start.args.at) c.put-p.new.out c.put-p.result (some_arguments start.args.words.now start.args.pairs.now start.args.text.now (get_or start.args.words.now start.args.at 0) (start.args.at + 1) then λ r. last (got (ascii ")") r)) = chain-laid arguments (laid-wrote refl c.put-p.ensures) in
+    (last_fits (chain_next behind c.write_arguments-list.ensures)).room refl
 
 pub returns : goal.returns
 unfolding ascii
 returns c =
     let arguments : let start = c in AlongChain true start.args.out.now start.args.pos (derived_at start.args.words.now start.args.pairs.now start.args.text.now start.args.at) start.args.out.now start.args.pos (got (ascii "(") (start.args.at + 1) then λ q. some_arguments start.args.words.now start.args.pairs.now start.args.text.now (get_or start.args.words.now start.args.at 0) q then λ r. last (got (ascii ")") r)) = let start = c in
     there-some (derived-first start.args.words.now start.args.pairs.now start.args.text.now start.args.at) start.requires.1 c.if-n-eq0.false in
-    let behind : let start = c in AlongChain true start.args.out.now start.args.pos (derived_at start.args.words.now start.args.pairs.now start.args.text.now start.args.at) c.put-p.new.out c.put-p.result (some_arguments start.args.words.now start.args.pairs.now start.args.text.now (get_or start.args.words.now start.args.at 0) (start.args.at + 1) then λ r. last (got (ascii ")") r)) = chain-laid (arguments) (laid-wrote refl c.put-p.ensures) in
-    last-laid (chain_next (behind) c.write_arguments-list.ensures) (laid-wrote refl c.put.ensures)
+    let behind : let start = c in AlongChain true start.args.out.now start.args.pos (derived_at start.args.words.now start.args.pairs.now start.args.text.now start.args.at) c.put-p.new.out c.put-p.result (some_arguments start.args.words.now start.args.pairs.now start.args.text.now (get_or start.args.words.now start.args.at 0) (start.args.at + 1) then λ r. last (got (ascii ")") r)) = chain-laid arguments (laid-wrote refl c.put-p.ensures) in
+    last-laid (chain_next behind c.write_arguments-list.ensures) (laid-wrote refl c.put.ensures)

@@ -9,7 +9,6 @@ use Rattle.encoding.specs.Types.{type_at}
 use Rattle.text_measure.proofs.Measured.{Sized, measured-got, measured-stop}
 use Rattle.encoding.proofs.Answers.{filled-stop, filled-left, filled-short, filled-done}
 use Rattle.text_calls.specs.declared.TextAnswer.TheVariants.{Length, Refused}
-use borrow.Author.Rules.{rules}
 use Rattle.text_calls.proofs.fill_type.Goals as goal
 
 pub measure_type-requires : goal.measure_type-requires
@@ -21,7 +20,7 @@ returns-then-next-words c =
     let read : let start = c in Sized (type_at start.args.words.now start.args.pairs.now start.args.text.now 0) c.in-Measured.next c.in-Measured.bytes = let start = c in
     measured-got (type_at start.args.words.now start.args.pairs.now start.args.text.now 0) c.measure_type.ensures c.in-Measured.is in
     let start = c in
-    filled-left Length Refused start.args.out.now Type-to_string (length start.args.words.now) (type_at start.args.words.now start.args.pairs.now start.args.text.now 0) (read).reads c.if-next-words.true
+    filled-left Length Refused start.args.out.now Type-to_string (length start.args.words.now) (type_at start.args.words.now start.args.pairs.now start.args.text.now 0) read.reads c.if-next-words.true
 
 pub returns-then-out-bytes : goal.returns-then-out-bytes
 returns-then-out-bytes c =

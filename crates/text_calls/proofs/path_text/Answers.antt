@@ -1,7 +1,6 @@
 use Rattle.encoding.specs.Types.{path_in}
 use Rattle.text_calls.specs.Calls.{path_text}
 use Rattle.text_calls.proofs.Calls.{tables-tested, text-filled, text-refused}
-use borrow.Author.Rules.{rules}
 use Rattle.text_calls.proofs.path_text.Goals as goal
 
 pub fill_path-requires : goal.fill_path-requires

@@ -1,7 +1,6 @@
 use Rattle.encoding.specs.Types.{type_of}
 use Rattle.text_calls.specs.Calls.{type_text}
 use Rattle.text_calls.proofs.Calls.{tables-tested, text-filled, text-refused}
-use borrow.Author.Rules.{rules}
 use Rattle.text_calls.proofs.type_text.Goals as goal
 
 pub fill_type-requires : goal.fill_type-requires

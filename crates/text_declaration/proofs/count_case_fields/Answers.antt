@@ -4,7 +4,6 @@ use Rattle.encoding.specs.Reading.{read_below}
 use Rattle.encoding.proofs.Reading.{word_got, word-stop}
 use Rattle.text_pass.proofs.Passes.{stops-here, went-as}
 use Rattle.text_declaration.proofs.Declarations.{case-listed, fields-stop}
-use borrow.Author.Rules.{rules}
 use Rattle.text_declaration.proofs.count_case_fields.Goals as goal
 
 pub returns-in-Word : goal.returns-in-Word

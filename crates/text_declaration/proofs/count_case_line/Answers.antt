@@ -8,7 +8,6 @@ use Rattle.text_doc.proofs.Laying.{line-size}
 use Rattle.text_fields.specs.Texts.{line_text}
 use Rattle.text_pass.proofs.Passes.{chain-laid, chain-start, last-went, ready-count}
 use Rattle.text_declaration.proofs.Declarations.{case-line-runs}
-use borrow.Author.Rules.{rules}
 use Rattle.text_declaration.proofs.count_case_line.Goals as goal
 
 pub returns : goal.returns

@@ -1,12 +1,8 @@
-use mathlib.Core.Bool.{false}
-use mathlib.Core.List.{[]}
 use mathlib.Core.Path.{refl}
 use Rattle.rast.specs.Bytes.{ascii}
 use Rattle.buffer.proofs.Passes.{laid-counted}
 use Rattle.text_pass.specs.Passes.{came}
-use Rattle.text_pass.proofs.Passes.{Turn, came-to, ready-count, turn_last, turn-next, turn-start, turn-stop}
-use Rattle.text_declaration.specs.Texts.{case_line_at}
-use borrow.Author.Rules.{rules}
+use Rattle.text_pass.proofs.Passes.{came-to, ready-count, turn_last, turn-next, turn-start, turn-stop}
 use Rattle.text_declaration.proofs.count_cases.Goals as goal
 
 pub loop-next-init : goal.loop-next-init

@@ -2,7 +2,6 @@ use Rattle.text_declaration.proofs.Declarations.{after-above, after-below, after
 use Rattle.text_pass.proofs.Passes.{ready-as, stops-here, went-as}
 use mathlib.Core.Path.{sym}
 use native.Mathlib.Omega.{arith}
-use borrow.Author.Rules.{rules}
 use Rattle.text_declaration.proofs.lay_after.Goals as goal
 
 pub lay_use-requires : goal.lay_use-requires

@@ -2,7 +2,6 @@ use Rattle.text_declaration.proofs.Declarations.{body-struct, body-enum, body-sy
 use Rattle.text_pass.proofs.Passes.{ready-as, went-as}
 use mathlib.Core.Path.{sym}
 use native.Mathlib.Omega.{arith}
-use borrow.Author.Rules.{rules}
 use Rattle.text_declaration.proofs.lay_body.Goals as goal
 
 pub lay_fields-requires : goal.lay_fields-requires

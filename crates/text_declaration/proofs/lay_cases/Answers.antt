@@ -1,5 +1,4 @@
 use Rattle.text_pass.proofs.Passes.{came-went, counts-went, ready-true}
-use borrow.Author.Rules.{rules}
 use Rattle.text_declaration.proofs.lay_cases.Goals as goal
 
 pub write_cases-spot-requires : goal.write_cases-spot-requires

@@ -3,7 +3,6 @@ use Rattle.encoding.proofs.Reading.{word_got, word-stop}
 use Rattle.encoding.specs.Reading.{read_word}
 use Rattle.text_pass.proofs.Passes.{ready-as, stops-here, went-as}
 use mathlib.Core.Path.{sym}
-use borrow.Author.Rules.{rules}
 use Rattle.text_declaration.proofs.lay_declaration.Goals as goal
 
 pub lay_after-requires : goal.lay_after-requires

@@ -2,7 +2,6 @@ use Rattle.text_declaration.specs.Texts.{fields_end}
 use Rattle.buffer.proofs.Passes.{fits-as, laid_as, laid-nothing}
 use Rattle.rast.specs.Bytes.{ascii}
 use mathlib.Core.Path.{ap, sym}
-use borrow.Author.Rules.{rules}
 use Rattle.text_declaration.proofs.lay_fields_end.Goals as goal
 
 pub lay-requires : goal.lay-requires

@@ -3,7 +3,6 @@ use Rattle.text_declaration.specs.Texts.{keyword_text}
 use Rattle.buffer.proofs.Passes.{fits-as, laid_as}
 use Rattle.rast.specs.Bytes.{ascii}
 use mathlib.Core.Path.{ap, sym}
-use borrow.Author.Rules.{rules}
 use Rattle.text_declaration.proofs.lay_keyword.Goals as goal
 
 pub lay-requires : goal.lay-requires

@@ -1,10 +1,7 @@
-use mathlib.Core.Bool.{true}
-use mathlib.Core.Path.{◌≡◌, refl}
-use lib.ListN.{length}
+use mathlib.Core.Path.{refl}
 use Rattle.rast.specs.Bytes.{ascii}
 use Rattle.buffer.proofs.Passes.{laid-wrote}
-use Rattle.text_pass.proofs.Passes.{Turn, turn_gap, turn-item, turn_last, turn-next, turn-start}
-use Rattle.text_declaration.specs.Texts.{case_line_at}
+use Rattle.text_pass.proofs.Passes.{turn_gap, turn-item, turn_last, turn-next, turn-start}
 use borrow.Author.Rules.{rules}
 use Rattle.text_declaration.proofs.write_cases.Goals as goal
 

@@ -1,11 +1,9 @@
 use mathlib.Core.Bool.{true}
-use mathlib.Core.Path.{◌≡◌, refl}
+use mathlib.Core.Path.{◌≡◌}
 use lib.ListN.{length}
 use Rattle.rast.specs.Bytes.{ascii}
-use Rattle.buffer.proofs.Passes.{laid-wrote}
-use Rattle.text_pass.proofs.Passes.{Turn, turn_gap, turn-item, turn_last, turn-next, turn-start}
+use Rattle.text_pass.proofs.Passes.{Turn}
 use Rattle.text_declaration.specs.Texts.{case_line_at}
-use borrow.Author.Rules.{rules}
 use Rattle.text_declaration.proofs.write_cases.Given as goal
 
 abbrev pub invariant-loop-left : goal.invariant-loop-left

@@ -2,7 +2,6 @@ use Rattle.encoding.specs.Declarations.{declaration_of}
 use Rattle.text_calls.proofs.Calls.{level-tested, tables-tested, text-filled, text-refused}
 use Rattle.text_declaration_call.specs.Calls.{declaration_text}
 use Rattle.text_declaration_call.proofs.Filling.{level-passed}
-use borrow.Author.Rules.{rules}
 use Rattle.text_declaration_call.proofs.declaration_text.Goals as goal
 
 pub fill-requires : goal.fill-requires

@@ -1,8 +1,4 @@
-use Rattle.text_declaration_call.proofs.Filling.{Turn, turn-done, turn-left, turn-next, turn-ready, turn-short, turn-start, turn_stopped, turns, turns-less}
-use Rattle.encoding.specs.Declarations.{declaration_at}
-use Rattle.rast.specs.DeclarationToString.{Declaration-to_string}
-use lib.ListN.{length}
-use mathlib.Core.Path.{◌≡◌}
+use Rattle.text_declaration_call.proofs.Filling.{turn-done, turn-left, turn-next, turn-ready, turn-short, turn-start, turn_stopped, turns-less}
 use borrow.Author.Rules.{rules}
 use Rattle.text_declaration_call.proofs.fill.Goals as goal
 

@@ -1,9 +1,8 @@
-use Rattle.text_declaration_call.proofs.Filling.{Turn, turn-done, turn-left, turn-next, turn-ready, turn-short, turn-start, turn_stopped, turns, turns-less}
+use Rattle.text_declaration_call.proofs.Filling.{Turn, turns}
 use Rattle.encoding.specs.Declarations.{declaration_at}
 use Rattle.rast.specs.DeclarationToString.{Declaration-to_string}
 use lib.ListN.{length}
 use mathlib.Core.Path.{◌≡◌}
-use borrow.Author.Rules.{rules}
 use Rattle.text_declaration_call.proofs.fill.Given as goal
 
 abbrev pub invariant-loop-next : goal.invariant-loop-next

@@ -2,7 +2,6 @@ use Rattle.text_doc.proofs.Runs.{run-byte, run_inside}
 use Rattle.text_doc.proofs.Splits.{close-splits, splits-as}
 use lib.ListN.{drop, length-drop}
 use native.Mathlib.Omega.{arith}
-use borrow.Author.Rules.{rules}
 use Rattle.text_doc.proofs.fence_step.Goals as goal
 
 pub open_step-requires : goal.open_step-requires

@@ -1,6 +1,5 @@
 use Rattle.rast.specs.Bytes.{ascii}
 use mathlib.Core.Path.{◌∙◌, sym}
-use borrow.Author.Rules.{rules}
 use Rattle.text_doc.proofs.is_blank.Goals as goal
 
 pub returns-then-stands : goal.returns-then-stands

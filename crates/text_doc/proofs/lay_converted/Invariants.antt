@@ -1,10 +1,8 @@
 use Prim.Native.Nat.{◌-◌}
-use Rattle.text_doc.proofs.Laying.{Reached, reached-all, reached-fits, reached-more, reached-start}
+use Rattle.text_doc.proofs.Laying.{Reached}
 use Rattle.rast.specs.Indent.{indent}
 use lib.ListN.{length}
 use mathlib.Core.Path.{◌≡◌}
-use native.Mathlib.Omega.{arith}
-use borrow.Author.Rules.{rules}
 use Rattle.text_doc.proofs.lay_converted.Given as goal
 
 abbrev pub invariant-loop-place : goal.invariant-loop-place

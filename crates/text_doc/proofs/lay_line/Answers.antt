@@ -1,7 +1,6 @@
 use Rattle.text_doc.proofs.Laying.{line-size}
 use Rattle.buffer.proofs.Passes.{laid-size, laid-wrote}
 use mathlib.Core.Path.{sym}
-use borrow.Author.Rules.{rules}
 use Rattle.text_doc.proofs.lay_line.Goals as goal
 
 pub put_line-requires : goal.put_line-requires

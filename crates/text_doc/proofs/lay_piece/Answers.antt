@@ -9,7 +9,6 @@ use Rattle.rast.specs.Doc.{DocStringPrefix}
 use Rattle.rast.specs.Indent.{indent}
 use lib.ListN.{drop}
 use mathlib.Core.Path.{◌≡◌, ap, sym}
-use borrow.Author.Rules.{rules}
 use Rattle.text_doc.proofs.lay_piece.Goals as goal
 
 pub lay_line-next-requires : goal.lay_line-next-requires

@@ -1,6 +1,5 @@
 use Rattle.text_doc.proofs.Runs.{nearest-line, passed-all, passed_then}
 use native.Mathlib.Omega.{arith}
-use borrow.Author.Rules.{rules}
 use Rattle.text_doc.proofs.line_length.Goals as goal
 
 pub returns-then-doc-at-lt64 : goal.returns-then-doc-at-lt64

@@ -1,6 +1,4 @@
-use Prim.Native.Nat.{◌-◌, ◌≤◌}
 use Rattle.text_doc.proofs.Runs.{nearest-more, nearest-none}
-use Rattle.text_doc.specs.Steps.{Nearest}
 use mathlib.Core.Path.{◌≡◌}
 use native.Mathlib.Omega.{arith}
 use borrow.Author.Rules.{rules}

@@ -1,9 +1,5 @@
 use Prim.Native.Nat.{◌-◌, ◌≤◌}
-use Rattle.text_doc.proofs.Runs.{nearest-more, nearest-none}
 use Rattle.text_doc.specs.Steps.{Nearest}
-use mathlib.Core.Path.{◌≡◌}
-use native.Mathlib.Omega.{arith}
-use borrow.Author.Rules.{rules}
 use Rattle.text_doc.proofs.near_length.Given as goal
 
 abbrev pub invariant-loop-i : goal.invariant-loop-i

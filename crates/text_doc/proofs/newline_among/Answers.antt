@@ -1,6 +1,5 @@
-use Prim.Native.Nat.{◌+◌, ◌-◌, ◌≤◌}
+use Prim.Native.Nat.{◌+◌}
 use Rattle.text_doc.proofs.Runs.{passed-more, passed_none}
-use Rattle.text_doc.specs.Steps.{Passed}
 use borrow.Author.Tests.{eqb-true, not-false}
 use mathlib.Core.Path.{◌≡◌}
 use native.Mathlib.Nat.{add-zero}

@@ -1,11 +1,6 @@
 use Prim.Native.Nat.{◌+◌, ◌-◌, ◌≤◌}
-use Rattle.text_doc.proofs.Runs.{passed-more, passed_none}
 use Rattle.text_doc.specs.Steps.{Passed}
-use borrow.Author.Tests.{eqb-true, not-false}
 use mathlib.Core.Path.{◌≡◌}
-use native.Mathlib.Nat.{add-zero}
-use native.Mathlib.Omega.{arith}
-use borrow.Author.Rules.{rules}
 use Rattle.text_doc.proofs.newline_among.Given as goal
 
 abbrev pub invariant-loop-i : goal.invariant-loop-i

@@ -1,7 +1,4 @@
-use Prim.Native.Nat.{◌-◌}
 use Rattle.text_doc.proofs.Runs.{passed-more, passed_none}
-use Rattle.text_doc.specs.Steps.{Passed}
-use lib.ListN.{length}
 use native.Mathlib.Omega.{arith}
 use borrow.Author.Rules.{rules}
 use Rattle.text_doc.proofs.newline_from.Goals as goal

@@ -1,9 +1,6 @@
 use Prim.Native.Nat.{◌-◌}
-use Rattle.text_doc.proofs.Runs.{passed-more, passed_none}
 use Rattle.text_doc.specs.Steps.{Passed}
 use lib.ListN.{length}
-use native.Mathlib.Omega.{arith}
-use borrow.Author.Rules.{rules}
 use Rattle.text_doc.proofs.newline_from.Given as goal
 
 abbrev pub invariant-loop-i : goal.invariant-loop-i

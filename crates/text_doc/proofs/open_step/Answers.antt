@@ -4,7 +4,6 @@ use Rattle.text_doc.proofs.Splits.{other-splits, rust-splits, splits-as, unnamed
 use lib.ListN.{length}
 use mathlib.Core.Path.{◌∙◌, sym}
 use native.Mathlib.Omega.{arith}
-use borrow.Author.Rules.{rules}
 use Rattle.text_doc.proofs.open_step.Goals as goal
 
 pub returns-then-end-doc : goal.returns-then-end-doc

@@ -4,7 +4,6 @@ use Rattle.rast.specs.Bytes.{Bytes, ascii}
 use mathlib.Core.List.{◌++◌}
 use mathlib.Core.Path.{ap, sym}
 use native.Mathlib.Omega.{arith}
-use borrow.Author.Rules.{rules}
 use Rattle.text_doc.proofs.put_line.Goals as goal
 
 pub put-next-requires : goal.put-next-requires

@@ -1,9 +1,6 @@
-use Prim.Native.Nat.{◌+◌, ◌-◌, ◌≤◌}
 use Rattle.text_doc.proofs.Runs.{begins-some, run_more, run_none}
-use Rattle.text_doc.specs.Steps.{run_of}
-use borrow.Author.Tests.{not-false, not-true}
-use lib.ListN.{drop, length}
-use mathlib.Core.Path.{◌∙◌, ◌≡◌, sym}
+use lib.ListN.{drop}
+use mathlib.Core.Path.{◌∙◌, sym}
 use native.Mathlib.Omega.{arith}
 use borrow.Author.Rules.{rules}
 use Rattle.text_doc.proofs.run.Goals as goal

@@ -1,7 +1,4 @@
-use Prim.Native.Nat.{◌-◌}
 use Rattle.text_doc.proofs.Runs.{passed_none, passed_then}
-use Rattle.text_doc.specs.Steps.{Passed}
-use lib.ListN.{length}
 use native.Mathlib.Omega.{arith}
 use Rattle.text_doc.proofs.skip_blocks.Goals as goal
 

@@ -1,8 +1,6 @@
 use Prim.Native.Nat.{◌-◌}
-use Rattle.text_doc.proofs.Runs.{passed_none, passed_then}
 use Rattle.text_doc.specs.Steps.{Passed}
 use lib.ListN.{length}
-use native.Mathlib.Omega.{arith}
 use Rattle.text_doc.proofs.skip_blocks.Given as goal
 
 abbrev pub invariant-loop-i : goal.invariant-loop-i

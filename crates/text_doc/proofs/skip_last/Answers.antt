@@ -3,7 +3,6 @@ use mathlib.Core.Path.{◌≡◌}
 use native.Mathlib.Omega.{arith}
 use lib.ListN.{length}
 use Rattle.text_doc.proofs.Runs.{passed_none, passed_over}
-use borrow.Author.Rules.{rules}
 use Rattle.text_doc.proofs.skip_last.Goals as goal
 
 pub returns-then-doc-at-lt16 : goal.returns-then-doc-at-lt16

@@ -1,6 +1,5 @@
 use Rattle.text_doc.proofs.Splits.{bar-splits, code-spaces-splits, few-spaces-splits, splits-as}
 use native.Mathlib.Omega.{arith}
-use borrow.Author.Rules.{rules}
 use Rattle.text_doc.proofs.space_step.Goals as goal
 
 pub returns-then-fence-ne0 : goal.returns-then-fence-ne0

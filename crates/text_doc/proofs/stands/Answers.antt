@@ -1,6 +1,5 @@
 use Rattle.text_doc.proofs.Runs.{begins-at, begins-end}
 use mathlib.Core.Path.{sym}
-use borrow.Author.Rules.{rules}
 use Rattle.text_doc.proofs.stands.Goals as goal
 
 pub returns-then-at-doc : goal.returns-then-at-doc

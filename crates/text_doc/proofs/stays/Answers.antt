@@ -3,7 +3,6 @@ use Rattle.rast.proofs.BytesLaws.{never}
 use Rattle.text_doc.specs.Steps.{Fence, NoFence}
 use borrow.Author.Tests.{not-false, not-true}
 use mathlib.Core.Path.{◌∙◌, subst, sym}
-use borrow.Author.Rules.{rules}
 use Rattle.text_doc.proofs.stays.Goals as goal
 
 pub returns-then-not-started : goal.returns-then-not-started

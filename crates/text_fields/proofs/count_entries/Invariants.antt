@@ -1,13 +1,7 @@
 use mathlib.Core.Bool.{false}
 use mathlib.Core.List.{[]}
-use mathlib.Core.Path.{refl}
-use native.Mathlib.Omega.{arith}
-use Rattle.buffer.proofs.Passes.{laid-size}
-use Rattle.text_fields.proofs.Fields.{entry-as}
 use Rattle.text_fields.specs.Texts.{entry_at, entry_gap}
-use Rattle.text_pass.proofs.Passes.{Turn, came-to, ready-count, turn_last, turn-next, turn-start, turn-stop, went-as}
-use Rattle.text_pass.specs.Passes.{Went, came}
-use borrow.Author.Rules.{rules}
+use Rattle.text_pass.proofs.Passes.{Turn}
 use Rattle.text_fields.proofs.count_entries.Given as goal
 
 abbrev pub invariant-loop-next : goal.invariant-loop-next

@@ -3,7 +3,6 @@ use Rattle.text_formal.proofs.Texts.{labelled-as}
 use Rattle.text_formal.specs.Labels.{opened}
 use Rattle.text_pass.proofs.Passes.{along-start, ready-count}
 use mathlib.Core.Path.{sym}
-use borrow.Author.Rules.{rules}
 use Rattle.text_fields.proofs.count_label.Goals as goal
 
 pub returns-then-named : goal.returns-then-named

@@ -7,7 +7,6 @@ use Rattle.text_fields.specs.Texts.{no_fields}
 use Rattle.text_pass.proofs.Leaves.{count_none, count-refused, count-some}
 use Rattle.text_pass.proofs.Passes.{last-went, ready-count}
 use Rattle.text_pass.specs.Passes.{came}
-use borrow.Author.Rules.{rules}
 use Rattle.text_fields.proofs.count_list.Goals as goal
 
 pub returns-then-value-eq0 : goal.returns-then-value-eq0

@@ -1,7 +1,6 @@
 use Rattle.text_formal.proofs.Texts.{label-none, label-open, label-whole}
 use Rattle.text_pass.proofs.Passes.{stops-here}
 use Rattle.text_pass.specs.Passes.{came}
-use borrow.Author.Rules.{rules}
 use Rattle.text_fields.proofs.count_rest.Goals as goal
 
 pub returns-in-Open : goal.returns-in-Open

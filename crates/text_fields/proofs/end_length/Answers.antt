@@ -3,7 +3,6 @@ use native.Mathlib.Omega.{arith}
 use Rattle.text_fields.proofs.Fields.{end-size, size_of}
 use Rattle.text_fields.specs.Texts.{list_end}
 use Rattle.rast.specs.Bytes.{ascii}
-use borrow.Author.Rules.{rules}
 use Rattle.text_fields.proofs.end_length.Goals as goal
 
 pub returns-then-named : goal.returns-then-named

@@ -3,7 +3,6 @@ use native.Mathlib.Omega.{arith}
 use Rattle.text_fields.proofs.Fields.{front-size, size_of}
 use Rattle.text_fields.specs.Texts.{list_front}
 use Rattle.rast.specs.Bytes.{ascii}
-use borrow.Author.Rules.{rules}
 use Rattle.text_fields.proofs.front_length.Goals as goal
 
 pub returns-then-named : goal.returns-then-named

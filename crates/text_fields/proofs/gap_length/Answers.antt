@@ -4,7 +4,6 @@ use Rattle.text_fields.proofs.Fields.{comma-line-size, size_of}
 use Rattle.text_fields.specs.Texts.{entry_gap}
 use Rattle.rast.specs.Bytes.{ascii}
 use Rattle.rast.specs.DeclarationToString.{separator_text}
-use borrow.Author.Rules.{rules}
 use Rattle.text_fields.proofs.gap_length.Goals as goal
 
 pub returns-in-Named : goal.returns-in-Named

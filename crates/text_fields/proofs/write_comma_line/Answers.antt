@@ -6,7 +6,6 @@ use Rattle.rast.specs.Indent.{indent}
 use mathlib.Core.List.{◌++◌}
 use mathlib.Core.Path.{sym}
 use native.Mathlib.Omega.{arith}
-use borrow.Author.Rules.{rules}
 use Rattle.text_fields.proofs.write_comma_line.Goals as goal
 
 pub put-p-requires : goal.put-p-requires

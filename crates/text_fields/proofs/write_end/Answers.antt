@@ -8,7 +8,6 @@ use Rattle.text_fields.proofs.Fields.{room_of, wrote_of}
 use Rattle.text_fields.specs.Texts.{list_end}
 use Rattle.rast.specs.Bytes.{ascii}
 use mathlib.Core.Bool.{Bool}
-use borrow.Author.Rules.{rules}
 use Rattle.text_fields.proofs.write_end.Goals as goal
 
 pub put_line-p-requires : goal.put_line-p-requires

@@ -1,12 +1,8 @@
 use mathlib.Core.Bool.{true}
-use mathlib.Core.Path.{◌≡◌, refl, sym}
+use mathlib.Core.Path.{◌≡◌}
 use lib.ListN.{length}
-use Rattle.text_fields.proofs.Fields.{entry-as}
 use Rattle.text_fields.specs.Texts.{entry_at, entry_gap}
-use Rattle.text_pass.proofs.Passes.{Turn, came-as, ready-as, turn_gap, turn-item, turn_last, turn-next, turn-start}
-use Rattle.text_pass.specs.Passes.{Came}
-use Rattle.buffer.proofs.Passes.{laid-wrote}
-use borrow.Author.Rules.{rules}
+use Rattle.text_pass.proofs.Passes.{Turn}
 use Rattle.text_fields.proofs.write_entries.Given as goal
 
 abbrev pub invariant-loop-left : goal.invariant-loop-left

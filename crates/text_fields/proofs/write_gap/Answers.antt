@@ -3,7 +3,6 @@ use Rattle.text_fields.specs.Texts.{entry_gap}
 use Rattle.text_fields.specs.declared.Entry.{Entry}
 use Rattle.rast.specs.Bytes.{ascii}
 use Rattle.rast.specs.DeclarationToString.{separator_text}
-use borrow.Author.Rules.{rules}
 use Rattle.text_fields.proofs.write_gap.Goals as goal
 
 pub write_comma_line-requires : goal.write_comma_line-requires

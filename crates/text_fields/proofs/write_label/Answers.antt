@@ -3,7 +3,6 @@ use Rattle.text_formal.proofs.Texts.{written_as}
 use Rattle.text_formal.specs.Labels.{front}
 use Rattle.text_pass.proofs.Passes.{along-start, ready-as}
 use mathlib.Core.Path.{sym}
-use borrow.Author.Rules.{rules}
 use Rattle.text_fields.proofs.write_label.Goals as goal
 
 pub write_label-requires : goal.write_label-requires

@@ -9,7 +9,6 @@ use Rattle.text_pass.proofs.Leaves.{count-there, none-fits, there-none, there-so
 use Rattle.text_pass.proofs.Passes.{AlongChain, last-came, last-ready}
 use Rattle.text_pass.specs.Passes.{last}
 use Rattle.buffer.proofs.Passes.{laid-wrote}
-use borrow.Author.Rules.{rules}
 use Rattle.text_fields.proofs.write_list.Goals as goal
 
 pub offset_bounds-words-at : goal.offset_bounds-words-at
@@ -50,10 +49,10 @@ write_some-requires c =
     let fields : let start = c in AlongChain true start.args.out.now start.args.pos (list_at start.args.words.now start.args.pairs.now start.args.text.now start.args.entry start.args.level start.args.at) start.args.out.now start.args.pos (last (some_at start.args.words.now start.args.pairs.now start.args.text.now start.args.entry start.args.level (get_or start.args.words.now start.args.at 0) (start.args.at + 1))) = let start = c in
     there-some (list-first start.args.words.now start.args.pairs.now start.args.text.now start.args.entry start.args.level start.args.at) start.requires.2 c.if-n-eq0.false in
     let start = c in
-    rw (c.all_numbers-pairs.ensures, c.all_bytes-text.ensures) (start.requires.0, omega (arith, c.if-n-eq0.false), start.requires.1, last-ready (fields))
+    rw (c.all_numbers-pairs.ensures, c.all_bytes-text.ensures) (start.requires.0, omega (arith, c.if-n-eq0.false), start.requires.1, last-ready fields)
 
 pub returns : goal.returns
 returns c =
     let fields : let start = c in AlongChain true start.args.out.now start.args.pos (list_at start.args.words.now start.args.pairs.now start.args.text.now start.args.entry start.args.level start.args.at) start.args.out.now start.args.pos (last (some_at start.args.words.now start.args.pairs.now start.args.text.now start.args.entry start.args.level (get_or start.args.words.now start.args.at 0) (start.args.at + 1))) = let start = c in
     there-some (list-first start.args.words.now start.args.pairs.now start.args.text.now start.args.entry start.args.level start.args.at) start.requires.2 c.if-n-eq0.false in
-    last-came (fields) (rw (c.all_numbers-pairs.ensures, c.all_bytes-text.ensures) at c.write_some.ensures)
+    last-came fields (rw (c.all_numbers-pairs.ensures, c.all_bytes-text.ensures) at c.write_some.ensures)

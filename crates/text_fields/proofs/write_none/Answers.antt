@@ -1,7 +1,6 @@
 use Rattle.text_fields.proofs.Fields.{room_of, wrote_of}
 use Rattle.text_fields.specs.Texts.{no_fields}
 use Rattle.rast.specs.Bytes.{ascii}
-use borrow.Author.Rules.{rules}
 use Rattle.text_fields.proofs.write_none.Goals as goal
 
 pub put-requires : goal.put-requires

@@ -1,6 +1,5 @@
 use Rattle.text_fields.proofs.Fields.{along-came}
 use Rattle.text_formal.proofs.Texts.{written_all, written-front}
-use borrow.Author.Rules.{rules}
 use Rattle.text_fields.proofs.write_rest.Goals as goal
 
 pub write_field_type-requires : goal.write_field_type-requires

@@ -5,7 +5,6 @@ use Rattle.text_formal.specs.Labels.{unread}
 use Rattle.text_pass.proofs.Leaves.{scanned-none, scanned-word}
 use Rattle.encoding.proofs.Inside.{below-there}
 use mathlib.Core.Path.{◌≡◌, sym}
-use borrow.Author.Rules.{rules}
 use Rattle.text_formal.proofs.count_label.Goals as goal
 
 pub may_receive-requires : goal.may_receive-requires

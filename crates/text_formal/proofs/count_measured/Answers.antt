@@ -8,7 +8,6 @@ use Rattle.text_pass.proofs.Leaves.{went-measured}
 use Rattle.text_pass.proofs.Passes.{came-to}
 use Rattle.text_measure.proofs.Lengths.{name-fits}
 use native.Mathlib.Omega.{arith}
-use borrow.Author.Rules.{rules}
 use Rattle.text_formal.proofs.count_measured.Goals as goal
 
 pub overflow_add-name_length : goal.overflow_add-name_length

@@ -3,7 +3,6 @@ use Rattle.text_formal.proofs.Texts.{typed-counted}
 use Rattle.text_formal.specs.Labels.{opened}
 use Rattle.text_measure.proofs.Lengths.{name-fits}
 use native.Mathlib.Omega.{arith}
-use borrow.Author.Rules.{rules}
 use Rattle.text_formal.proofs.count_open.Goals as goal
 
 pub overflow_add-name_length : goal.overflow_add-name_length

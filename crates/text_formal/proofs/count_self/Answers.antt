@@ -3,7 +3,6 @@ use Rattle.encoding.proofs.Reading.{map-stop}
 use Rattle.text_formal.specs.Labels.{unread}
 use Rattle.text_measure.proofs.Measured.{measured-stop}
 use mathlib.Core.Path.{sym, ◌∙◌}
-use borrow.Author.Rules.{rules}
 use Rattle.text_formal.proofs.count_self.Goals as goal
 
 pub count_receiver-requires : goal.count_receiver-requires

@@ -6,7 +6,6 @@ use Rattle.accepted_types.proofs.Accepted.{type-here}
 use Prim.Native.Nat.{ℕ, ◌+◌}
 use mathlib.Core.Path.{◌∙◌, ap, sym}
 use native.Mathlib.Omega.{arith}
-use borrow.Author.Rules.{rules}
 use Rattle.text_formal.proofs.count_typed.Goals as goal
 
 pub overflow_add-result : goal.overflow_add-result

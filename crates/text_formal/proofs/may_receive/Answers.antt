@@ -7,7 +7,6 @@ use Rattle.encoding.specs.Tables.{fixed_names, name_bytes}
 use Rattle.encoding.proofs.Tables.{impossible}
 use Rattle.text_formal.proofs.Receivers.{leaf_type, no-type}
 use Rattle.text_formal.proofs.Texts.{other_name}
-use borrow.Author.Rules.{rules}
 use Rattle.text_formal.proofs.may_receive.Goals as goal
 
 pub is_name-requires : goal.is_name-requires

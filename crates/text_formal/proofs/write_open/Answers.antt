@@ -4,7 +4,6 @@ use Rattle.text_pass.proofs.Passes.{came-bytes, ready-bytes, ready-first, ready-
 use Rattle.buffer.proofs.Passes.{laid-wrote}
 use Rattle.rast.specs.Bytes.{ascii}
 use mathlib.Core.Path.{refl}
-use borrow.Author.Rules.{rules}
 use Rattle.text_formal.proofs.write_open.Goals as goal
 
 pub put_name-p-requires : goal.put_name-p-requires

@@ -15,7 +15,6 @@ use Rattle.text_formal.specs.declared.Receiver.{Receiver}
 use Rattle.text_formal.specs.declared.Receiver.TheVariants.{Typed}
 use Rattle.text_formal.specs.Texts.{formal_of, typed_at}
 use Rattle.text_formal.proofs.Texts.{receiver-text, receiver_text, self-and-type, type-read, written_as, written-bytes}
-use borrow.Author.Rules.{rules}
 use Rattle.text_formal.proofs.write_receiver.Goals as goal
 
 pub self_form-requires : goal.self_form-requires
@@ -35,8 +34,8 @@ put_name-requires c =
     let there : Readable (type_at c.args.words.now c.args.pairs.now c.args.text.now c.args.at) = type-read c.args.words.now c.args.pairs.now c.args.text.now c.args.name c.args.at c.requires.3 in
     let shown : let start = c in (r : Receiver) (t : Ty Bytes) (n : ℕ) → c.self_form.result ≡ r → type_at start.args.words.now start.args.pairs.now start.args.text.now start.args.at ≡ got t n → formal_of start.args.words.now start.args.pairs.now start.args.text.now start.args.name start.args.at ≡ got (receiver_text (name_bytes start.args.pairs.now start.args.text.now start.args.name) t r) n = let start = c in
     λ r t n d e. receiver-text start.args.words.now start.args.pairs.now start.args.text.now start.args.name start.args.at start.requires.2 e (sym d ∙ c.self_form.ensures.says _ _ e) in
-    let fits : let start = c in (r : Receiver) → c.self_form.result ≡ r → Fits true start.args.out.now start.args.pos (receiver_text (name_bytes start.args.pairs.now start.args.text.now start.args.name) (there).value r) = let start = c in
-    λ r d. ready-bytes (ready-as (shown r _ _ d (there).reads) start.requires.3) in
+    let fits : let start = c in (r : Receiver) → c.self_form.result ≡ r → Fits true start.args.out.now start.args.pos (receiver_text (name_bytes start.args.pairs.now start.args.text.now start.args.name) there.value r) = let start = c in
+    λ r d. ready-bytes (ready-as (shown r _ _ d there.reads) start.requires.3) in
     let start = c in
     (start.requires.1, start.requires.0.good, (fits _ c.in-ByValue.is).room refl)
 
@@ -46,8 +45,8 @@ put-p-requires c =
     let there : Readable (type_at c.args.words.now c.args.pairs.now c.args.text.now c.args.at) = type-read c.args.words.now c.args.pairs.now c.args.text.now c.args.name c.args.at c.requires.3 in
     let shown : let start = c in (r : Receiver) (t : Ty Bytes) (n : ℕ) → c.self_form.result ≡ r → type_at start.args.words.now start.args.pairs.now start.args.text.now start.args.at ≡ got t n → formal_of start.args.words.now start.args.pairs.now start.args.text.now start.args.name start.args.at ≡ got (receiver_text (name_bytes start.args.pairs.now start.args.text.now start.args.name) t r) n = let start = c in
     λ r t n d e. receiver-text start.args.words.now start.args.pairs.now start.args.text.now start.args.name start.args.at start.requires.2 e (sym d ∙ c.self_form.ensures.says _ _ e) in
-    let fits : let start = c in (r : Receiver) → c.self_form.result ≡ r → Fits true start.args.out.now start.args.pos (receiver_text (name_bytes start.args.pairs.now start.args.text.now start.args.name) (there).value r) = let start = c in
-    λ r d. ready-bytes (ready-as (shown r _ _ d (there).reads) start.requires.3) in
+    let fits : let start = c in (r : Receiver) → c.self_form.result ≡ r → Fits true start.args.out.now start.args.pos (receiver_text (name_bytes start.args.pairs.now start.args.text.now start.args.name) there.value r) = let start = c in
+    λ r d. ready-bytes (ready-as (shown r _ _ d there.reads) start.requires.3) in
     let start = c in
     (fits-front {b = ascii "&"} (name_bytes start.args.pairs.now start.args.text.now start.args.name) (fits _ c.in-ByRef.is)).room refl
 
@@ -62,8 +61,8 @@ put_name-requires-in-ByRef c =
     let there : Readable (type_at c.args.words.now c.args.pairs.now c.args.text.now c.args.at) = type-read c.args.words.now c.args.pairs.now c.args.text.now c.args.name c.args.at c.requires.3 in
     let shown : let start = c in (r : Receiver) (t : Ty Bytes) (n : ℕ) → c.self_form.result ≡ r → type_at start.args.words.now start.args.pairs.now start.args.text.now start.args.at ≡ got t n → formal_of start.args.words.now start.args.pairs.now start.args.text.now start.args.name start.args.at ≡ got (receiver_text (name_bytes start.args.pairs.now start.args.text.now start.args.name) t r) n = let start = c in
     λ r t n d e. receiver-text start.args.words.now start.args.pairs.now start.args.text.now start.args.name start.args.at start.requires.2 e (sym d ∙ c.self_form.ensures.says _ _ e) in
-    let fits : let start = c in (r : Receiver) → c.self_form.result ≡ r → Fits true start.args.out.now start.args.pos (receiver_text (name_bytes start.args.pairs.now start.args.text.now start.args.name) (there).value r) = let start = c in
-    λ r d. ready-bytes (ready-as (shown r _ _ d (there).reads) start.requires.3) in
+    let fits : let start = c in (r : Receiver) → c.self_form.result ≡ r → Fits true start.args.out.now start.args.pos (receiver_text (name_bytes start.args.pairs.now start.args.text.now start.args.name) there.value r) = let start = c in
+    λ r d. ready-bytes (ready-as (shown r _ _ d there.reads) start.requires.3) in
     let start = c in
     (start.requires.1, start.requires.0.good, (fits-behind _ (fits _ c.in-ByRef.is) (laid-wrote refl c.put-p.ensures)).room refl)
 
@@ -73,8 +72,8 @@ put-p-requires-in-ByMut c =
     let there : Readable (type_at c.args.words.now c.args.pairs.now c.args.text.now c.args.at) = type-read c.args.words.now c.args.pairs.now c.args.text.now c.args.name c.args.at c.requires.3 in
     let shown : let start = c in (r : Receiver) (t : Ty Bytes) (n : ℕ) → c.self_form.result ≡ r → type_at start.args.words.now start.args.pairs.now start.args.text.now start.args.at ≡ got t n → formal_of start.args.words.now start.args.pairs.now start.args.text.now start.args.name start.args.at ≡ got (receiver_text (name_bytes start.args.pairs.now start.args.text.now start.args.name) t r) n = let start = c in
     λ r t n d e. receiver-text start.args.words.now start.args.pairs.now start.args.text.now start.args.name start.args.at start.requires.2 e (sym d ∙ c.self_form.ensures.says _ _ e) in
-    let fits : let start = c in (r : Receiver) → c.self_form.result ≡ r → Fits true start.args.out.now start.args.pos (receiver_text (name_bytes start.args.pairs.now start.args.text.now start.args.name) (there).value r) = let start = c in
-    λ r d. ready-bytes (ready-as (shown r _ _ d (there).reads) start.requires.3) in
+    let fits : let start = c in (r : Receiver) → c.self_form.result ≡ r → Fits true start.args.out.now start.args.pos (receiver_text (name_bytes start.args.pairs.now start.args.text.now start.args.name) there.value r) = let start = c in
+    λ r d. ready-bytes (ready-as (shown r _ _ d there.reads) start.requires.3) in
     let start = c in
     (fits-front {b = ascii "&mut "} (name_bytes start.args.pairs.now start.args.text.now start.args.name) (fits _ c.in-ByMut.is)).room refl
 
@@ -89,8 +88,8 @@ put_name-requires-in-ByMut c =
     let there : Readable (type_at c.args.words.now c.args.pairs.now c.args.text.now c.args.at) = type-read c.args.words.now c.args.pairs.now c.args.text.now c.args.name c.args.at c.requires.3 in
     let shown : let start = c in (r : Receiver) (t : Ty Bytes) (n : ℕ) → c.self_form.result ≡ r → type_at start.args.words.now start.args.pairs.now start.args.text.now start.args.at ≡ got t n → formal_of start.args.words.now start.args.pairs.now start.args.text.now start.args.name start.args.at ≡ got (receiver_text (name_bytes start.args.pairs.now start.args.text.now start.args.name) t r) n = let start = c in
     λ r t n d e. receiver-text start.args.words.now start.args.pairs.now start.args.text.now start.args.name start.args.at start.requires.2 e (sym d ∙ c.self_form.ensures.says _ _ e) in
-    let fits : let start = c in (r : Receiver) → c.self_form.result ≡ r → Fits true start.args.out.now start.args.pos (receiver_text (name_bytes start.args.pairs.now start.args.text.now start.args.name) (there).value r) = let start = c in
-    λ r d. ready-bytes (ready-as (shown r _ _ d (there).reads) start.requires.3) in
+    let fits : let start = c in (r : Receiver) → c.self_form.result ≡ r → Fits true start.args.out.now start.args.pos (receiver_text (name_bytes start.args.pairs.now start.args.text.now start.args.name) there.value r) = let start = c in
+    λ r d. ready-bytes (ready-as (shown r _ _ d there.reads) start.requires.3) in
     let start = c in
     (start.requires.1, start.requires.0.good, (fits-behind _ (fits _ c.in-ByMut.is) (laid-wrote refl c.put-p-in-ByMut.ensures)).room refl)
 
@@ -98,7 +97,7 @@ pub write_open-requires : goal.write_open-requires
 write_open-requires c =
     let there : Readable (type_at c.args.words.now c.args.pairs.now c.args.text.now c.args.at) = type-read c.args.words.now c.args.pairs.now c.args.text.now c.args.name c.args.at c.requires.3 in
     let typed : let start = c in c.self_form.result ≡ Typed → formal_of start.args.words.now start.args.pairs.now start.args.text.now start.args.name start.args.at ≡ typed_at start.args.words.now start.args.pairs.now start.args.text.now start.args.name start.args.at = let start = c in
-    λ d. self-and-type start.args.words.now start.args.pairs.now start.args.text.now start.args.name start.args.at start.requires.2 (there).reads (sym d ∙ c.self_form.ensures.says _ _ (there).reads) in
+    λ d. self-and-type start.args.words.now start.args.pairs.now start.args.text.now start.args.name start.args.at start.requires.2 there.reads (sym d ∙ c.self_form.ensures.says _ _ there.reads) in
     let start = c in
     (start.requires.0, start.requires.1, ready-as (typed c.in-Typed.is) start.requires.3)
 
@@ -127,5 +126,5 @@ pub returns-in-Typed : goal.returns-in-Typed
 returns-in-Typed c =
     let there : Readable (type_at c.args.words.now c.args.pairs.now c.args.text.now c.args.at) = type-read c.args.words.now c.args.pairs.now c.args.text.now c.args.name c.args.at c.requires.3 in
     let typed : let start = c in c.self_form.result ≡ Typed → formal_of start.args.words.now start.args.pairs.now start.args.text.now start.args.name start.args.at ≡ typed_at start.args.words.now start.args.pairs.now start.args.text.now start.args.name start.args.at = let start = c in
-    λ d. self-and-type start.args.words.now start.args.pairs.now start.args.text.now start.args.name start.args.at start.requires.2 (there).reads (sym d ∙ c.self_form.ensures.says _ _ (there).reads) in
+    λ d. self-and-type start.args.words.now start.args.pairs.now start.args.text.now start.args.name start.args.at start.requires.2 there.reads (sym d ∙ c.self_form.ensures.says _ _ there.reads) in
     written_as (sym (typed c.in-Typed.is)) c.write_open.ensures

@@ -6,7 +6,6 @@ use Rattle.encoding.specs.Types.{primitives}
 use Rattle.encoding.proofs.Heads.{past-six}
 use Rattle.text_leaf.specs.Texts.{two_bytes}
 use Rattle.text_leaf.proofs.Plain.{ends_test, ends_at}
-use borrow.Author.Rules.{rules}
 use Rattle.text_leaf.proofs.plain_ends.Goals as goal
 
 pub returns-in-0 : goal.returns-in-0

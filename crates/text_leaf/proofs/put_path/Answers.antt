@@ -7,7 +7,7 @@ use Rattle.buffer.proofs.Laws.{wrote_kept, wrote_nothing, wrote_then, wrote_as, 
 use Rattle.encoding.specs.Tables.{name_bytes}
 use Rattle.encoding.specs.Types.{root_of}
 use Rattle.text_leaf.specs.Texts.{member_text}
-use Rattle.text_leaf.proofs.Paths.{MembersLeft, members_text, members-from, path-text}
+use Rattle.text_leaf.proofs.Paths.{members_text, members-from, path-text}
 use native.Mathlib.Omega.{arith}
 use borrow.Author.Rules.{rules}
 use Rattle.text_leaf.proofs.put_path.Goals as goal

@@ -7,7 +7,6 @@ use Rattle.rast.specs.ToString.{Primitive-to_string}
 use Rattle.buffer.proofs.Laws.{wrote_as}
 use Rattle.encoding.specs.Types.{primitives}
 use Rattle.text_leaf.proofs.Plain.{ends-wrote, usize-text}
-use borrow.Author.Rules.{rules}
 use Rattle.text_leaf.proofs.put_plain.Goals as goal
 
 pub put-requires : goal.put-requires

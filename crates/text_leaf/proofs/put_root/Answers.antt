@@ -3,7 +3,6 @@ use Rattle.rast.specs.ToString.{Path-to_string}
 use Rattle.encoding.specs.Types.{root_of}
 use Rattle.buffer.proofs.Laws.{wrote_nothing}
 use Rattle.text_leaf.proofs.Paths.{root-self}
-use borrow.Author.Rules.{rules}
 use Rattle.text_leaf.proofs.put_root.Goals as goal
 
 pub put-requires : goal.put-requires

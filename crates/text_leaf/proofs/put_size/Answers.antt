@@ -9,7 +9,6 @@ use Rattle.encoding.specs.Tables.{name_bytes}
 use Rattle.encoding.specs.Types.{size_of}
 use Rattle.text_leaf.proofs.Paths.{sized-end}
 use native.Mathlib.Omega.{arith}
-use borrow.Author.Rules.{rules}
 use Rattle.text_leaf.proofs.put_size.Goals as goal
 
 pub put-requires : goal.put-requires

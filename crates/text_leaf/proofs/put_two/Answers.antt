@@ -4,7 +4,6 @@ use lib.ListN.{set}
 use lib.Seq.{lt-length-set}
 use native.Mathlib.Omega.{arith}
 use Rattle.text_leaf.specs.Texts.{two_bytes}
-use borrow.Author.Rules.{rules}
 use Rattle.text_leaf.proofs.put_two.Goals as goal
 
 pub bounds-out-pos-2 : goal.bounds-out-pos-2

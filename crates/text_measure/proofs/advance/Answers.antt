@@ -1,6 +1,5 @@
 use Rattle.text_measure.proofs.Steps.{own-leaf, own-node, own-stop, step-stop, step_past, step-ended, step-deep, step-under}
 use native.Mathlib.Omega.{arith}
-use borrow.Author.Rules.{rules}
 use Rattle.text_measure.proofs.advance.Goals as goal
 
 pub scan_own-requires : goal.scan_own-requires

@@ -3,7 +3,6 @@ use borrow.Author.Tests.{eq-eqb, ne_eqb}
 use Rattle.text_measure.specs.Lengths.{array_length}
 use Rattle.text_measure.proofs.Lengths.{name-short}
 use native.Mathlib.Omega.{arith}
-use borrow.Author.Rules.{rules}
 use Rattle.text_measure.proofs.array_length.Goals as goal
 
 pub returns-then-size-eq0 : goal.returns-then-size-eq0

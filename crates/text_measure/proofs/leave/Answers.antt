@@ -1,4 +1,3 @@
-use borrow.Author.Rules.{rules}
 use Rattle.text_measure.proofs.leave.Goals as goal
 
 pub returns : goal.returns

@@ -1,13 +1,12 @@
-use Prim.Native.Nat.{◌+◌, ◌-◌, ◌*◌, ◌^◌, ◌≤◌}
+use Prim.Native.Nat.{◌+◌, ◌-◌}
 use mathlib.Core.Path.{◌≡◌, refl, ap}
-use lib.ListN.{take, drop}
 use Rattle.encoding.specs.Tested.{name_length}
 use Rattle.encoding.specs.Reading.{read_below}
 use Rattle.encoding.proofs.Reading.{word_got, word-stop}
 use Rattle.encoding.proofs.Inside.{below-there}
-use Rattle.text_measure.specs.Lengths.{names_length, path_length}
+use Rattle.text_measure.specs.Lengths.{path_length}
 use Rattle.text_measure.proofs.Lengths.{name-fits, names_more, names-none}
-use Rattle.text_measure.proofs.PathNames.{NamesTo, names-on, path-halt, path-all}
+use Rattle.text_measure.proofs.PathNames.{names-on, path-halt, path-all}
 use Rattle.text_measure.proofs.Scans.{below-got, path-read, path-unread}
 use native.Mathlib.Omega.{arith}
 use borrow.Author.Rules.{rules}

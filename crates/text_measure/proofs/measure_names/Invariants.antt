@@ -1,16 +1,9 @@
 use Prim.Native.Nat.{◌+◌, ◌-◌, ◌*◌, ◌^◌, ◌≤◌}
-use mathlib.Core.Path.{◌≡◌, refl, ap}
+use mathlib.Core.Path.{◌≡◌}
 use lib.ListN.{take, drop}
 use Rattle.encoding.specs.Tested.{name_length}
-use Rattle.encoding.specs.Reading.{read_below}
-use Rattle.encoding.proofs.Reading.{word_got, word-stop}
-use Rattle.encoding.proofs.Inside.{below-there}
-use Rattle.text_measure.specs.Lengths.{names_length, path_length}
-use Rattle.text_measure.proofs.Lengths.{name-fits, names_more, names-none}
-use Rattle.text_measure.proofs.PathNames.{NamesTo, names-on, path-halt, path-all}
-use Rattle.text_measure.proofs.Scans.{below-got, path-read, path-unread}
-use native.Mathlib.Omega.{arith}
-use borrow.Author.Rules.{rules}
+use Rattle.text_measure.specs.Lengths.{names_length}
+use Rattle.text_measure.proofs.PathNames.{NamesTo}
 use Rattle.text_measure.proofs.measure_names.Given as goal
 
 -- what is left of the names is read as all of them are, and their lengths add up

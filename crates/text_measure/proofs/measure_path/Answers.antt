@@ -2,7 +2,6 @@ use mathlib.Core.Path.{ap, sym}
 use Rattle.encoding.specs.Heads.{read_path}
 use Rattle.text_measure.proofs.Scans.{path-as}
 use Rattle.text_measure.proofs.Measured.{path-measured}
-use borrow.Author.Rules.{rules}
 use Rattle.text_measure.proofs.measure_path.Goals as goal
 
 pub path_at-requires : goal.path_at-requires

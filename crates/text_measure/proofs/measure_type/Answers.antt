@@ -1,12 +1,8 @@
-use Prim.Native.Nat.{◌-◌}
 use Rattle.encoding.proofs.Types.{type-end}
 use Rattle.text_measure.proofs.Steps.{came-to-end, start, was-halted, went_on}
 use Rattle.text_measure.specs.Lengths.{measure_of}
-use Rattle.text_measure.specs.Levels.{Kept, rest_of}
-use lib.ListN.{length}
-use mathlib.Core.Path.{◌∙◌, ◌≡◌, ap, refl, sym}
+use mathlib.Core.Path.{◌∙◌, ap, refl, sym}
 use native.Mathlib.Omega.{arith}
-use borrow.Author.Rules.{rules}
 use Rattle.text_measure.proofs.measure_type.Goals as goal
 
 pub returns-then-words-at : goal.returns-then-words-at

@@ -5,7 +5,6 @@ use Rattle.encoding.proofs.Heads.{head-unknown}
 use Rattle.text_measure.specs.Lengths.{own_length}
 use Rattle.text_measure.proofs.Scans.{scanned-node, scanned-stop, scanned-as}
 use native.Mathlib.Omega.{arith}
-use borrow.Author.Rules.{rules}
 use Rattle.text_measure.proofs.own_after.Goals as goal
 
 pub own_path-requires : goal.own_path-requires

@@ -5,7 +5,6 @@ use Rattle.text_measure.specs.Lengths.{own_length}
 use Rattle.text_measure.proofs.Scans.{below-got, worded-got, worded-stop, scanned-node, scanned-stop}
 use Prim.Native.Nat.{◌+◌}
 use native.Mathlib.Omega.{arith}
-use borrow.Author.Rules.{rules}
 use Rattle.text_measure.proofs.own_array.Goals as goal
 
 pub array_length-bytes-requires : goal.array_length-bytes-requires

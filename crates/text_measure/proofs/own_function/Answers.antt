@@ -5,7 +5,6 @@ use Rattle.text_measure.specs.Lengths.{own_length}
 use Rattle.text_measure.proofs.Scans.{worded-got, worded-stop, counted-more, scanned-counted, scanned-stop}
 use Prim.Native.Nat.{◌+◌}
 use native.Mathlib.Omega.{arith}
-use borrow.Author.Rules.{rules}
 use Rattle.text_measure.proofs.own_function.Goals as goal
 
 pub returns-in-Word : goal.returns-in-Word

@@ -4,7 +4,6 @@ use Rattle.encoding.specs.Reading.{read_below}
 use Rattle.text_measure.specs.Lengths.{own_length}
 use Rattle.text_measure.proofs.Scans.{worded-got, worded-stop, scanned-node, scanned-stop}
 use native.Mathlib.Omega.{arith}
-use borrow.Author.Rules.{rules}
 use Rattle.text_measure.proofs.own_meta.Goals as goal
 
 pub returns-in-Word : goal.returns-in-Word

@@ -5,7 +5,6 @@ use Rattle.text_measure.specs.Lengths.{own_length}
 use Rattle.text_measure.proofs.Scans.{below-got, worded-got, worded-stop, scanned-leaf, scanned-stop}
 use Rattle.text_measure.proofs.Lengths.{name-fits}
 use native.Mathlib.Omega.{arith}
-use borrow.Author.Rules.{rules}
 use Rattle.text_measure.proofs.own_name.Goals as goal
 
 pub name_length-bytes-requires : goal.name_length-bytes-requires

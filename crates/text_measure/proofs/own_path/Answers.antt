@@ -3,7 +3,6 @@ use Rattle.encoding.specs.declared.Head.TheVariants.{FromPath}
 use Rattle.encoding.specs.Heads.{path_head}
 use Rattle.text_measure.specs.Lengths.{head_of_path, own_length}
 use Rattle.text_measure.proofs.Scans.{path-got, path-stop, scanned-leaf, scanned-stop}
-use borrow.Author.Rules.{rules}
 use Rattle.text_measure.proofs.own_path.Goals as goal
 
 pub returns-in-MeasuredPath : goal.returns-in-MeasuredPath

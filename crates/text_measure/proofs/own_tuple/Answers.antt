@@ -4,7 +4,6 @@ use Rattle.encoding.specs.Reading.{read_word}
 use Rattle.text_measure.specs.Lengths.{own_length}
 use Rattle.text_measure.proofs.Scans.{worded-got, worded-stop, counted-some, scanned-leaf, scanned-counted, scanned-stop}
 use native.Mathlib.Omega.{arith}
-use borrow.Author.Rules.{rules}
 use Rattle.text_measure.proofs.own_tuple.Goals as goal
 
 pub returns-then-value-eq0 : goal.returns-then-value-eq0

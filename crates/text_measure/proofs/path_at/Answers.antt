@@ -5,7 +5,6 @@ use Rattle.encoding.proofs.Reading.{word_got, word-stop}
 use Rattle.encoding.proofs.Inside.{word-there}
 use Rattle.text_measure.proofs.Scans.{path-unread, path-as, path_names}
 use native.Mathlib.Omega.{arith}
-use borrow.Author.Rules.{rules}
 use Rattle.text_measure.proofs.path_at.Goals as goal
 
 pub measure_names-requires : goal.measure_names-requires

@@ -6,7 +6,6 @@ use Rattle.encoding.proofs.Heads.{head_at, head-end, plain-head}
 use Rattle.text_measure.specs.Lengths.{own_length}
 use Rattle.text_measure.proofs.Scans.{scanned-leaf, scanned-stop, scanned-as}
 use native.Mathlib.Omega.{arith}
-use borrow.Author.Rules.{rules}
 use Rattle.text_measure.proofs.scan_own.Goals as goal
 
 pub returns-then-words-at : goal.returns-then-words-at

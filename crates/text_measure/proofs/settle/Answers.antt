@@ -1,4 +1,3 @@
-use Rattle.text_measure.specs.Levels.{Outward}
 use Rattle.text_measure.proofs.Steps.{outward-here, outward-more}
 use native.Mathlib.Omega.{arith}
 use Rattle.text_measure.proofs.settle.Goals as goal

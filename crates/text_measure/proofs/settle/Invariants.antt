@@ -1,6 +1,4 @@
 use Rattle.text_measure.specs.Levels.{Outward}
-use Rattle.text_measure.proofs.Steps.{outward-here, outward-more}
-use native.Mathlib.Omega.{arith}
 use Rattle.text_measure.proofs.settle.Given as goal
 
 abbrev pub invariant-loop-p : goal.invariant-loop-p

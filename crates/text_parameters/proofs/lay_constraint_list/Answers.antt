@@ -7,7 +7,6 @@ use Rattle.text_pass.proofs.Passes.{AlongChain, chain_fits, chain-laid, last-rea
 use Rattle.text_pass.proofs.Leaves.{count_none, count-refused, count-some}
 use Rattle.text_parameters.specs.Texts.{constraints_at, some_constraints}
 use Rattle.text_parameters.proofs.Parameters.{constraints-first}
-use borrow.Author.Rules.{rules}
 use Rattle.text_parameters.proofs.lay_constraint_list.Goals as goal
 
 pub returns-then-value-eq0 : goal.returns-then-value-eq0
@@ -20,21 +19,21 @@ unfolding ascii
 lay-p-requires c =
     let constraints : let start = c in AlongChain start.args.write start.args.out.now start.args.pos (constraints_at start.args.words.now start.args.pairs.now start.args.text.now start.args.at) start.args.out.now start.args.pos (got (ascii ": ") c.in-Word.next then λ q. last (some_constraints start.args.words.now start.args.pairs.now start.args.text.now c.in-Word.value q)) = let start = c in
     count-some (constraints-first start.args.words.now start.args.pairs.now start.args.text.now start.args.at) c.scan_word.ensures c.in-Word.is c.if-value-eq0.false start.requires.1 in
-    chain_fits (constraints)
+    chain_fits constraints
 
 pub lay_constraints-requires : goal.lay_constraints-requires
 unfolding ascii
 lay_constraints-requires c =
     let constraints : let start = c in AlongChain start.args.write start.args.out.now start.args.pos (constraints_at start.args.words.now start.args.pairs.now start.args.text.now start.args.at) start.args.out.now start.args.pos (got (ascii ": ") c.in-Word.next then λ q. last (some_constraints start.args.words.now start.args.pairs.now start.args.text.now c.in-Word.value q)) = let start = c in
     count-some (constraints-first start.args.words.now start.args.pairs.now start.args.text.now start.args.at) c.scan_word.ensures c.in-Word.is c.if-value-eq0.false start.requires.1 in
-    (c.requires.0, omega (arith, c.if-value-eq0.false), last-ready (chain-laid (constraints) c.lay-p.ensures))
+    (c.requires.0, omega (arith, c.if-value-eq0.false), last-ready (chain-laid constraints c.lay-p.ensures))
 
 pub returns-else-value-eq0 : goal.returns-else-value-eq0
 unfolding ascii
 returns-else-value-eq0 c =
     let constraints : let start = c in AlongChain start.args.write start.args.out.now start.args.pos (constraints_at start.args.words.now start.args.pairs.now start.args.text.now start.args.at) start.args.out.now start.args.pos (got (ascii ": ") c.in-Word.next then λ q. last (some_constraints start.args.words.now start.args.pairs.now start.args.text.now c.in-Word.value q)) = let start = c in
     count-some (constraints-first start.args.words.now start.args.pairs.now start.args.text.now start.args.at) c.scan_word.ensures c.in-Word.is c.if-value-eq0.false start.requires.1 in
-    last-went (chain-laid (constraints) c.lay-p.ensures) c.lay_constraints.ensures
+    last-went (chain-laid constraints c.lay-p.ensures) c.lay_constraints.ensures
 
 pub returns-in-NoWord : goal.returns-in-NoWord
 returns-in-NoWord c =

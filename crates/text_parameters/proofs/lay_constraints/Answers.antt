@@ -1,9 +1,7 @@
-use mathlib.Core.Path.{◌≡◌, refl}
-use lib.ListN.{length}
+use mathlib.Core.Path.{refl}
 use Rattle.rast.specs.Bytes.{ascii}
 use Rattle.text_pass.specs.Passes.{came}
-use Rattle.text_pass.proofs.Passes.{Turn, came-to, turn_gap, turn-item, turn_last, turn-next, turn-start, turn-stop}
-use Rattle.text_pass.specs.Texts.{type_text_at}
+use Rattle.text_pass.proofs.Passes.{came-to, turn_gap, turn-item, turn_last, turn-next, turn-start, turn-stop}
 use borrow.Author.Rules.{rules}
 use Rattle.text_parameters.proofs.lay_constraints.Goals as goal
 

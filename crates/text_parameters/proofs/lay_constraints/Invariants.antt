@@ -1,10 +1,8 @@
-use mathlib.Core.Path.{◌≡◌, refl}
+use mathlib.Core.Path.{◌≡◌}
 use lib.ListN.{length}
 use Rattle.rast.specs.Bytes.{ascii}
-use Rattle.text_pass.specs.Passes.{came}
-use Rattle.text_pass.proofs.Passes.{Turn, came-to, turn_gap, turn-item, turn_last, turn-next, turn-start, turn-stop}
+use Rattle.text_pass.proofs.Passes.{Turn}
 use Rattle.text_pass.specs.Texts.{type_text_at}
-use borrow.Author.Rules.{rules}
 use Rattle.text_parameters.proofs.lay_constraints.Given as goal
 
 abbrev pub invariant-loop-next : goal.invariant-loop-next

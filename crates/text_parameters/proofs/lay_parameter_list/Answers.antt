@@ -7,7 +7,6 @@ use Rattle.text_pass.proofs.Passes.{AlongChain, came-to, chain_fits, chain-laid,
 use Rattle.text_pass.proofs.Leaves.{count_none, count-refused, count-some}
 use Rattle.text_parameters.specs.Texts.{parameters_at, some_parameters}
 use Rattle.text_parameters.proofs.Parameters.{parameters-first}
-use borrow.Author.Rules.{rules}
 use Rattle.text_parameters.proofs.lay_parameter_list.Goals as goal
 
 pub returns-then-value-eq0 : goal.returns-then-value-eq0
@@ -20,39 +19,39 @@ unfolding ascii
 lay-p-requires c =
     let parameters : let start = c in AlongChain start.args.write start.args.out.now start.args.pos (parameters_at start.args.words.now start.args.pairs.now start.args.text.now start.args.at) start.args.out.now start.args.pos (got (ascii "<") c.in-Word.next then λ q. some_parameters start.args.words.now start.args.pairs.now start.args.text.now c.in-Word.value q then λ r. last (got (ascii ">") r)) = let start = c in
     count-some (parameters-first start.args.words.now start.args.pairs.now start.args.text.now start.args.at) c.scan_word.ensures c.in-Word.is c.if-value-eq0.false start.requires.1 in
-    chain_fits (parameters)
+    chain_fits parameters
 
 pub lay_parameters-list-requires : goal.lay_parameters-list-requires
 unfolding ascii
 lay_parameters-list-requires c =
     let parameters : let start = c in AlongChain start.args.write start.args.out.now start.args.pos (parameters_at start.args.words.now start.args.pairs.now start.args.text.now start.args.at) start.args.out.now start.args.pos (got (ascii "<") c.in-Word.next then λ q. some_parameters start.args.words.now start.args.pairs.now start.args.text.now c.in-Word.value q then λ r. last (got (ascii ">") r)) = let start = c in
     count-some (parameters-first start.args.words.now start.args.pairs.now start.args.text.now start.args.at) c.scan_word.ensures c.in-Word.is c.if-value-eq0.false start.requires.1 in
-    let behind : let start = c in AlongChain start.args.write start.args.out.now start.args.pos (parameters_at start.args.words.now start.args.pairs.now start.args.text.now start.args.at) c.lay-p.new.out c.lay-p.result (some_parameters start.args.words.now start.args.pairs.now start.args.text.now c.in-Word.value c.in-Word.next then λ r. last (got (ascii ">") r)) = chain-laid (parameters) c.lay-p.ensures in
-    (c.requires.0, omega (arith, c.if-value-eq0.false), chain-ready (behind))
+    let behind : let start = c in AlongChain start.args.write start.args.out.now start.args.pos (parameters_at start.args.words.now start.args.pairs.now start.args.text.now start.args.at) c.lay-p.new.out c.lay-p.result (some_parameters start.args.words.now start.args.pairs.now start.args.text.now c.in-Word.value c.in-Word.next then λ r. last (got (ascii ">") r)) = chain-laid parameters c.lay-p.ensures in
+    (c.requires.0, omega (arith, c.if-value-eq0.false), chain-ready behind)
 
 pub returns-in_default : goal.returns-in_default
 unfolding ascii
 returns-in_default c =
     let parameters : let start = c in AlongChain start.args.write start.args.out.now start.args.pos (parameters_at start.args.words.now start.args.pairs.now start.args.text.now start.args.at) start.args.out.now start.args.pos (got (ascii "<") c.in-Word.next then λ q. some_parameters start.args.words.now start.args.pairs.now start.args.text.now c.in-Word.value q then λ r. last (got (ascii ">") r)) = let start = c in
     count-some (parameters-first start.args.words.now start.args.pairs.now start.args.text.now start.args.at) c.scan_word.ensures c.in-Word.is c.if-value-eq0.false start.requires.1 in
-    let behind : let start = c in AlongChain start.args.write start.args.out.now start.args.pos (parameters_at start.args.words.now start.args.pairs.now start.args.text.now start.args.at) c.lay-p.new.out c.lay-p.result (some_parameters start.args.words.now start.args.pairs.now start.args.text.now c.in-Word.value c.in-Word.next then λ r. last (got (ascii ">") r)) = chain-laid (parameters) c.lay-p.ensures in
-    chain-stop (behind) c.lay_parameters-list.ensures c.in_default.is
+    let behind : let start = c in AlongChain start.args.write start.args.out.now start.args.pos (parameters_at start.args.words.now start.args.pairs.now start.args.text.now start.args.at) c.lay-p.new.out c.lay-p.result (some_parameters start.args.words.now start.args.pairs.now start.args.text.now c.in-Word.value c.in-Word.next then λ r. last (got (ascii ">") r)) = chain-laid parameters c.lay-p.ensures in
+    chain-stop behind c.lay_parameters-list.ensures c.in_default.is
 
 pub lay-requires : goal.lay-requires
 unfolding ascii
 lay-requires c =
     let parameters : let start = c in AlongChain start.args.write start.args.out.now start.args.pos (parameters_at start.args.words.now start.args.pairs.now start.args.text.now start.args.at) start.args.out.now start.args.pos (got (ascii "<") c.in-Word.next then λ q. some_parameters start.args.words.now start.args.pairs.now start.args.text.now c.in-Word.value q then λ r. last (got (ascii ">") r)) = let start = c in
     count-some (parameters-first start.args.words.now start.args.pairs.now start.args.text.now start.args.at) c.scan_word.ensures c.in-Word.is c.if-value-eq0.false start.requires.1 in
-    let behind : let start = c in AlongChain start.args.write start.args.out.now start.args.pos (parameters_at start.args.words.now start.args.pairs.now start.args.text.now start.args.at) c.lay-p.new.out c.lay-p.result (some_parameters start.args.words.now start.args.pairs.now start.args.text.now c.in-Word.value c.in-Word.next then λ r. last (got (ascii ">") r)) = chain-laid (parameters) c.lay-p.ensures in
-    last_fits (chain_next (behind) (came-to c.lay_parameters-list.ensures c.in-At.is))
+    let behind : let start = c in AlongChain start.args.write start.args.out.now start.args.pos (parameters_at start.args.words.now start.args.pairs.now start.args.text.now start.args.at) c.lay-p.new.out c.lay-p.result (some_parameters start.args.words.now start.args.pairs.now start.args.text.now c.in-Word.value c.in-Word.next then λ r. last (got (ascii ">") r)) = chain-laid parameters c.lay-p.ensures in
+    last_fits (chain_next behind (came-to c.lay_parameters-list.ensures c.in-At.is))
 
 pub returns-in-At : goal.returns-in-At
 unfolding ascii
 returns-in-At c =
     let parameters : let start = c in AlongChain start.args.write start.args.out.now start.args.pos (parameters_at start.args.words.now start.args.pairs.now start.args.text.now start.args.at) start.args.out.now start.args.pos (got (ascii "<") c.in-Word.next then λ q. some_parameters start.args.words.now start.args.pairs.now start.args.text.now c.in-Word.value q then λ r. last (got (ascii ">") r)) = let start = c in
     count-some (parameters-first start.args.words.now start.args.pairs.now start.args.text.now start.args.at) c.scan_word.ensures c.in-Word.is c.if-value-eq0.false start.requires.1 in
-    let behind : let start = c in AlongChain start.args.write start.args.out.now start.args.pos (parameters_at start.args.words.now start.args.pairs.now start.args.text.now start.args.at) c.lay-p.new.out c.lay-p.result (some_parameters start.args.words.now start.args.pairs.now start.args.text.now c.in-Word.value c.in-Word.next then λ r. last (got (ascii ">") r)) = chain-laid (parameters) c.lay-p.ensures in
-    came (last-laid (chain_next (behind) (came-to c.lay_parameters-list.ensures c.in-At.is)) c.lay.ensures)
+    let behind : let start = c in AlongChain start.args.write start.args.out.now start.args.pos (parameters_at start.args.words.now start.args.pairs.now start.args.text.now start.args.at) c.lay-p.new.out c.lay-p.result (some_parameters start.args.words.now start.args.pairs.now start.args.text.now c.in-Word.value c.in-Word.next then λ r. last (got (ascii ">") r)) = chain-laid parameters c.lay-p.ensures in
+    came (last-laid (chain_next behind (came-to c.lay_parameters-list.ensures c.in-At.is)) c.lay.ensures)
 
 pub returns-in-NoWord : goal.returns-in-NoWord
 returns-in-NoWord c =

@@ -8,7 +8,6 @@ use Rattle.text_pass.specs.Passes.{Counts, came}
 use Rattle.text_pass.specs.Texts.{name_at, type_text_at}
 use Rattle.text_pass.proofs.Leaves.{borrow-counts, ended-text, named-counts, plain-counts, text_within}
 use Rattle.text_pass.proofs.Passes.{came-at, stops-here, went-as}
-use borrow.Author.Rules.{rules}
 use Rattle.text_pass.proofs.count_borrow.Goals as goal
 
 pub overflow_add-at : goal.overflow_add-at

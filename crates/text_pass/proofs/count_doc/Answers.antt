@@ -4,7 +4,6 @@ use Rattle.encoding.specs.Tables.{name_count}
 use Rattle.encoding.proofs.Inside.{below-there}
 use Rattle.encoding.proofs.Tables.{impossible}
 use Rattle.text_pass.proofs.Leaves.{doc-word, scanned-refused, scanned-went, scanned-word}
-use borrow.Author.Rules.{rules}
 use Rattle.text_pass.proofs.count_doc.Goals as goal
 
 pub lay_known_doc-requires : goal.lay_known_doc-requires

@@ -4,7 +4,6 @@ use Rattle.encoding.specs.Words.{max_depth}
 use Rattle.text_pass.specs.Passes.{came}
 use Rattle.text_pass.proofs.Leaves.{ended-text, named-counts, plain-counts}
 use Rattle.text_pass.proofs.Passes.{counts-here, stops-here}
-use borrow.Author.Rules.{rules}
 use Rattle.text_pass.proofs.count_field_type.Goals as goal
 
 pub returns-then-words-at : goal.returns-then-words-at

@@ -9,7 +9,6 @@ use Rattle.encoding.proofs.Inside.{below-there}
 use Rattle.encoding.proofs.Tables.{name-length}
 use Rattle.text_measure.proofs.Lengths.{name-fits}
 use Rattle.text_pass.proofs.Leaves.{name-word, scanned-refused, scanned-went, scanned-word}
-use borrow.Author.Rules.{rules}
 use Rattle.text_pass.proofs.count_name.Goals as goal
 
 pub name_length-requires : goal.name_length-requires
@@ -36,7 +35,7 @@ returns-in-Word c =
     (below-there _ a.words.now a.at e).below in
     let s = c in
     let a = s.args in
-    let n = c.name_length.ensures ∙ sym (name-length a.pairs.now a.text.now _ s.requires.0.good (below)) in
+    let n = c.name_length.ensures ∙ sym (name-length a.pairs.now a.text.now _ s.requires.0.good below) in
     let e : a.pos + (a.before + c.name_length.result) ≡ a.pos + a.before + length (name_bytes a.pairs.now a.text.now c.in-Word.value) = omega (arith, n) in
     scanned-went (name-word a.words.now a.pairs.now a.text.now a.at) c.name_count.ensures c.scan_below.ensures c.in-Word.is (laid-counted refl (c.count_few.ensures ∙ ap clamp e))
 

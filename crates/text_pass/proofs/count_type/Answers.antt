@@ -1,7 +1,6 @@
 use mathlib.Core.Path.{refl}
 use Rattle.encoding.specs.Types.{type_at}
 use Rattle.text_pass.proofs.Leaves.{went-measured, went-refused}
-use borrow.Author.Rules.{rules}
 use Rattle.text_pass.proofs.count_type.Goals as goal
 
 pub returns-in-Measured : goal.returns-in-Measured

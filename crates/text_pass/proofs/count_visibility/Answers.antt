@@ -2,7 +2,6 @@ use mathlib.Core.Path.{refl, sym}
 use Rattle.rast.specs.Bytes.{ascii}
 use Rattle.buffer.proofs.Passes.{laid_as, laid-counted, laid-nothing}
 use Rattle.text_pass.proofs.Leaves.{hidden, scanned-refused, scanned-went, visibility-word, visible}
-use borrow.Author.Rules.{rules}
 use Rattle.text_pass.proofs.count_visibility.Goals as goal
 
 pub returns-then-value-ne-PUB : goal.returns-then-value-ne-PUB

@@ -1,7 +1,6 @@
 use native.Mathlib.Omega.{arith}
 use Rattle.text_pass.proofs.Leaves.{doc-word, word_below}
 use Rattle.text_pass.proofs.Passes.{came-went, counts-went, ready-true}
-use borrow.Author.Rules.{rules}
 use Rattle.text_pass.proofs.lay_doc.Goals as goal
 
 pub write_doc-end-requires : goal.write_doc-end-requires

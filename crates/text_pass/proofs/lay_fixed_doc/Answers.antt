@@ -10,7 +10,6 @@ use mathlib.Core.Path.{ap, sym}
 use native.Mathlib.Omega.{arith}
 use lib.ListN.{length}
 use lib.Seq.{length-take-le}
-use borrow.Author.Rules.{rules}
 use Rattle.text_pass.proofs.lay_fixed_doc.Goals as goal
 
 pub put_name-end-requires : goal.put_name-end-requires

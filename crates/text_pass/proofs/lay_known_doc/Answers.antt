@@ -4,7 +4,6 @@ use Rattle.rast.specs.Bytes.{Bytes}
 use Rattle.rast.specs.Doc.{ToDocstringPrefix}
 use Rattle.rast.specs.Indent.{indent}
 use mathlib.Core.Path.{ap, sym}
-use borrow.Author.Rules.{rules}
 use Rattle.text_pass.proofs.lay_known_doc.Goals as goal
 
 pub returns-then-name-eq-EMPTY : goal.returns-then-name-eq-EMPTY

@@ -1,6 +1,5 @@
 use Prim.Native.Nat.{◌+◌}
 use Rattle.buffer.proofs.Passes.{clamp-of, laid-size, laid-wrote}
-use borrow.Author.Rules.{rules}
 use Rattle.text_pass.proofs.lay_known_path.Goals as goal
 
 pub put_path-requires : goal.put_path-requires

@@ -1,7 +1,6 @@
 use native.Mathlib.Omega.{arith}
 use Rattle.text_pass.proofs.Leaves.{name-word, word_below}
 use Rattle.text_pass.proofs.Passes.{came-went, counts-here, counts-went, ready-true}
-use borrow.Author.Rules.{rules}
 use Rattle.text_pass.proofs.lay_name.Goals as goal
 
 pub write_name-end-requires : goal.write_name-end-requires

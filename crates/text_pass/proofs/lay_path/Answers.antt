@@ -6,7 +6,6 @@ use Rattle.encoding.proofs.Reading.{map-got, map-stop}
 use Rattle.text_measure.proofs.Measured.{measured-path, unmeasured-path}
 use Rattle.text_pass.specs.Passes.{came}
 use Rattle.text_pass.proofs.Passes.{came-bytes, ready-as, ready-bytes, stops-here, went-as}
-use borrow.Author.Rules.{rules}
 use Rattle.text_pass.proofs.lay_path.Goals as goal
 
 pub measure_path-requires : goal.measure_path-requires

@@ -1,7 +1,6 @@
 use Rattle.encoding.specs.Types.{type_at}
 use Rattle.text_pass.proofs.Leaves.{room-type, went-written}
 use Rattle.text_pass.proofs.Passes.{counts-went}
-use borrow.Author.Rules.{rules}
 use Rattle.text_pass.proofs.lay_type.Goals as goal
 
 pub write_type-spot-requires : goal.write_type-spot-requires

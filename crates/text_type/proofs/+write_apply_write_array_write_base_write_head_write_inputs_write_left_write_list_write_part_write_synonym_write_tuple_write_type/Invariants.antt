@@ -1,11 +1,5 @@
-use Rattle.std.proofs.Common.{ℕ, ◌+◌, ◌-◌, ◌*◌, ◌<◌, [], length, arith, rules}
-use Rattle.rast.specs.Bytes.{ascii}
-use Rattle.buffer.proofs.Laws.{wrote_nothing, wrote_then, wrote_kept}
-use Rattle.encoding.specs.declared.Head.TheVariants.{Apply, Tuple, Function, Both, ArrayOf, Synonym}
-use Rattle.text_type.specs.Written.{whole}
-use Rattle.text_type.proofs.Parts.{NodeRoom, apply-base, apply-none, apply-later, apply-open, apply-list, apply-close, apply-done, tuple-empty, tuple-none, tuple-open, tuple-list, tuple-close, tuple-done, inputs-open, inputs-none-arrow, inputs-none, inputs-list, inputs-arrow, inputs-done, left-type, left-plus, left-done, array-open, array-element, array-end, array-done, synonym-display, synonym-base, synonym-done}
-use Rattle.text_type.proofs.Rooms.{TypeRoom, Prefix, Node, WordNode, room-here, plain-leaf, name-there, name-leaf, ref-prefix, mut-prefix, impl-prefix, dyn-prefix, meta-prefix, apply-node, tuple-node, function-node, both-node, array-node, array_size, synonym-node, leaf-done, prefix-room, prefix-done, node-room, node-falls, node-asked, node-whole, node-front, name-asked, plain-asked}
-use Rattle.text_type.proofs.Turns.{ListLeft, Turning, part-rest, part-done, turn-start, turn-next, turn-here, turn-again, turn_last, list-start, item_room, item-here, list_done, comma-room, list-again}
+use Rattle.std.proofs.Common.{◌+◌, ◌-◌, ◌*◌, length}
+use Rattle.text_type.proofs.Turns.{ListLeft, Turning}
 use Rattle.text_type.proofs.+write_apply_write_array_write_base_write_head_write_inputs_write_left_write_list_write_part_write_synonym_write_tuple_write_type.Given as goal
 
 abbrev pub decreases-write_apply : goal.decreases-write_apply

@@ -1,7 +1,5 @@
-use Prim.Native.Nat.{◌-◌}
-use lib.ListN.{length}
-use Rattle.unwrap.proofs.Expanding.{expand_to, expand-arrived, expand-base, expand-display}
-use Rattle.unwrap.proofs.Going.{Going, first_ends, going-base, going-meta, going_start, meta-inside, synonym-readable}
+use Rattle.unwrap.proofs.Expanding.{expand-arrived, expand-base, expand-display}
+use Rattle.unwrap.proofs.Going.{first_ends, going-base, going-meta, going_start, meta-inside, synonym-readable}
 use native.Mathlib.Omega.{arith}
 use borrow.Author.Rules.{rules}
 use Rattle.unwrap.proofs.expand.Goals as goal

@@ -1,9 +1,6 @@
-use Prim.Native.Nat.{◌+◌, ◌-◌, ◌*◌, ◌<◌, ℕ}
 use mathlib.Core.Path.{refl}
-use Rattle.visits.proofs.Passes.{Visiting, head-asked, visit-base, visit-display, visit-due, visit-end, visit-here, visit-past, visit-rest, visit-start, visit-words}
-use lib.ListN.{length}
+use Rattle.visits.proofs.Passes.{head-asked, visit-base, visit-display, visit-due, visit-end, visit-here, visit-past, visit-rest, visit-start, visit-words}
 use native.Mathlib.Omega.{arith}
-use borrow.Author.Rules.{rules}
 use Rattle.visits.proofs.+visit_type_visit_types.Goals as goal
 
 pub visit_type-loop-left-init : goal.visit_type-loop-left-init

@@ -1,9 +1,6 @@
-use Prim.Native.Nat.{◌+◌, ◌-◌, ◌*◌, ◌<◌, ℕ}
-use mathlib.Core.Path.{refl}
-use Rattle.visits.proofs.Passes.{Visiting, head-asked, visit-base, visit-display, visit-due, visit-end, visit-here, visit-past, visit-rest, visit-start, visit-words}
+use Prim.Native.Nat.{◌+◌, ◌-◌, ◌*◌}
+use Rattle.visits.proofs.Passes.{Visiting}
 use lib.ListN.{length}
-use native.Mathlib.Omega.{arith}
-use borrow.Author.Rules.{rules}
 use Rattle.visits.proofs.+visit_type_visit_types.Given as goal
 
 -- `visit_type` may hand over where it stands; `visit_types` hands over what stands further

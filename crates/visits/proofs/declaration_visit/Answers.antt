@@ -1,7 +1,6 @@
 use Rattle.encoding.proofs.Tables.{tables-hold}
 use Rattle.accept_declaration.specs.declared.Whole.TheVariants.{ADeclaration}
 use Rattle.visits.proofs.Answers.{tables-failed-visits, tables-passed-visits}
-use borrow.Author.Rules.{rules}
 use Rattle.visits.proofs.declaration_visit.Goals as goal
 
 pub fill_declaration-requires : goal.fill_declaration-requires

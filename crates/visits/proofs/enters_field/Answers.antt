@@ -1,6 +1,5 @@
 use mathlib.Core.Path.{sym, ◌∙◌}
 use Rattle.encoding.proofs.Tables.{impossible}
-use borrow.Author.Rules.{rules}
 use Rattle.visits.proofs.enters_field.Goals as goal
 
 pub returns-then-is_field_next : goal.returns-then-is_field_next

@@ -1,6 +1,5 @@
 use Rattle.accept_declaration.specs.declared.Whole.TheVariants.{ADeclaration}
 use Rattle.visits.proofs.Answers.{fills, fills-readable, visits-left, visits-stop, visits-within}
-use borrow.Author.Rules.{rules}
 use Rattle.visits.proofs.fill_declaration.Goals as goal
 
 pub returns-then-end-words : goal.returns-then-end-words

@@ -1,6 +1,5 @@
 use native.Mathlib.Omega.{arith}
 use Rattle.visits.proofs.Answers.{fills-readable, same_count, visits-done, visits-short}
-use borrow.Author.Rules.{rules}
 use Rattle.visits.proofs.fill_short.Goals as goal
 
 pub visit_whole-requires : goal.visit_whole-requires

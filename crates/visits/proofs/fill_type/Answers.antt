@@ -1,6 +1,5 @@
 use Rattle.accept_declaration.specs.declared.Whole.TheVariants.{AType}
 use Rattle.visits.proofs.Answers.{fills, fills-readable, type-due, type-visited, visits-left, visits-stop, visits-within}
-use borrow.Author.Rules.{rules}
 use Rattle.visits.proofs.fill_type.Goals as goal
 
 pub returns-then-next-words : goal.returns-then-next-words

@@ -1,7 +1,6 @@
 use mathlib.Core.Path.{sym, ◌∙◌}
 use Rattle.encoding.proofs.Tables.{impossible}
 use borrow.Author.Tests.{not-true, eqb-true}
-use borrow.Author.Rules.{rules}
 use Rattle.visits.specs.Passes.{nothing, fields_alone}
 use Rattle.visits.proofs.is_done.Goals as goal
 

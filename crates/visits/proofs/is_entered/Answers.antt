@@ -1,5 +1,4 @@
 use mathlib.Core.Path.{ap, sym}
-use borrow.Author.Rules.{rules}
 use Rattle.visits.specs.Visited.{is_entered}
 use Rattle.visits.proofs.is_entered.Goals as goal
 

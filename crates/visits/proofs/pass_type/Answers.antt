@@ -1,6 +1,5 @@
 use mathlib.Core.Path.{sym, ◌∙◌}
 use Rattle.visits.proofs.Entering.{due-one, passed-entered, passed_over}
-use borrow.Author.Rules.{rules}
 use Rattle.visits.proofs.pass_type.Goals as goal
 
 pub returns-then-is_entered : goal.returns-then-is_entered

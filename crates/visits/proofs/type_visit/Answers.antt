@@ -1,7 +1,6 @@
 use Rattle.encoding.proofs.Tables.{tables-hold}
 use Rattle.accept_declaration.specs.declared.Whole.TheVariants.{AType}
 use Rattle.visits.proofs.Answers.{tables-failed-visits, tables-passed-visits}
-use borrow.Author.Rules.{rules}
 use Rattle.visits.proofs.type_visit.Goals as goal
 
 pub fill_type-requires : goal.fill_type-requires

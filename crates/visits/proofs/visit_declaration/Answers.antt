@@ -1,6 +1,5 @@
 use Rattle.declaration_walk.proofs.Passes.{begun}
 use Rattle.visits.proofs.Entering.{entered-ahead, entered_all, not-begun-read}
-use borrow.Author.Rules.{rules}
 use Rattle.visits.proofs.visit_declaration.Goals as goal
 
 pub visit_walk-requires : goal.visit_walk-requires

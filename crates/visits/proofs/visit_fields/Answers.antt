@@ -1,10 +1,5 @@
-use Prim.Native.Nat.{◌+◌, ◌≤◌}
-use mathlib.Core.Path.{◌≡◌, refl}
-use mathlib.Core.Bool.{true}
+use mathlib.Core.Path.{refl}
 use native.Mathlib.Omega.{arith}
-use Rattle.declaration_walk.specs.declared.After.TheVariants.{NoMore}
-use Rattle.visits.specs.Visited.{is_entered}
-use Rattle.visits.specs.Passes.{Going}
 use Rattle.visits.proofs.Entering.{field-due, field_past, going_start}
 use Rattle.visits.proofs.visit_fields.Goals as goal
 

@@ -1,10 +1,6 @@
-use Prim.Native.Nat.{◌-◌}
 use Rattle.declaration_walk.proofs.Passes.{stepped}
-use Rattle.visits.specs.Passes.{Going}
 use Rattle.visits.proofs.Entering.{going-ahead, going_done, going-due, going_end, going-halt, going_on, going-own, going_start, going-type}
-use lib.ListN.{length}
 use native.Mathlib.Omega.{arith}
-use borrow.Author.Rules.{rules}
 use Rattle.visits.proofs.visit_walk.Goals as goal
 
 pub loop-out-init : goal.loop-out-init

@@ -1,5 +1,4 @@
 use Rattle.visits.proofs.Answers.{type-due, type-visited}
-use borrow.Author.Rules.{rules}
 use Rattle.visits.proofs.visit_whole.Goals as goal
 
 pub visit_types-all-requires : goal.visit_types-all-requires

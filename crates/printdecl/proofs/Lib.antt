@@ -1,0 +1,2 @@
+-- What reading says of its buffer.
+pub mod Reading
