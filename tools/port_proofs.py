@@ -1,5 +1,12 @@
 #!/usr/bin/env python3
-"""conv.py CRATE..: turns each proofs/F/Proof.antt of the crates into Invariants.antt and Answers.antt, by /tmp/nm/CRATE/names.json"""
+"""Turns proofs that walk the code by hand into Invariants.antt and Answers.antt, once, behind tools/port_names.py. Each proofs/F/Proof.antt goes.
+
+usage: python3 tools/port_proofs.py CRATE..     at the top of the repository
+
+It reads /tmp/nm/CRATE/names.json, the old and the new name of each goal and step, which 'rattle check --generated /tmp/nm/CRATE --old-names' writes, over
+unproved crates too if they are given by --lib. A goal that only said 'search rules' is left to the check. A lemma over a place of the code becomes a 'let' of
+each answer that cites it. What it can't turn it says, and what it turned wrongly the check says.
+"""
 import re,os,sys,json,glob,collections
 NORM=lambda s:s.replace('_','-')
 IDC=r"[^\s(){}.;,@\"«»:]"
