@@ -1,9 +1,9 @@
 #!/usr/bin/env python3
 """Turns proofs that walk the code by hand into Invariants.antt and Answers.antt, once, behind tools/port_names.py. Each proofs/F/Proof.antt goes.
 
-usage: python3 tools/port_proofs.py CRATE..     at the top of the repository
+usage: python3 tools/port_proofs.py NAMES CRATE..     at the top of the repository
 
-It reads /tmp/nm/CRATE/names.json, the old and the new name of each goal and step, which 'rattle check --generated /tmp/nm/CRATE --old-names' writes, over
+It reads NAMES/CRATE/names.json, the old and the new name of each goal and step, which 'rattle check --generated NAMES/CRATE --old-names' writes, over
 unproved crates too if they are given by --lib. A goal that only said 'search rules' is left to the check. A lemma over a place of the code becomes a 'let' of
 each answer that cites it. What it can't turn it says, and what it turned wrongly the check says.
 """
@@ -169,8 +169,8 @@ def inline(nb,lemmas,fn,warn):
         unf+=[u for u in l[6] if u not in unf]
     for k in lemmas: nb=drop_arg(nb+' ',k[0],k[2]).rstrip(' ')
     return '\n'+'\n'.join(lets)+('\n    '+nb.strip() if not nb.startswith('\n') else nb),unf
-def main(crate):
-    d=json.load(open(f'/tmp/nm/{crate}/names.json'))
+def main(names,crate):
+    d=json.load(open(f'{names}/{crate}/names.json'))
     tot=[0,0,0]
     for p in sorted(glob.glob(f'crates/{crate}/proofs/**/Proof.antt',recursive=True)):
         folder=os.path.dirname(p)
@@ -307,4 +307,4 @@ def params_of(crate,f):
             return m[1],[q.split(':')[0].strip() for q in m[2].split(',') if q.strip()]
     return None
 if __name__=='__main__':
-    for c in sys.argv[1:]: main(c)
+    for c in sys.argv[2:]: main(sys.argv[1],c)
