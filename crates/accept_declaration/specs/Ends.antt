@@ -1,11 +1,10 @@
 -- Where the parts of a declaration end, of an encoding.
-use Rattle.std.specs.Prelude.{ℕ, List, eqb}
+use Rattle.encoding.specs.declared.Refusal.{Refusal}
+use Rattle.std.specs.Prelude.{Ok, Err, Result, ℕ, List, eqb}
 use Rattle.rast.specs.Bytes.{Bytes}
 use Rattle.rast.specs.Tree.{Ty}
 use Rattle.rast.specs.Declaration.{Declaration, TypeParamDecl, Formal, Field, NamelessField, Fields, EnumCase, Struct, Enum, TypeSynonym}
 use Rattle.encoding.specs.Words.{visibility_count, named_kind}
-use Rattle.encoding.specs.declared.Scan.{Scan}
-use Rattle.encoding.specs.declared.Scan.TheVariants.{At, Refused}
 use Rattle.encoding.specs.Refusals.{pick}
 use Rattle.encoding.specs.Reading.{Reading, read_below}
 use Rattle.encoding.specs.Scans.{ended}
@@ -19,12 +18,12 @@ use Rattle.accept_declaration.specs.declared.Whole.TheVariants.{AType, ADeclarat
 use Rattle.declaration_walk.specs.Walks.{read_attributes}
 
 -- what follows is looked for where the first ended
-abbrev pub then_at : Scan → (ℕ → Scan) → Scan
-then_at (At n) f = f n
-then_at (Refused r) f = Refused r
+abbrev pub then_at : Result ℕ Refusal → (ℕ → Result ℕ Refusal) → Result ℕ Refusal
+then_at (Ok n) f = f n
+then_at (Err r) f = Err r
 
 -- a use: visibility and path
-abbrev pub use_end : ℕ → List ℕ → ℕ → Scan
+abbrev pub use_end : ℕ → List ℕ → ℕ → Result ℕ Refusal
 use_end bound ws at = then_at (ended (read_below visibility_count ws at)) λ p. ended (read_path bound ws p)
 
 module _ (ws pairs : List ℕ) (text : Bytes) where
@@ -41,10 +40,10 @@ module _ (ws pairs : List ℕ) (text : Bytes) where
   nameless_at at = read_nameless_field (name_count pairs) ws (name_bytes pairs text) (type_at ws pairs text) at
 
   -- a field of a kind (0 named, 1 nameless), and n of them
-  abbrev pub field_end : ℕ → ℕ → Scan
+  abbrev pub field_end : ℕ → ℕ → Result ℕ Refusal
   field_end kind at = pick (eqb kind named_kind) (ended (field_at at)) (ended (nameless_at at))
 
-  abbrev pub each_field_end : ℕ → ℕ → ℕ → Scan
+  abbrev pub each_field_end : ℕ → ℕ → ℕ → Result ℕ Refusal
   each_field_end kind n at = pick (eqb kind named_kind) (ended (read_list field_at n at)) (ended (read_list nameless_at n at))
 
   abbrev pub fields_at : ℕ → Reading (Fields Bytes)
@@ -54,11 +53,11 @@ module _ (ws pairs : List ℕ) (text : Bytes) where
   case_at at = read_case (name_count pairs) ws (name_bytes pairs text) (type_at ws pairs text) at
 
   -- a name, and the parameters behind it
-  abbrev pub signature_end : ℕ → Scan
+  abbrev pub signature_end : ℕ → Result ℕ Refusal
   signature_end at = then_at (ended (read_below (name_count pairs) ws at)) λ p. ended (read_counted ws parameter_at p)
 
   -- what a struct, an enum and a type synonym begin with: doc, attributes, name, parameters
-  abbrev pub heading_end : ℕ → Scan
+  abbrev pub heading_end : ℕ → Result ℕ Refusal
   heading_end at = then_at (ended (read_below (name_count pairs) ws at)) λ p. then_at (ended (read_attributes (name_count pairs) ws p)) signature_end
 
   abbrev pub struct_at : ℕ → Reading (Struct Bytes)

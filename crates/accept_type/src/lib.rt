@@ -19,125 +19,92 @@ use encoding::words::{
     MAX_DEPTH, PLAIN_KINDS, ROOTS, T_IDENTIFIER, T_META_DATA, T_SYNONYM, TUPLE_TYPE, TYPE_APP,
     TYPE_FROM_PATH,
 };
-use encoding::{PathAt, Refusal, Scan, WordScan};
+use encoding::{PathAt, Refusal};
 
 // A head: where its own words end, and if types follow, how many.
-#[derive(Clone, Copy)]
-enum OwnScan {
+#[derive(Clone, Copy, Debug, PartialEq, Eq)]
+enum Own {
     Leaf(usize),
     Node { next: usize, kids: u64 },
-    NoNode(Refusal),
 }
 
 // A pass that has come to `place`: `due` types are still to be read at the innermost of `depth` open levels. Levels are kept as `text_measure` keeps them.
-#[derive(Clone, Copy)]
+#[derive(Clone, Copy, Debug, PartialEq, Eq)]
 struct TypeWalk {
     place: usize,
     depth: usize,
     due: u64,
 }
 
-// What a step comes to: a further walk, the end, or a refusal.
-#[derive(Clone, Copy)]
+// What a step comes to: a further walk, or the end.
+#[derive(Clone, Copy, Debug, PartialEq, Eq)]
 enum Step {
     On(TypeWalk),
     Ended(usize),
-    Halt(Refusal),
 }
 
 // A name's head, from the words behind its kind; the heads below likewise.
-fn own_name(words: &[u32], bound: usize, at: usize) -> OwnScan
+fn own_name(words: &[u32], bound: usize, at: usize) -> Result<Own, Refusal>
     ensures { Scanned (worded Name (read_below bound words.now at)) result }
 {
-    match encoding::scan_below(words, bound, at) {
-        WordScan::Word { value: _, next } => OwnScan::Leaf(next),
-        WordScan::NoWord(r) => OwnScan::NoNode(r),
-    }
+    let (_, next) = encoding::scan_below(words, bound, at)?;
+    Ok(Own::Leaf(next))
 }
 
 // The head of a path, from its names.
-fn own_names(words: &[u32], bound: usize, path: PathAt) -> OwnScan
+fn own_names(words: &[u32], bound: usize, path: PathAt) -> Result<Own, Refusal>
     requires { (length words.now ≤ max_words) × (path.start ≤ length words.now) }
     ensures { Scanned (head_of_path (names_path bound words.now path)) result }
 {
-    let mut i = path.start;
-    let end = i + path.count as usize;
-    while i < end {
-        match encoding::scan_below(words, bound, i) {
-            WordScan::Word { value: _, next } => {
-                i = next;
-            }
-            WordScan::NoWord(r) => {
-                return OwnScan::NoNode(r);
-            }
-        }
+    let end = path.start + path.count as usize;
+    for i in path.start..end {
+        encoding::scan_below(words, bound, i)?;
     }
-    OwnScan::Leaf(end)
+    Ok(Own::Leaf(end))
 }
 
 // A path's head.
-fn own_path(words: &[u32], bound: usize, at: usize) -> OwnScan
+// Kept: `encoding::scan_path` has more call sites, and docs/SPEED.md measured what such calls cost in a pass over heads (not tried here).
+fn own_path(words: &[u32], bound: usize, at: usize) -> Result<Own, Refusal>
     requires { length words.now ≤ max_words }
     ensures { Scanned (path_head bound words.now at) result }
 {
-    match encoding::scan_below(words, ROOTS, at) {
-        WordScan::Word {
-            value: root,
-            next: p,
-        } => match encoding::scan_word(words, p) {
-            WordScan::Word {
-                value: count,
-                next: start,
-            } => own_names(words, bound, PathAt { root, start, count }),
-            WordScan::NoWord(r) => OwnScan::NoNode(r),
-        },
-        WordScan::NoWord(r) => OwnScan::NoNode(r),
-    }
+    let (root, p) = encoding::scan_below(words, ROOTS, at)?;
+    let (count, start) = encoding::scan_word(words, p)?;
+    own_names(words, bound, PathAt { root, start, count })
 }
 
 // A head whose own word says how many types follow, beside one more: a type's arguments, a function's parameters.
-fn own_more(words: &[u32], at: usize) -> OwnScan
+fn own_more(words: &[u32], at: usize) -> Result<Own, Refusal>
     ensures { Scanned (worded Apply (read_word words.now at)) result × Scanned (worded Function (read_word words.now at)) result }
 {
-    match encoding::scan_word(words, at) {
-        WordScan::Word { value, next } => OwnScan::Node {
-            next,
-            kids: text_measure::cut(value) + 1,
-        },
-        WordScan::NoWord(r) => OwnScan::NoNode(r),
-    }
+    let (value, next) = encoding::scan_word(words, at)?;
+    let kids = text_measure::cut(value) + 1;
+    Ok(Own::Node { next, kids })
 }
 
 // A tuple's head.
-fn own_tuple(words: &[u32], at: usize) -> OwnScan
+fn own_tuple(words: &[u32], at: usize) -> Result<Own, Refusal>
     ensures { Scanned (worded Tuple (read_word words.now at)) result }
 {
-    match encoding::scan_word(words, at) {
-        WordScan::Word { value, next } => {
-            if value == 0 {
-                return OwnScan::Leaf(next);
-            }
-            OwnScan::Node {
-                next,
-                kids: text_measure::cut(value),
-            }
-        }
-        WordScan::NoWord(r) => OwnScan::NoNode(r),
+    let (value, next) = encoding::scan_word(words, at)?;
+    if value == 0 {
+        return Ok(Own::Leaf(next));
     }
+    let kids = text_measure::cut(value);
+    Ok(Own::Node { next, kids })
 }
 
 // A head with one own word and one type: an array's, by its size, and that of metadata, by its flags.
-fn own_one(words: &[u32], bound: usize, at: usize) -> OwnScan
+fn own_one(words: &[u32], bound: usize, at: usize) -> Result<Own, Refusal>
     ensures { Scanned (worded ArrayOf (read_below bound words.now at)) result × Scanned (worded Meta (read_below bound words.now at)) result }
 {
-    match encoding::scan_below(words, bound, at) {
-        WordScan::Word { value: _, next } => OwnScan::Node { next, kids: 1 },
-        WordScan::NoWord(r) => OwnScan::NoNode(r),
-    }
+    let (_, next) = encoding::scan_below(words, bound, at)?;
+    Ok(Own::Node { next, kids: 1 })
 }
 
 // The head of kind `w`, no plain type, whose further words begin at `at`.
-fn own_after(words: &[u32], bound: usize, w: u32, at: usize) -> OwnScan
+fn own_after(words: &[u32], bound: usize, w: u32, at: usize) -> Result<Own, Refusal>
     requires { (plain_kinds ≤ w) × (bound < 2 ^ 63) × (length words.now ≤ max_words) }
     ensures { Scanned (head_after bound words.now w at) result }
 {
@@ -145,31 +112,31 @@ fn own_after(words: &[u32], bound: usize, w: u32, at: usize) -> OwnScan
         T_IDENTIFIER => own_name(words, bound, at),
         TYPE_FROM_PATH => own_path(words, bound, at),
         TYPE_APP => own_more(words, at),
-        BORROWED => OwnScan::Node { next: at, kids: 1 },
-        BORROWED_MUT => OwnScan::Node { next: at, kids: 1 },
-        IMPL_TYPE => OwnScan::Node { next: at, kids: 1 },
-        DYN_TYPE => OwnScan::Node { next: at, kids: 1 },
+        BORROWED => Ok(Own::Node { next: at, kids: 1 }),
+        BORROWED_MUT => Ok(Own::Node { next: at, kids: 1 }),
+        IMPL_TYPE => Ok(Own::Node { next: at, kids: 1 }),
+        DYN_TYPE => Ok(Own::Node { next: at, kids: 1 }),
         TUPLE_TYPE => own_tuple(words, at),
         FN_TYPE => own_more(words, at),
-        INTERSECTION_TYPE => OwnScan::Node { next: at, kids: 2 },
+        INTERSECTION_TYPE => Ok(Own::Node { next: at, kids: 2 }),
         ARRAY => own_one(words, bound + 1, at),
-        T_SYNONYM => OwnScan::Node { next: at, kids: 2 },
+        T_SYNONYM => Ok(Own::Node { next: at, kids: 2 }),
         T_META_DATA => own_one(words, FLAGS, at),
-        _ => OwnScan::NoNode(Refusal::UnknownWord),
+        _ => Err(Refusal::UnknownWord),
     }
 }
 
 // The head at `at`.
-fn scan_own(words: &[u32], bound: usize, at: usize) -> OwnScan
+fn scan_own(words: &[u32], bound: usize, at: usize) -> Result<Own, Refusal>
     requires { (bound < 2 ^ 63) × (length words.now ≤ max_words) }
     ensures { Scanned (read_head bound words.now at) result }
 {
     if words.len() <= at {
-        return OwnScan::NoNode(Refusal::EndsEarly);
+        return Err(Refusal::EndsEarly);
     }
     let w = words[at];
     if w < PLAIN_KINDS {
-        return OwnScan::Leaf(at + 1);
+        return Ok(Own::Leaf(at + 1));
     }
     own_after(words, bound, w, at + 1)
 }
@@ -194,6 +161,7 @@ fn settle(levels: &[u16; MAX_DEPTH], walk: TypeWalk) -> TypeWalk
     ensures { Outward (pass_levels levels.now) (pass_of walk) (pass_of result) × (result.due ≡ 0 → result.depth ≡ 0) }
 {
     let mut p = walk;
+    // Kept: the new form is no plainer, since how far out it goes is known only level by level.
     while p.due == 0 {
         if p.depth == 0 {
             return p;
@@ -240,38 +208,43 @@ fn advance(
     bound: usize,
     levels: &mut [u16; MAX_DEPTH],
     walk: TypeWalk,
-) -> Step
+) -> Result<Step, Refusal>
     requires { (bound ≡ name_count pairs.now) × Good pairs.now text.now × (length words.now ≤ max_words)
         × Kept words.now (pass_levels levels.old) (pass_of walk) }
     ensures { Stepped words.now pairs.now text.now (pass_levels levels.old) (pass_of walk) (pass_levels levels.new) (pass_step result) }
 {
-    match scan_own(words, bound, walk.place) {
-        OwnScan::Leaf(next) => {
+    match scan_own(words, bound, walk.place)? {
+        Own::Leaf(next) => {
             let p = settle(levels, past_leaf(walk, next));
             if p.due == 0 {
-                return Step::Ended(p.place);
+                return Ok(Step::Ended(p.place));
             }
-            Step::On(p)
+            Ok(Step::On(p))
         }
-        OwnScan::Node { next, kids } => {
+        Own::Node { next, kids } => {
             if walk.depth == DEEPEST {
-                return Step::Halt(Refusal::TooDeep);
+                return Err(Refusal::TooDeep);
             }
-            Step::On(enter(levels, walk, next, kids))
+            Ok(Step::On(enter(levels, walk, next, kids)))
         }
-        OwnScan::NoNode(r) => Step::Halt(r),
     }
 }
 
 // Where the type at `at` ends, or the refusal that is met first. `inside` types stand around it: it may be so much less deep. The steps are lent a copy of the slice,
 // since one that is only read here is handed over in registers.
-pub fn accept_type(words: &[u32], pairs: &[u32], text: &[u8], at: usize, inside: usize) -> Scan
+pub fn accept_type(
+    words: &[u32],
+    pairs: &[u32],
+    text: &[u8],
+    at: usize,
+    inside: usize,
+) -> Result<usize, Refusal>
     requires { Good pairs.now text.now × (length words.now ≤ max_words) × (inside < max_depth) }
     ensures { result ≡ ended (read_type (name_count pairs.now) words.now (name_bytes pairs.now text.now) (max_depth - inside) at) }
 {
     let all = words;
     if words.len() < at {
-        return Scan::Refused(Refusal::EndsEarly);
+        return Err(Refusal::EndsEarly);
     }
     let bound = encoding::name_count(pairs);
     let mut levels = [0u16; MAX_DEPTH];
@@ -281,30 +254,27 @@ pub fn accept_type(words: &[u32], pairs: &[u32], text: &[u8], at: usize, inside:
         due: 1,
     };
     loop {
-        match advance(all, pairs, text, bound, &mut levels, walk) {
+        match advance(all, pairs, text, bound, &mut levels, walk)? {
             Step::On(p) => {
                 walk = p;
             }
             Step::Ended(next) => {
-                return Scan::At(next);
-            }
-            Step::Halt(r) => {
-                return Scan::Refused(r);
+                return Ok(next);
             }
         }
     }
 }
 
 // Where the type at `at` ends. A plain type is one word.
-pub fn scan_type(words: &[u32], pairs: &[u32], text: &[u8], at: usize) -> Scan
+pub fn scan_type(words: &[u32], pairs: &[u32], text: &[u8], at: usize) -> Result<usize, Refusal>
     requires { Good pairs.now text.now × (length words.now ≤ max_words) }
     ensures { result ≡ ended (type_at words.now pairs.now text.now at) }
 {
     if words.len() <= at {
-        return Scan::Refused(Refusal::EndsEarly);
+        return Err(Refusal::EndsEarly);
     }
     if words[at] < PLAIN_KINDS {
-        return Scan::At(at + 1);
+        return Ok(at + 1);
     }
     accept_type(words, pairs, text, at, 0)
 }

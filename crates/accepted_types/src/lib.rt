@@ -5,7 +5,7 @@ ghost use Rattle.encoding.specs.Types.{type_at};
 ghost use Rattle.accepted_types.specs.Accepted.{Readable, EndsAt};
 
 // Where a pass over accepted types has come to: in the words, and in what it fills.
-#[derive(Clone, Copy)]
+#[derive(Clone, Copy, Debug, PartialEq, Eq)]
 pub struct Spot {
     pub next: usize,
     pub pos: usize,
@@ -18,6 +18,7 @@ pub fn skip_type(words: &[u32], pairs: &[u32], text: &[u8], at: usize) -> usize
 {
     let mut due: usize = 1;
     let mut place = at;
+    // Kept: the new form is no plainer, since each head says anew how many types are due.
     while 0 < due {
         let onward = encoding::pass_head(words, place, due);
         due = onward.due;

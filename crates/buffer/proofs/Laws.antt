@@ -1,11 +1,12 @@
 -- Laws of writing, one run of bytes behind the other.
 use Prim.Native.Nat.{ℕ, zero, suc, ◌+◌, ◌-◌, ◌≤◌, ◌<◌}
 use mathlib.Core.Path.{◌≡◌, refl, ap, sym, ◌∙◌, subst}
-use mathlib.Core.List.{List, [], ◌∷◌, ◌++◌, append-nil}
+use mathlib.Core.List.{List, [], ◌∷◌, ◌++◌, append-nil, append_assoc}
 use native.Mathlib.Omega.{arith}
 use native.Mathlib.Nat.{add-zero}
 use native.Mathlib.Numerals.{add-one, sub-one}
 use lib.ListN.{length, set, get_or, take, drop, length-append, length-take, length-drop}
+use borrow.Rule.Slice.PartMut.{put_mid}
 use lib.Seq.{sets, sets-eq, length-sets, drop-cons, drop-drop, set_comm, set-set, take-add, take-append_seam}
 use Rattle.buffer.specs.Wrote.{Wrote}
 
@@ -43,6 +44,10 @@ room_after {whole = whole} {front = front} next rest room w e =
 pub room-last : {o o' whole front : List ℕ} {p p' : ℕ} (next : List ℕ) → p + length whole ≤ length o → Wrote o p front o' p'
     → whole ≡ front ++ next → p' + length next ≤ length o'
 room-last {front = front} next room w e = room_after next [] room w (e ∙ ap (λ (b : List ℕ). front ++ b) (sym (append-nil next)))
+
+-- bytes that took the place of as many
+pub overwritten : (o b : List ℕ) {c : List ℕ} (p k : ℕ) → c ≡ b → k ≡ length b → p + length b ≤ length o → put_mid p k o c ≡ sets o p b
+overwritten o b p k e d h = rw (e, d, sets-eq b o p h, drop-drop (length b) p o) (sym (append_assoc (take p o) b (drop (p + length b) o)))
 
 -- one more of a part
 pub part-more : (l : List ℕ) (i left : ℕ) → i < length l → 0 < left → take left (drop i l) ≡ get_or l i 0 ∷ take (left - 1) (drop (i + 1) l)

@@ -7,8 +7,7 @@ use native.Mathlib.Omega.{arith}
 use native.Mathlib.Nat.{add-zero, sub-zero}
 use borrow.Author.Tests.{lt-ltb, le-ltb, ltb-true, ltb-false}
 use lib.Dec.{ltb}
-use lib.ListN.{length, length-append, set, take, drop}
-use lib.Seq.{sets}
+use lib.ListN.{length, length-append, replicate, take, drop}
 use Rattle.buffer.specs.Wrote.{Wrote}
 use Rattle.buffer.specs.Laid.{at_most, clamp, Laid, Fits, spaces}
 use Rattle.buffer.proofs.Laws.{wrote_nothing, wrote_then, room-last, ends-meet}
@@ -98,14 +97,10 @@ unfolding spaces
 length-spaces zero = refl
 length-spaces (suc n) = rw (length-spaces n)
 
--- one space more
-pub spaces-more : (o : List ℕ) (count p i : ℕ) → i < count
-    → sets (set o (p + i) 32) (p + (i + 1)) (spaces (count - (i + 1))) ≡ sets o (p + i) (spaces (count - i))
+pub spaces-are : (n : ℕ) → replicate n 32 ≡ spaces n
 unfolding spaces
-spaces-more o count p i h =
-    let e₁ : p + (i + 1) ≡ suc (p + i) = omega arith in
-    let e₂ : count - i ≡ suc (count - (i + 1)) = omega arith in
-    rw (e₁, e₂)
+spaces-are zero = refl
+spaces-are (suc n) = ap (◌∷◌ 32) (spaces-are n)
 
 take-spaces : (n m : ℕ) → n ≤ m → take n (spaces m) ≡ spaces n
 unfolding spaces

@@ -13,14 +13,13 @@ const LIMIT: usize = 9223372036854775808;
 const CHUNK: usize = 16384;
 
 // `count` bytes of `bytes` from `start` on, copied to `pos` in `out` one by one.
+// Kept: the two indices; with `copy_from_slice`, slower (a few known bytes, one or two moves here, are tested for overlap there and laid out twice).
 fn copy(bytes: &[u8], start: usize, count: usize, out: &mut [u8], pos: usize)
     requires { (start + count ≤ length bytes.now) × (pos + count ≤ length out.old) }
     ensures { out.new ≡ sets out.old pos (take count (drop start bytes.now)) }
 {
-    let mut i = 0;
-    while i < count {
+    for i in 0..count {
         out[pos + i] = bytes[start + i];
-        i += 1;
     }
 }
 
@@ -123,11 +122,7 @@ fn fill_spaces(count: usize, out: &mut [u8], pos: usize) -> usize
     requires { pos + count ≤ length out.old }
     ensures { Wrote out.old pos (spaces count) out.new result }
 {
-    let mut i = 0;
-    while i < count {
-        out[pos + i] = b' ';
-        i += 1;
-    }
+    out[pos..pos + count].fill(b' ');
     pos + count
 }
 

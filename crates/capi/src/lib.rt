@@ -2,7 +2,8 @@
 #![tactic(auto)]
 
 ghost use Rattle.std.specs.Prelude.{◌≡◌};
-ghost use Rattle.text_calls.specs.Calls.{filled, type_text, path_text};
+ghost use Rattle.encoding.specs.Filled.{filled};
+ghost use Rattle.text_calls.specs.Calls.{type_text, path_text};
 ghost use Rattle.text_declaration_call.specs.Calls.{declaration_text};
 ghost use Rattle.sound_type.specs.Calls.{type_is_sound};
 ghost use Rattle.encoding.specs.Refusals.{map_answer};
@@ -14,8 +15,7 @@ ghost use Rattle.rebuild_declaration.specs.Calls.{declaration_rebuilt};
 ghost use Rattle.parts.specs.Answers.{part_of};
 ghost use Rattle.rebuild_initial.specs.Calls.{type_initialized};
 ghost use Rattle.visits.specs.Visited.{type_visits, declaration_visits};
-ghost use Rattle.visits.specs.Calls.{filled as listed};
-ghost use Rattle.answer_numbers.specs.Numbers.{text_call, sound_call, rebuild_call, visit_call, shape_call, part_call};
+ghost use Rattle.answer_numbers.specs.Numbers.{count_call, truth_number, part_number};
 
 // ---- texts and soundness
 
@@ -27,9 +27,9 @@ pub extern "C" fn tillercoral_type_text(
     level: u32,
     out: &mut [u8],
 ) -> u64
-    ensures { (result, out.new) ≡ text_call (filled out.old (type_text words.now pairs.now text.now level)) }
+    ensures { (result, out.new) ≡ count_call (filled out.old (type_text words.now pairs.now text.now level)) }
 {
-    answer_numbers::text_number(text_calls::type_text(words, pairs, text, level, out))
+    answer_numbers::count_number(text_calls::type_text(words, pairs, text, level, out))
 }
 
 #[unsafe(no_mangle)]
@@ -40,9 +40,9 @@ pub extern "C" fn tillercoral_path_text(
     level: u32,
     out: &mut [u8],
 ) -> u64
-    ensures { (result, out.new) ≡ text_call (filled out.old (path_text words.now pairs.now text.now level)) }
+    ensures { (result, out.new) ≡ count_call (filled out.old (path_text words.now pairs.now text.now level)) }
 {
-    answer_numbers::text_number(text_calls::path_text(words, pairs, text, level, out))
+    answer_numbers::count_number(text_calls::path_text(words, pairs, text, level, out))
 }
 
 #[unsafe(no_mangle)]
@@ -53,18 +53,18 @@ pub extern "C" fn tillercoral_declaration_text(
     level: u32,
     out: &mut [u8],
 ) -> u64
-    ensures { (result, out.new) ≡ text_call (filled out.old (declaration_text words.now pairs.now text.now level)) }
+    ensures { (result, out.new) ≡ count_call (filled out.old (declaration_text words.now pairs.now text.now level)) }
 {
-    answer_numbers::text_number(text_declaration_call::declaration_text(
+    answer_numbers::count_number(text_declaration_call::declaration_text(
         words, pairs, text, level, out,
     ))
 }
 
 #[unsafe(no_mangle)]
 pub extern "C" fn tillercoral_type_is_sound(words: &[u32], pairs: &[u32], text: &[u8]) -> u64
-    ensures { result ≡ sound_call (type_is_sound words.now pairs.now text.now) }
+    ensures { result ≡ truth_number (type_is_sound words.now pairs.now text.now) }
 {
-    answer_numbers::sound_number(sound_type::type_is_sound(words, pairs, text))
+    answer_numbers::truth_number(sound_type::type_is_sound(words, pairs, text))
 }
 
 // ---- rebuilt trees
@@ -77,9 +77,9 @@ pub extern "C" fn tillercoral_type_rebuild(
     rules: &[u32],
     out: &mut [u32],
 ) -> u64
-    ensures { (result, out.new) ≡ rebuild_call (laid_down out.old (type_rebuilt words.now pairs.now text.now rules.now)) }
+    ensures { (result, out.new) ≡ count_call (laid_down out.old (type_rebuilt words.now pairs.now text.now rules.now)) }
 {
-    answer_numbers::rebuild_number(rebuild_calls::type_rebuild(words, pairs, text, rules, out))
+    answer_numbers::count_number(rebuild_calls::type_rebuild(words, pairs, text, rules, out))
 }
 
 #[unsafe(no_mangle)]
@@ -90,11 +90,9 @@ pub extern "C" fn tillercoral_declaration_rebuild(
     rules: &[u32],
     out: &mut [u32],
 ) -> u64
-    ensures { (result, out.new) ≡ rebuild_call (laid_down out.old (declaration_rebuilt words.now pairs.now text.now rules.now)) }
+    ensures { (result, out.new) ≡ count_call (laid_down out.old (declaration_rebuilt words.now pairs.now text.now rules.now)) }
 {
-    answer_numbers::rebuild_number(rebuild_calls::declaration_rebuild(
-        words, pairs, text, rules, out,
-    ))
+    answer_numbers::count_number(rebuild_calls::declaration_rebuild(words, pairs, text, rules, out))
 }
 
 #[unsafe(no_mangle)]
@@ -104,9 +102,9 @@ pub extern "C" fn tillercoral_type_at_initialization(
     text: &[u8],
     out: &mut [u32],
 ) -> u64
-    ensures { (result, out.new) ≡ rebuild_call (laid_down out.old (type_initialized words.now pairs.now text.now)) }
+    ensures { (result, out.new) ≡ count_call (laid_down out.old (type_initialized words.now pairs.now text.now)) }
 {
-    answer_numbers::rebuild_number(rebuild_initial::type_at_initialization(words, pairs, text, out))
+    answer_numbers::count_number(rebuild_initial::type_at_initialization(words, pairs, text, out))
 }
 
 // ---- visit lists
@@ -118,9 +116,9 @@ pub extern "C" fn tillercoral_type_visit(
     text: &[u8],
     out: &mut [u32],
 ) -> u64
-    ensures { (result, out.new) ≡ visit_call (listed out.old (type_visits words.now pairs.now text.now)) }
+    ensures { (result, out.new) ≡ count_call (filled out.old (type_visits words.now pairs.now text.now)) }
 {
-    answer_numbers::visit_number(visits::type_visit(words, pairs, text, out))
+    answer_numbers::count_number(visits::type_visit(words, pairs, text, out))
 }
 
 #[unsafe(no_mangle)]
@@ -130,9 +128,9 @@ pub extern "C" fn tillercoral_declaration_visit(
     text: &[u8],
     out: &mut [u32],
 ) -> u64
-    ensures { (result, out.new) ≡ visit_call (listed out.old (declaration_visits words.now pairs.now text.now)) }
+    ensures { (result, out.new) ≡ count_call (filled out.old (declaration_visits words.now pairs.now text.now)) }
 {
-    answer_numbers::visit_number(visits::declaration_visit(words, pairs, text, out))
+    answer_numbers::count_number(visits::declaration_visit(words, pairs, text, out))
 }
 
 // ---- shapes
@@ -143,18 +141,18 @@ pub extern "C" fn tillercoral_ends_with_name_that_can_accept_generics(
     pairs: &[u32],
     text: &[u8],
 ) -> u64
-    ensures { result ≡ shape_call (map_answer EndsWithNameThatCanAcceptGenerics (type_of words.now pairs.now text.now)) }
+    ensures { result ≡ truth_number (map_answer EndsWithNameThatCanAcceptGenerics (type_of words.now pairs.now text.now)) }
 {
-    answer_numbers::shape_number(shapes::ends_with_name_that_can_accept_generics(
+    answer_numbers::truth_number(shapes::ends_with_name_that_can_accept_generics(
         words, pairs, text,
     ))
 }
 
 #[unsafe(no_mangle)]
 pub extern "C" fn tillercoral_is_auto_size(words: &[u32], pairs: &[u32], text: &[u8]) -> u64
-    ensures { result ≡ shape_call (map_answer IsAutoSize (type_of words.now pairs.now text.now)) }
+    ensures { result ≡ truth_number (map_answer IsAutoSize (type_of words.now pairs.now text.now)) }
 {
-    answer_numbers::shape_number(shapes::is_auto_size(words, pairs, text))
+    answer_numbers::truth_number(shapes::is_auto_size(words, pairs, text))
 }
 
 #[unsafe(no_mangle)]
@@ -163,44 +161,44 @@ pub extern "C" fn tillercoral_can_read_without_clone(
     pairs: &[u32],
     text: &[u8],
 ) -> u64
-    ensures { result ≡ shape_call (map_answer CanReadWithoutClone (type_of words.now pairs.now text.now)) }
+    ensures { result ≡ truth_number (map_answer CanReadWithoutClone (type_of words.now pairs.now text.now)) }
 {
-    answer_numbers::shape_number(shapes::can_read_without_clone(words, pairs, text))
+    answer_numbers::truth_number(shapes::can_read_without_clone(words, pairs, text))
 }
 
 #[unsafe(no_mangle)]
 pub extern "C" fn tillercoral_is_rc_or_borrowed_rc(words: &[u32], pairs: &[u32], text: &[u8]) -> u64
-    ensures { result ≡ shape_call (map_answer IsRcOrBorrowedRc (type_of words.now pairs.now text.now)) }
+    ensures { result ≡ truth_number (map_answer IsRcOrBorrowedRc (type_of words.now pairs.now text.now)) }
 {
-    answer_numbers::shape_number(shapes::is_rc_or_borrowed_rc(words, pairs, text))
+    answer_numbers::truth_number(shapes::is_rc_or_borrowed_rc(words, pairs, text))
 }
 
 #[unsafe(no_mangle)]
 pub extern "C" fn tillercoral_is_multi_array(words: &[u32], pairs: &[u32], text: &[u8]) -> u64
-    ensures { result ≡ shape_call (map_answer IsMultiArray (type_of words.now pairs.now text.now)) }
+    ensures { result ≡ truth_number (map_answer IsMultiArray (type_of words.now pairs.now text.now)) }
 {
-    answer_numbers::shape_number(shapes::is_multi_array(words, pairs, text))
+    answer_numbers::truth_number(shapes::is_multi_array(words, pairs, text))
 }
 
 #[unsafe(no_mangle)]
 pub extern "C" fn tillercoral_is_maybe_uninit(words: &[u32], pairs: &[u32], text: &[u8]) -> u64
-    ensures { result ≡ shape_call (map_answer IsMaybeUninit (type_of words.now pairs.now text.now)) }
+    ensures { result ≡ truth_number (map_answer IsMaybeUninit (type_of words.now pairs.now text.now)) }
 {
-    answer_numbers::shape_number(shapes::is_maybe_uninit(words, pairs, text))
+    answer_numbers::truth_number(shapes::is_maybe_uninit(words, pairs, text))
 }
 
 #[unsafe(no_mangle)]
 pub extern "C" fn tillercoral_is_uninit_array(words: &[u32], pairs: &[u32], text: &[u8]) -> u64
-    ensures { result ≡ shape_call (map_answer IsUninitArray (type_of words.now pairs.now text.now)) }
+    ensures { result ≡ truth_number (map_answer IsUninitArray (type_of words.now pairs.now text.now)) }
 {
-    answer_numbers::shape_number(shapes::is_uninit_array(words, pairs, text))
+    answer_numbers::truth_number(shapes::is_uninit_array(words, pairs, text))
 }
 
 #[unsafe(no_mangle)]
 pub extern "C" fn tillercoral_is_box(words: &[u32], pairs: &[u32], text: &[u8]) -> u64
-    ensures { result ≡ shape_call (map_answer IsBox (type_of words.now pairs.now text.now)) }
+    ensures { result ≡ truth_number (map_answer IsBox (type_of words.now pairs.now text.now)) }
 {
-    answer_numbers::shape_number(shapes::is_box(words, pairs, text))
+    answer_numbers::truth_number(shapes::is_box(words, pairs, text))
 }
 
 #[unsafe(no_mangle)]
@@ -209,30 +207,30 @@ pub extern "C" fn tillercoral_needs_as_ref_for_borrow(
     pairs: &[u32],
     text: &[u8],
 ) -> u64
-    ensures { result ≡ shape_call (map_answer NeedsAsRefForBorrow (type_of words.now pairs.now text.now)) }
+    ensures { result ≡ truth_number (map_answer NeedsAsRefForBorrow (type_of words.now pairs.now text.now)) }
 {
-    answer_numbers::shape_number(shapes::needs_as_ref_for_borrow(words, pairs, text))
+    answer_numbers::truth_number(shapes::needs_as_ref_for_borrow(words, pairs, text))
 }
 
 #[unsafe(no_mangle)]
 pub extern "C" fn tillercoral_is_object(words: &[u32], pairs: &[u32], text: &[u8]) -> u64
-    ensures { result ≡ shape_call (map_answer IsObject (type_of words.now pairs.now text.now)) }
+    ensures { result ≡ truth_number (map_answer IsObject (type_of words.now pairs.now text.now)) }
 {
-    answer_numbers::shape_number(shapes::is_object(words, pairs, text))
+    answer_numbers::truth_number(shapes::is_object(words, pairs, text))
 }
 
 #[unsafe(no_mangle)]
 pub extern "C" fn tillercoral_is_pointer(words: &[u32], pairs: &[u32], text: &[u8]) -> u64
-    ensures { result ≡ shape_call (map_answer IsPointer (type_of words.now pairs.now text.now)) }
+    ensures { result ≡ truth_number (map_answer IsPointer (type_of words.now pairs.now text.now)) }
 {
-    answer_numbers::shape_number(shapes::is_pointer(words, pairs, text))
+    answer_numbers::truth_number(shapes::is_pointer(words, pairs, text))
 }
 
 #[unsafe(no_mangle)]
 pub extern "C" fn tillercoral_is_object_or_pointer(words: &[u32], pairs: &[u32], text: &[u8]) -> u64
-    ensures { result ≡ shape_call (map_answer IsObjectOrPointer (type_of words.now pairs.now text.now)) }
+    ensures { result ≡ truth_number (map_answer IsObjectOrPointer (type_of words.now pairs.now text.now)) }
 {
-    answer_numbers::shape_number(shapes::is_object_or_pointer(words, pairs, text))
+    answer_numbers::truth_number(shapes::is_object_or_pointer(words, pairs, text))
 }
 
 #[unsafe(no_mangle)]
@@ -241,44 +239,44 @@ pub extern "C" fn tillercoral_is_builtin_collection(
     pairs: &[u32],
     text: &[u8],
 ) -> u64
-    ensures { result ≡ shape_call (map_answer IsBuiltinCollection (type_of words.now pairs.now text.now)) }
+    ensures { result ≡ truth_number (map_answer IsBuiltinCollection (type_of words.now pairs.now text.now)) }
 {
-    answer_numbers::shape_number(shapes::is_builtin_collection(words, pairs, text))
+    answer_numbers::truth_number(shapes::is_builtin_collection(words, pairs, text))
 }
 
 #[unsafe(no_mangle)]
 pub extern "C" fn tillercoral_is_rc(words: &[u32], pairs: &[u32], text: &[u8]) -> u64
-    ensures { result ≡ shape_call (map_answer IsRc (type_of words.now pairs.now text.now)) }
+    ensures { result ≡ truth_number (map_answer IsRc (type_of words.now pairs.now text.now)) }
 {
-    answer_numbers::shape_number(shapes::is_rc(words, pairs, text))
+    answer_numbers::truth_number(shapes::is_rc(words, pairs, text))
 }
 
 #[unsafe(no_mangle)]
 pub extern "C" fn tillercoral_is_box_dyn(words: &[u32], pairs: &[u32], text: &[u8]) -> u64
-    ensures { result ≡ shape_call (map_answer IsBoxDyn (type_of words.now pairs.now text.now)) }
+    ensures { result ≡ truth_number (map_answer IsBoxDyn (type_of words.now pairs.now text.now)) }
 {
-    answer_numbers::shape_number(shapes::is_box_dyn(words, pairs, text))
+    answer_numbers::truth_number(shapes::is_box_dyn(words, pairs, text))
 }
 
 // ---- parts
 
 #[unsafe(no_mangle)]
 pub extern "C" fn tillercoral_remove_synonyms(words: &[u32], pairs: &[u32], text: &[u8]) -> u64
-    ensures { result ≡ part_call (part_of RemoveSynonyms words.now pairs.now text.now) }
+    ensures { result ≡ part_number (part_of RemoveSynonyms words.now pairs.now text.now) }
 {
     answer_numbers::part_number(parts::remove_synonyms_at(words, pairs, text))
 }
 
 #[unsafe(no_mangle)]
 pub extern "C" fn tillercoral_expand(words: &[u32], pairs: &[u32], text: &[u8]) -> u64
-    ensures { result ≡ part_call (part_of ExpandAt words.now pairs.now text.now) }
+    ensures { result ≡ part_number (part_of ExpandAt words.now pairs.now text.now) }
 {
     answer_numbers::part_number(parts::expand_at(words, pairs, text))
 }
 
 #[unsafe(no_mangle)]
 pub extern "C" fn tillercoral_to_owned(words: &[u32], pairs: &[u32], text: &[u8]) -> u64
-    ensures { result ≡ part_call (part_of ToOwned words.now pairs.now text.now) }
+    ensures { result ≡ part_number (part_of ToOwned words.now pairs.now text.now) }
 {
     answer_numbers::part_number(parts::to_owned_at(words, pairs, text))
 }
@@ -289,14 +287,14 @@ pub extern "C" fn tillercoral_multi_array_underlying(
     pairs: &[u32],
     text: &[u8],
 ) -> u64
-    ensures { result ≡ part_call (part_of MultiArrayUnderlying words.now pairs.now text.now) }
+    ensures { result ≡ part_number (part_of MultiArrayUnderlying words.now pairs.now text.now) }
 {
     answer_numbers::part_number(parts::multi_array_underlying_at(words, pairs, text))
 }
 
 #[unsafe(no_mangle)]
 pub extern "C" fn tillercoral_box_underlying(words: &[u32], pairs: &[u32], text: &[u8]) -> u64
-    ensures { result ≡ part_call (part_of BoxUnderlying words.now pairs.now text.now) }
+    ensures { result ≡ part_number (part_of BoxUnderlying words.now pairs.now text.now) }
 {
     answer_numbers::part_number(parts::box_underlying_at(words, pairs, text))
 }
@@ -307,21 +305,21 @@ pub extern "C" fn tillercoral_object_or_pointer_underlying(
     pairs: &[u32],
     text: &[u8],
 ) -> u64
-    ensures { result ≡ part_call (part_of ObjectOrPointerUnderlying words.now pairs.now text.now) }
+    ensures { result ≡ part_number (part_of ObjectOrPointerUnderlying words.now pairs.now text.now) }
 {
     answer_numbers::part_number(parts::object_or_pointer_underlying_at(words, pairs, text))
 }
 
 #[unsafe(no_mangle)]
 pub extern "C" fn tillercoral_rc_underlying(words: &[u32], pairs: &[u32], text: &[u8]) -> u64
-    ensures { result ≡ part_call (part_of RcUnderlying words.now pairs.now text.now) }
+    ensures { result ≡ part_number (part_of RcUnderlying words.now pairs.now text.now) }
 {
     answer_numbers::part_number(parts::rc_underlying_at(words, pairs, text))
 }
 
 #[unsafe(no_mangle)]
 pub extern "C" fn tillercoral_box_dyn_underlying(words: &[u32], pairs: &[u32], text: &[u8]) -> u64
-    ensures { result ≡ part_call (part_of BoxDynUnderlying words.now pairs.now text.now) }
+    ensures { result ≡ part_number (part_of BoxDynUnderlying words.now pairs.now text.now) }
 {
     answer_numbers::part_number(parts::box_dyn_underlying_at(words, pairs, text))
 }
@@ -332,7 +330,7 @@ pub extern "C" fn tillercoral_get_builtin_collection_element(
     pairs: &[u32],
     text: &[u8],
 ) -> u64
-    ensures { result ≡ part_call (part_of GetBuiltinCollectionElement words.now pairs.now text.now) }
+    ensures { result ≡ part_number (part_of GetBuiltinCollectionElement words.now pairs.now text.now) }
 {
     answer_numbers::part_number(parts::get_builtin_collection_element_at(words, pairs, text))
 }
@@ -343,7 +341,7 @@ pub extern "C" fn tillercoral_extract_maybe_placebo(
     pairs: &[u32],
     text: &[u8],
 ) -> u64
-    ensures { result ≡ part_call (part_of ExtractMaybePlacebo words.now pairs.now text.now) }
+    ensures { result ≡ part_number (part_of ExtractMaybePlacebo words.now pairs.now text.now) }
 {
     answer_numbers::part_number(parts::extract_maybe_placebo_at(words, pairs, text))
 }
@@ -354,7 +352,7 @@ pub extern "C" fn tillercoral_extract_maybe_uninit_array_element(
     pairs: &[u32],
     text: &[u8],
 ) -> u64
-    ensures { result ≡ part_call (part_of ExtractMaybeUninitArrayElement words.now pairs.now text.now) }
+    ensures { result ≡ part_number (part_of ExtractMaybeUninitArrayElement words.now pairs.now text.now) }
 {
     answer_numbers::part_number(parts::extract_maybe_uninit_array_element_at(words, pairs, text))
 }

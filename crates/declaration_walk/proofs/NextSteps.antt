@@ -10,14 +10,15 @@ use Rattle.declaration_walk.specs.declared.After.{After}
 use Rattle.declaration_walk.specs.declared.After.TheVariants.{FieldList, CaseList, OneType, NoMore}
 use Rattle.declaration_walk.specs.declared.Walk.{Walk}
 use Rattle.declaration_walk.specs.declared.Next.{Next}
+use Rattle.std.specs.Prelude.{Result}
 use Rattle.declaration_walk.specs.Walks.{read_entry, read_two, Stepped, type-due, parameter, no-parameter, fields, no_fields, cases, no_cases, alias, field, no_field, nameless, no-nameless, case, no-case, end}
 
 module _ (bound : ℕ) (ws : List ℕ) (w : Walk) where
   pub record Step : Type 0 where
-    pub next : Next
+    pub next : Result Next Refusal
     pub steps : Stepped bound ws w next
 
-  by : {s : Next} → Stepped bound ws w s → Step
+  by : {s : Result Next Refusal} → Stepped bound ws w s → Step
   by {s} k = record { next = s; steps = k }
 
   -- by own words, or by a refusal

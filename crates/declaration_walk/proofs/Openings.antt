@@ -1,8 +1,8 @@
 -- A declaration is its opening, and what is left to the walk behind it.
+use Rattle.std.specs.Prelude.{Some, None}
 use Prim.Native.Nat.{ℕ, zero, suc}
 use mathlib.Core.Path.{◌≡◌, refl, ap, sym, ◌∙◌}
 use mathlib.Core.Bool.{Bool, true, false}
-use mathlib.Core.Option.{some, none}
 use mathlib.Core.List.{List, [], ◌∷◌, ◌++◌, map, map-append, map-id}
 use lib.Dec.{eqb}
 use lib.ListN.{length, take, drop, length-map}
@@ -77,8 +77,8 @@ unfolding renamed_token renamed_size
 tokens-same [] = refl
 tokens-same (word k ∷ ks) = ap (◌∷◌ (word k)) (tokens-same ks)
 tokens-same (name x ∷ ks) = ap (◌∷◌ (name x)) (tokens-same ks)
-tokens-same (size none ∷ ks) = ap (◌∷◌ (size none)) (tokens-same ks)
-tokens-same (size (some x) ∷ ks) = ap (◌∷◌ (size (some x))) (tokens-same ks)
+tokens-same (size None ∷ ks) = ap (◌∷◌ (size None)) (tokens-same ks)
+tokens-same (size (Some x) ∷ ks) = ap (◌∷◌ (size (Some x))) (tokens-same ks)
 
 list-renamed : {A B : Type 0} (r : A → B) (item : ℕ → Reading A) (item' : ℕ → Reading B) → ((p : ℕ) → item' p ≡ map_reading r (item p)) → (n p : ℕ)
     → read_list item' n p ≡ map_reading (map r) (read_list item n p)

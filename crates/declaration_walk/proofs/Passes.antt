@@ -1,4 +1,5 @@
 -- From a walk's answers to the readings behind them.
+use Rattle.std.specs.Prelude.{Ok, Err, Result}
 use Prim.Native.Nat.{ℕ, ◌≤◌}
 use mathlib.Core.Path.{◌≡◌, refl, ap, sym, ◌∙◌, subst}
 use mathlib.Core.List.{List}
@@ -6,7 +7,6 @@ use native.Mathlib.Omega.{arith}
 use lib.ListN.{length, length-map}
 use Rattle.rast.specs.Bytes.{Bytes}
 use Rattle.encoding.specs.declared.Refusal.{Refusal}
-use Rattle.encoding.specs.declared.Scan.TheVariants.{Refused}
 use Rattle.encoding.specs.Reading.{Reading, got, stop, ◌>>=◌}
 use Rattle.encoding.specs.Scans.{ended, map_reading}
 use Rattle.encoding.specs.Tables.{name_bytes, name_count}
@@ -16,8 +16,6 @@ use Rattle.encoding.proofs.Tables.{impossible}
 use Rattle.tree_words.specs.Encode.{token_word}
 use Rattle.declaration_walk.specs.declared.Walk.{Walk}
 use Rattle.declaration_walk.specs.declared.Next.{Next}
-use Rattle.declaration_walk.specs.declared.Start.{Start}
-use Rattle.declaration_walk.specs.declared.Start.TheVariants.{Begun, NotBegun}
 use Rattle.declaration_walk.specs.Pieces.{pieces}
 use Rattle.declaration_walk.specs.Walks.{Stepped, Opening, opened, read_opening, started}
 use Rattle.declaration_walk.proofs.Scans.{ended-map}
@@ -32,7 +30,7 @@ pub bind-none : {A B : Type 0} (x : Reading A) (f : A → ℕ → Reading B) {r 
 bind-none x f e = ap (λ y. y >>= f) e
 
 -- the step that an answer says
-pub stepped : (ws pairs : List ℕ) {bound : ℕ} {w : Walk} {r s : Next} → bound ≡ name_count pairs → r ≡ s → Stepped bound ws w r → Stepped (name_count pairs) ws w s
+pub stepped : (ws pairs : List ℕ) {bound : ℕ} {w : Walk} {r s : Result Next Refusal} → bound ≡ name_count pairs → r ≡ s → Stepped bound ws w r → Stepped (name_count pairs) ws w s
 stepped ws pairs {bound} {w} {r} {s} e d k = subst (λ (b : ℕ). Stepped b ws w s) e (subst (Stepped bound ws w) d k)
 
 module _ (ws pairs : List ℕ) (text : Bytes) where
@@ -43,7 +41,7 @@ module _ (ws pairs : List ℕ) (text : Bytes) where
     pub walk : w ≡ opened opening end
     pub inside : w.place ≤ length ws
 
-  pub begun : {r : Start} {w : Walk} → r ≡ started (read_opening present (name_count pairs) ws 0) → r ≡ Begun w → BegunAt w
+  pub begun : {r : Result Walk Refusal} {w : Walk} → r ≡ started (read_opening present (name_count pairs) ws 0) → r ≡ Ok w → BegunAt w
   begun {r} {w} e d = go (read_opening present (name_count pairs) ws 0) refl e
     where
       go : (x : Reading Opening) → read_opening present (name_count pairs) ws 0 ≡ x → r ≡ started x → BegunAt w
@@ -53,13 +51,13 @@ module _ (ws pairs : List ℕ) (text : Bytes) where
           record { opening = o; end = n; reads = h; walk = z; inside = omega (arith, s.0.ends, s.1, length-map o.tokens token_word, ap Walk.place z) }
       go (stop i) h k = impossible (cc)
 
-  pub not-begun : {r : Start} {k : Refusal} → r ≡ started (read_opening present (name_count pairs) ws 0) → r ≡ NotBegun k → Refused k ≡ ended (declaration_at ws pairs text 0)
+  pub not-begun : {r : Result Walk Refusal} {k : Refusal} → r ≡ started (read_opening present (name_count pairs) ws 0) → r ≡ Err k → Err k ≡ ended (declaration_at ws pairs text 0)
   unfolding map_reading
   not-begun {r} {k} e d = go (read_opening present (name_count pairs) ws 0) refl e
     where
-      go : (x : Reading Opening) → read_opening present (name_count pairs) ws 0 ≡ x → r ≡ started x → Refused k ≡ ended (declaration_at ws pairs text 0)
+      go : (x : Reading Opening) → read_opening present (name_count pairs) ws 0 ≡ x → r ≡ started x → Err k ≡ ended (declaration_at ws pairs text 0)
       go (got o n) h j = impossible (cc)
       go (stop i) h j =
           let z : k ≡ i = cc in
-          ap Refused z
+          ap Err z
           ∙ sym (sym (ended-map (pieces present) (declaration_at ws pairs text 0)) ∙ ap ended (declaration-pieces (name_count pairs) ws (name_bytes pairs text) (type_at ws pairs text) 0 ∙ bind-none (read_opening present (name_count pairs) ws 0) _ h))

@@ -1,4 +1,5 @@
 -- Where the encoding of a declaration stands, with names in the table and types not too deep, that declaration is read: the converse of `declaration-run`, in any form.
+use Rattle.std.specs.Prelude.{Ok}
 use Prim.Native.Nat.{ℕ, ◌+◌, ◌≤◌, ◌<◌}
 use mathlib.Core.Path.{◌≡◌, refl, ap, sym, ◌∙◌}
 use mathlib.Core.Bool.{true, false}
@@ -10,9 +11,7 @@ use lib.ListN.{length}
 use Rattle.rast.specs.Bytes.{Bytes}
 use Rattle.rast.specs.Tree.{Ty}
 use Rattle.rast.specs.Declaration.{Visibility, PUB, PRIV, Attribute, TypeParamDecl, Formal, Field, NamelessField, Fields, NamedFields, NamelessFields, EnumCase, Struct, Enum, TypeSynonym, Use, Declaration, StructDecl, EnumDecl, TypeDecl, UseDecl}
-use Rattle.encoding.specs.declared.Check.TheVariants.{Passed}
 use Rattle.encoding.specs.Words.{max_words, max_depth}
-use Rattle.encoding.specs.Refusals.{given}
 use Rattle.encoding.specs.Tables.{check_tables, name_bytes, name_count}
 use Rattle.encoding.specs.Reading.{Reading, got, ◌>>=◌, read_word}
 use Rattle.encoding.specs.Heads.{read_path}
@@ -300,7 +299,7 @@ read-back-declaration form rising b ws at d deep r h l =
 pub present-rises : Rising present
 present-rises = record { to_enum = omega arith; to_synonym = omega arith; to_use = omega arith }
 
-module _ (ws pairs : List ℕ) (text : Bytes) (passed : check_tables ws pairs text ≡ Passed) (d : Declaration ℕ) (known : NamesBelow (name_count pairs) (declaration_tokens present d))
+module _ (ws pairs : List ℕ) (text : Bytes) (passed : check_tables ws pairs text ≡ Ok tt) (d : Declaration ℕ) (known : NamesBelow (name_count pairs) (declaration_tokens present d))
     (shallow : EveryType (λ t. depth t ≤ max_depth) (pieces present d)) (few : length (encode_declaration present d) ≤ max_words) where
   abbrev written : List ℕ
   written = encode_declaration present d
@@ -308,16 +307,16 @@ module _ (ws pairs : List ℕ) (text : Bytes) (passed : check_tables ws pairs te
   written-reads : numbered_at written pairs 0 ≡ got d (length written)
   written-reads = read-back-declaration present present-rises (name_count pairs) written 0 d max_depth (run-self written) known shallow ∙ ap (got d) (let z : 0 + length written ≡ length written = omega arith in z)
 
-  written-passes : check_tables written pairs text ≡ Passed
+  written-passes : check_tables written pairs text ≡ Ok tt
   written-passes = tables-kept ws written pairs text passed few
 
   -- the words of a declaration, with the pairs and the text of an encoding that is within the limits, are an encoding that is accepted, and hold the declaration
-  pub written-numbered : numbered_of written pairs text ≡ given d
+  pub written-numbered : numbered_of written pairs text ≡ Ok d
   unfolding numbered_of
   written-numbered = whole-given written pairs text (numbered_at written pairs 0) written-passes written-reads
 
   -- as the calls read it, names by their bytes
-  pub written-declaration : declaration_of written pairs text ≡ given (renamed_declaration (name_bytes pairs text) d)
+  pub written-declaration : declaration_of written pairs text ≡ Ok (renamed_declaration (name_bytes pairs text) d)
   unfolding declaration_of
   written-declaration =
       whole-given written pairs text (declaration_at written pairs text 0) written-passes (declaration-spelled written pairs text 0 ∙ map-got (renamed_declaration (name_bytes pairs text)) written-reads)

@@ -1,41 +1,35 @@
 -- From the code's answers back to the readings, and the readings of own words by their parts.
-use Prim.Native.Nat.{ℕ, zero, suc, ◌-◌, ◌<◌}
+use Rattle.std.specs.Prelude.{Ok, Err, Result}
+use Prim.Native.Nat.{ℕ, zero, suc, ◌+◌, ◌-◌, ◌≤◌, ◌<◌}
 use mathlib.Core.Path.{◌≡◌, refl, ap, sym, ◌∙◌}
 use mathlib.Core.List.{List, ◌∷◌}
 use native.Mathlib.Omega.{arith}
-use native.Mathlib.Numerals.{sub-one}
 use borrow.Author.Tests.{ne_eqb}
 use Rattle.rast.specs.Declaration.{Attribute}
 use Rattle.encoding.specs.declared.Refusal.{Refusal}
 use Rattle.encoding.specs.declared.Refusal.TheVariants.{UnknownWord}
-use Rattle.encoding.specs.declared.Scan.{Scan}
-use Rattle.encoding.specs.declared.Scan.TheVariants.{At, Refused}
-use Rattle.encoding.specs.declared.WordScan.{WordScan}
-use Rattle.encoding.specs.declared.WordScan.TheVariants.{Word, NoWord}
-use Rattle.encoding.proofs.Reading.{scan-got, scan-stop, word_got, word-stop}
+use Rattle.encoding.proofs.Reading.{scan-got, scan-stop, read-got, read-stop}
 use Rattle.encoding.specs.Reading.{Reading, got, stop, ◌>>=◌, read_word, read_below, read_names}
-use Rattle.encoding.specs.Scans.{word_scan, ended, map_reading}
+use Rattle.encoding.specs.Scans.{scan_of, ended, map_reading}
 use Rattle.encoding.specs.Forms.{present}
 use Rattle.encoding.specs.Declarations.{read_list, read_counted, read_attribute, read_name}
 use Rattle.encoding.proofs.Tables.{impossible}
 use Rattle.encoding.proofs.Types.{made₂-got}
 use Rattle.accepted_types.specs.Accepted.{EndsAt}
 use Rattle.declaration_walk.specs.declared.After.{After}
-use Rattle.declaration_walk.specs.declared.Two.{Two}
-use Rattle.declaration_walk.specs.declared.Two.TheVariants.{Both, Neither}
 use Rattle.declaration_walk.specs.Pieces.{title_tokens}
-use Rattle.declaration_walk.specs.Walks.{read_entry, read_two, two_scan, read_one_attribute, read_attributes, read_title, opening_after, started_at, started_behind, titled, started}
+use Rattle.declaration_walk.specs.Walks.{read_entry, read_two, two_scan, read_one_attribute, read_attributes, read_title, opening_after, started_at, started_behind, titled, started, EachScanned, all, more, refused}
 
-pub two-got : (x : Reading (ℕ × ℕ)) {r : Two} {a b n : ℕ} → r ≡ two_scan x → r ≡ Both a b n → x ≡ got (a, b) n
+pub two-got : (x : Reading (ℕ × ℕ)) {r : Result (ℕ × ℕ × ℕ) Refusal} {a b n : ℕ} → r ≡ two_scan x → r ≡ Ok (a, b, n) → x ≡ got (a, b) n
 two-got (got e m) {r} {a} {b} {n} h d =
-    let i : e.0 ≡ a = cc in let j : e.1 ≡ b = cc in let k : m ≡ n = cc in rw (sym i, sym j, sym k) refl
+    let q : ◌≡◌ {A = ℕ × ℕ × ℕ} (e.0, e.1, m) (a, b, n) = cc in ap (λ (z : ℕ × ℕ × ℕ). got (z.0, z.1) z.2) q
 two-got (stop k) h d = impossible (cc)
 
-pub two-stop : (x : Reading (ℕ × ℕ)) {r : Two} {k : Refusal} → r ≡ two_scan x → r ≡ Neither k → x ≡ stop k
+pub two-stop : (x : Reading (ℕ × ℕ)) {r : Result (ℕ × ℕ × ℕ) Refusal} {k : Refusal} → r ≡ two_scan x → r ≡ Err k → x ≡ stop k
 two-stop (got e m) h d = impossible (cc)
 two-stop (stop k) h d = cc
 
-pub end-got : {A : Type 0} (x : Reading A) {r : Scan} {n : ℕ} → r ≡ ended x → r ≡ At n → EndsAt x n
+pub end-got : {A : Type 0} (x : Reading A) {r : Result ℕ Refusal} {n : ℕ} → r ≡ ended x → r ≡ Ok n → EndsAt x n
 end-got x e d = let u = scan-got x e d in record { value = u.value; reads = u.reads }
 
 -- ---- ends: what is made of what was read does not matter
@@ -79,15 +73,15 @@ no-pair (got a m) y {r} e = at_second refl (behind (y m) e)
 no-pair (stop k) y e = at_first (cc)
 
 -- the answer of both, by the answers of each
-module _ (x : Reading ℕ) (y : ℕ → Reading ℕ) {s : WordScan} (e : s ≡ word_scan x) where
-  pub both_read : {t : WordScan} {a m c n : ℕ} → s ≡ Word a m → t ≡ word_scan (y m) → t ≡ Word c n → Both a c n ≡ two_scan (both x y)
-  both_read {m = m} d f g = rw (word_got x e d, word_got (y m) f g)
+module _ (x : Reading ℕ) (y : ℕ → Reading ℕ) {s : Result (ℕ × ℕ) Refusal} (e : s ≡ scan_of x) where
+  pub both_read : {t : Result (ℕ × ℕ) Refusal} {a m c n : ℕ} → s ≡ Ok (a, m) → t ≡ scan_of (y m) → t ≡ Ok (c, n) → Ok (a, c, n) ≡ two_scan (both x y)
+  both_read {m = m} d f g = rw (read-got x e d, read-got (y m) f g)
 
-  pub second-refused : {t : WordScan} {a m : ℕ} {r : Refusal} → s ≡ Word a m → t ≡ word_scan (y m) → t ≡ NoWord r → Neither r ≡ two_scan (both x y)
-  second-refused {m = m} d f g = rw (word_got x e d, word-stop (y m) f g)
+  pub second-refused : {t : Result (ℕ × ℕ) Refusal} {a m : ℕ} {r : Refusal} → s ≡ Ok (a, m) → t ≡ scan_of (y m) → t ≡ Err r → Err r ≡ two_scan (both x y)
+  second-refused {m = m} d f g = rw (read-got x e d, read-stop (y m) f g)
 
-  pub first-refused : {r : Refusal} → s ≡ NoWord r → Neither r ≡ two_scan (both x y)
-  first-refused d = rw (word-stop x e d)
+  pub first-refused : {r : Refusal} → s ≡ Err r → Err r ≡ two_scan (both x y)
+  first-refused d = rw (read-stop x e d)
 
 module _ (b : ℕ) (ws : List ℕ) (p : ℕ) where
   pub entry : {x y n : ℕ} → read_entry b ws p ≡ got (x, y) n → Pair (read_below b ws p) (read_word ws) x y n
@@ -108,47 +102,47 @@ module _ (b : ℕ) (ws : List ℕ) (p : ℕ) where
 
 -- ---- where what follows one word, or two, ends
 
-abbrev pub then_word : WordScan → (ℕ → ℕ → Scan) → Scan
-then_word (Word a n) f = f a n
-then_word (NoWord r) f = Refused r
+abbrev pub then_word : Result (ℕ × ℕ) Refusal → (ℕ → ℕ → Result ℕ Refusal) → Result ℕ Refusal
+then_word (Ok (a, n)) f = f a n
+then_word (Err r) f = Err r
 
-abbrev pub then_both : Two → (ℕ → ℕ → ℕ → Scan) → Scan
-then_both (Both a b n) f = f a b n
-then_both (Neither r) f = Refused r
+abbrev pub then_both : Result (ℕ × ℕ × ℕ) Refusal → (ℕ → ℕ → ℕ → Result ℕ Refusal) → Result ℕ Refusal
+then_both (Ok (a, b, n)) f = f a b n
+then_both (Err r) f = Err r
 
-pub ended-word : {B : Type 0} (x : Reading ℕ) (f : ℕ → ℕ → Reading B) (g : ℕ → ℕ → Scan) → ((a n : ℕ) → ended (f a n) ≡ g a n) → ended (x >>= f) ≡ then_word (word_scan x) g
+pub ended-word : {B : Type 0} (x : Reading ℕ) (f : ℕ → ℕ → Reading B) (g : ℕ → ℕ → Result ℕ Refusal) → ((a n : ℕ) → ended (f a n) ≡ g a n) → ended (x >>= f) ≡ then_word (scan_of x) g
 ended-word (got a n) f g e = e a n
 ended-word (stop r) f g e = refl
 
 -- what is made of the word does not matter
-pub ended-behind : {A B : Type 0} (x : Reading ℕ) (h : ℕ → A) (f : A → ℕ → Reading B) (g : ℕ → ℕ → Scan) → ((a n : ℕ) → ended (f (h a) n) ≡ g a n)
-    → ended ((x >>= λ a n. got (h a) n) >>= f) ≡ then_word (word_scan x) g
+pub ended-behind : {A B : Type 0} (x : Reading ℕ) (h : ℕ → A) (f : A → ℕ → Reading B) (g : ℕ → ℕ → Result ℕ Refusal) → ((a n : ℕ) → ended (f (h a) n) ≡ g a n)
+    → ended ((x >>= λ a n. got (h a) n) >>= f) ≡ then_word (scan_of x) g
 ended-behind (got a n) h f g e = e a n
 ended-behind (stop r) h f g e = refl
 
-pub counted-ended : {A : Type 0} (ws : List ℕ) (item : ℕ → Reading A) (p : ℕ) {s : WordScan} → word_scan (read_word ws p) ≡ s → ended (read_counted ws item p) ≡ then_word s (λ n q. ended (read_list item n q))
+pub counted-ended : {A : Type 0} (ws : List ℕ) (item : ℕ → Reading A) (p : ℕ) {s : Result (ℕ × ℕ) Refusal} → scan_of (read_word ws p) ≡ s → ended (read_counted ws item p) ≡ then_word s (λ n q. ended (read_list item n q))
 unfolding read_counted
 counted-ended ws item p e = ended-word (read_word ws p) (read_list item) (λ n q. ended (read_list item n q)) (λ n q. refl) ∙ ap (λ s. then_word s (λ n q. ended (read_list item n q))) e
 
 -- two words, one behind the other, answered at once
-behind-both : (x : Reading ℕ) (y : ℕ → Reading ℕ) (f : ℕ → ℕ → Scan) (g : ℕ → ℕ → ℕ → Scan) → ((a q : ℕ) → f a q ≡ then_word (word_scan (y q)) (g a)) → {s : Two} → two_scan (both x y) ≡ s
-    → then_word (word_scan x) f ≡ then_both s g
+behind-both : (x : Reading ℕ) (y : ℕ → Reading ℕ) (f : ℕ → ℕ → Result ℕ Refusal) (g : ℕ → ℕ → ℕ → Result ℕ Refusal) → ((a q : ℕ) → f a q ≡ then_word (scan_of (y q)) (g a)) → {s : Result (ℕ × ℕ × ℕ) Refusal} → two_scan (both x y) ≡ s
+    → then_word (scan_of x) f ≡ then_both s g
 behind-both x y f g e d = go x ∙ ap (λ s. then_both s g) d
   where
-    second : (a : ℕ) (z : Reading ℕ) → then_word (word_scan z) (g a) ≡ then_both (two_scan (z >>= λ b n. got (a, b) n)) g
+    second : (a : ℕ) (z : Reading ℕ) → then_word (scan_of z) (g a) ≡ then_both (two_scan (z >>= λ b n. got (a, b) n)) g
     second a (got b n) = refl
     second a (stop r) = refl
 
-    go : (x : Reading ℕ) → then_word (word_scan x) f ≡ then_both (two_scan (both x y)) g
+    go : (x : Reading ℕ) → then_word (scan_of x) f ≡ then_both (two_scan (both x y)) g
     go (got a q) = e a q ∙ second a (y q)
     go (stop r) = refl
 
-module _ (b : ℕ) (ws : List ℕ) (p : ℕ) (f : ℕ → ℕ → Scan) (g : ℕ → ℕ → ℕ → Scan) where
-  pub behind-entry : ((a q : ℕ) → f a q ≡ then_word (word_scan (read_word ws q)) (g a)) → {s : Two} → two_scan (read_entry b ws p) ≡ s → then_word (word_scan (read_below b ws p)) f ≡ then_both s g
+module _ (b : ℕ) (ws : List ℕ) (p : ℕ) (f : ℕ → ℕ → Result ℕ Refusal) (g : ℕ → ℕ → ℕ → Result ℕ Refusal) where
+  pub behind-entry : ((a q : ℕ) → f a q ≡ then_word (scan_of (read_word ws q)) (g a)) → {s : Result (ℕ × ℕ × ℕ) Refusal} → two_scan (read_entry b ws p) ≡ s → then_word (scan_of (read_below b ws p)) f ≡ then_both s g
   unfolding read_entry
   behind-entry e d = behind-both (read_below b ws p) (read_word ws) f g e d
 
-  pub behind-two : (c : ℕ) → ((a q : ℕ) → f a q ≡ then_word (word_scan (read_below c ws q)) (g a)) → {s : Two} → two_scan (read_two b c ws p) ≡ s → then_word (word_scan (read_below b ws p)) f ≡ then_both s g
+  pub behind-two : (c : ℕ) → ((a q : ℕ) → f a q ≡ then_word (scan_of (read_below c ws q)) (g a)) → {s : Result (ℕ × ℕ × ℕ) Refusal} → two_scan (read_two b c ws p) ≡ s → then_word (scan_of (read_below b ws p)) f ≡ then_both s g
   unfolding read_two
   behind-two c e d = behind-both (read_below b ws p) (read_below c ws) f g e d
 
@@ -165,44 +159,47 @@ names-ended b ws name (suc n) p = go (read_below b ws p) (names-ended b ws name 
     go (got w q) ih = ih q ∙ sym (ended-made (read_list (read_name b ws name (λ i. stop UnknownWord)) n q) (◌∷◌ (name w)))
     go (stop k) ih = refl
 
-pub attribute-ended : (b : ℕ) (ws : List ℕ) (p : ℕ) {s : Two} → two_scan (read_entry b ws p) ≡ s → ended (read_one_attribute b ws p) ≡ then_both s (λ x m q. ended (read_names b ws m q))
+pub attribute-ended : (b : ℕ) (ws : List ℕ) (p : ℕ) {s : Result (ℕ × ℕ × ℕ) Refusal} → two_scan (read_entry b ws p) ≡ s → ended (read_one_attribute b ws p) ≡ then_both s (λ x m q. ended (read_names b ws m q))
 unfolding read_attribute read_counted read_name
 attribute-ended b ws p d =
     let name = read_name b ws (λ i. i) (λ i. stop UnknownWord) in
-    let names : ℕ → ℕ → Scan = λ m r. ended (read_names b ws m r) in
-    ended-behind (read_below b ws p) (λ i. i) _ (λ x q. then_word (word_scan (read_word ws q)) names)
+    let names : ℕ → ℕ → Result ℕ Refusal = λ m r. ended (read_names b ws m r) in
+    ended-behind (read_below b ws p) (λ i. i) _ (λ x q. then_word (scan_of (read_word ws q)) names)
     (λ x q. ended-made (read_counted ws name q) _ ∙ ended-word (read_word ws q) (read_list name) names (λ m r. sym (names-ended b ws (λ i. i) m r)))
     ∙ behind-entry b ws p _ (λ x. names) (λ x q. refl) d
 
 -- ---- lists: `each n p` is where n things end that begin at p, `one p` where the first of them does
 
-pub record Each (one : ℕ → Scan) (each : ℕ → ℕ → Scan) : Type 0 where
-  pub more : (left p q : ℕ) → 0 < left → one p ≡ At q → each left p ≡ each (left - 1) q
-  pub stops : (left p : ℕ) (r : Refusal) → 0 < left → one p ≡ Refused r → each left p ≡ Refused r
-  pub none : (p : ℕ) → each 0 p ≡ At p
+pub record Each (one : ℕ → Result ℕ Refusal) (each : ℕ → ℕ → Result ℕ Refusal) : Type 0 where
+  pub more : (n p q : ℕ) → one p ≡ Ok q → each (suc n) p ≡ each n q
+  pub stops : (n p : ℕ) (r : Refusal) → one p ≡ Err r → each (suc n) p ≡ Err r
+  pub none : (p : ℕ) → each 0 p ≡ Ok p
 
 pub list-each : {A : Type 0} (item : ℕ → Reading A) → Each (λ p. ended (item p)) (λ n p. ended (read_list item n p))
 unfolding read_list
-list-each item = record { more = more; stops = stops; none = λ p. refl }
-  where
-    more : (left p q : ℕ) → 0 < left → ended (item p) ≡ At q → ended (read_list item left p) ≡ ended (read_list item (left - 1) q)
-    more zero p q h e = absurd (let z : ⊥ = omega arith in z)
-    more (suc n) p q h e = let t = scan-got (item p) refl e in rw (t.reads, sub-one (suc n)) (ended-made (read_list item n q) (◌∷◌ t.value))
+list-each item = record {
+  more = λ n p q e. let t = scan-got (item p) refl e in rw t.reads (ended-made (read_list item n q) (◌∷◌ t.value));
+  stops = λ n p r e. rw (scan-stop (item p) refl e);
+  none = λ p. refl;
+}
 
-    stops : (left p : ℕ) (r : Refusal) → 0 < left → ended (item p) ≡ Refused r → ended (read_list item left p) ≡ Refused r
-    stops zero p r h e = absurd (let z : ⊥ = omega arith in z)
-    stops (suc n) p r h e = rw (scan-stop (item p) refl e)
+-- a step of a loop over such a list, of which i things were scanned
+module _ {P : ℕ → Result ℕ Refusal → Type 0} {n i p : ℕ} (below : i < n) where
+  pub scanned-more : {q : ℕ} {r : Result ℕ Refusal} → P p (Ok q) → EachScanned P (n - (i + 1)) q r → EachScanned P (n - i) p r
+  scanned-more {q} {r} h t = let e : n - i ≡ suc (n - (i + 1)) = omega arith in rw e (more h t)
 
--- what a loop over a list of things keeps, where the first of those left was scanned and the whole ends at `end`
-module _ {one : ℕ → Scan} {each : ℕ → ℕ → Scan} (l : Each one each) {left p : ℕ} {end : Scan} (inv : each left p ≡ end) where
-  pub each_next : {s : Scan} {q : ℕ} → 0 < left → s ≡ one p → s ≡ At q → each (left - 1) q ≡ end
-  each_next {q = q} h e d = sym (l.more left p q h (sym e ∙ d)) ∙ inv
+  pub scanned-refused : {k : Refusal} → P p (Err k) → EachScanned P (n - i) p (Err k)
+  scanned-refused h = let e : n - i ≡ suc (n - (i + 1)) = omega arith in rw e (refused h)
 
-  pub each-refused : {s : Scan} {r : Refusal} → 0 < left → s ≡ one p → s ≡ Refused r → Refused r ≡ end
-  each-refused {r = r} h e d = sym (l.stops left p r h (sym e ∙ d)) ∙ inv
+pub scanned-all : {P : ℕ → Result ℕ Refusal → Type 0} {n i : ℕ} (p : ℕ) → n ≤ i → EachScanned P (n - i) p (Ok p)
+scanned-all {n = n} {i} p h = let e : n - i ≡ 0 = omega arith in rw e all
 
-  pub each-ended : left ≡ 0 → At p ≡ end
-  each-ended h = sym (l.none p) ∙ ap (λ n. each n p) (sym h) ∙ inv
+-- what each call says of a thing, the whole says of the list
+pub each-scanned : {P : ℕ → Result ℕ Refusal → Type 0} {one : ℕ → Result ℕ Refusal} {each : ℕ → ℕ → Result ℕ Refusal} → Each one each → ((p : ℕ) (s : Result ℕ Refusal) → P p s → s ≡ one p)
+    → {n p : ℕ} {r : Result ℕ Refusal} → EachScanned P n p r → r ≡ each n p
+each-scanned l says (all {p}) = sym (l.none p)
+each-scanned l says (more {n} {p} {q} h t) = each-scanned l says t ∙ sym (l.more n p q (sym (says p (Ok q) h)))
+each-scanned l says (refused {n} {p} {k} h) = sym (l.stops n p k (sym (says p (Err k) h)))
 
 -- ---- openings
 

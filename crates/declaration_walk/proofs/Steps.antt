@@ -27,7 +27,8 @@ use Rattle.declaration_walk.specs.declared.After.TheVariants.{FieldList, CaseLis
 use Rattle.declaration_walk.specs.declared.Role.{Role}
 use Rattle.declaration_walk.specs.declared.Role.TheVariants.{CaseField, Aliased}
 use Rattle.declaration_walk.specs.declared.Walk.{Walk}
-use Rattle.declaration_walk.specs.declared.Next.TheVariants.{OwnWords, TypeDue, Ended, Halted}
+use Rattle.std.specs.Prelude.{Ok, Err}
+use Rattle.declaration_walk.specs.declared.Next.TheVariants.{OwnWords, TypeDue, Ended}
 use Rattle.declaration_walk.specs.Pieces.{Piece, own, type, visibility_word, runs, own_pieces, type_piece, counted, parameter_pieces, field_pieces, nameless_pieces, fields_pieces, case_pieces}
 use Rattle.declaration_walk.specs.Walks.{ahead, ◌&◌, many, some_fields, body_of, left_of, read_entry, read_two, moved, past_type, past_alias, in_parameter, in_fields, in_cases, in_field, in_case, FieldNext, field_type, Stepped, type-due, parameter, no-parameter, fields, no_fields, cases, no_cases, alias, field, no_field, nameless, no-nameless, case, no-case, end}
 use Rattle.declaration_walk.proofs.Scans.{Pair, NoPair, at_first, at_second, entry, no-entry, two, no-two}
@@ -323,7 +324,7 @@ module _ {N : Type 0} (bound : ℕ) (ws : List ℕ) (nm : ℕ → N) (ty : ℕ �
 
   -- ---- refusals, and the end
 
-  pub halt-step : (w : Walk) {r : Refusal} → Stepped bound ws w (Halted r) → left_of present bound ws nm ty w ≡ stop r
+  pub halt-step : (w : Walk) {r : Refusal} → Stepped bound ws w (Err r) → left_of present bound ws nm ty w ≡ stop r
   unfolding left_of body_of map_reading
   halt-step w (no-parameter e h d) =
       left-parameters w.role w.types w.parameters _ w.place e
@@ -343,7 +344,7 @@ module _ {N : Type 0} (bound : ℕ) (ws : List ℕ) (nm : ℕ → N) (ty : ℕ �
       case-due w e d a f ∙ sym (and_last (many (read_case bound ws nm ty) case_pieces w.cases w.place))
       ∙ many-stop (read_case bound ws nm ty) case_pieces w.cases w.place _ h (case-halts w.place (no-two bound ws w.place bound r))
 
-  pub end_step : (w : Walk) → Stepped bound ws w Ended → left_of present bound ws nm ty w ≡ got [] w.place
+  pub end_step : (w : Walk) → Stepped bound ws w (Ok Ended) → left_of present bound ws nm ty w ≡ got [] w.place
   end_step w (end e d a f c) = case-due w e d a f ∙ many-none (read_case bound ws nm ty) case_pieces w.cases w.place c
 
   -- a list of fields is all that is left
@@ -369,7 +370,7 @@ module _ {N : Type 0} (bound : ℕ) (ws : List ℕ) (nm : ℕ → N) (ty : ℕ �
     pub reads : left_of present bound ws nm ty w ≡ (ty w.place >>= λ t q. ahead (type_piece a t) (left_of present bound ws nm ty (moved w' q)))
     pub here : w'.place ≡ w.place
 
-  pub due-step : (w : Walk) {a : Role} {w' : Walk} → Stepped bound ws w (TypeDue a w') → TypeStep w a w'
+  pub due-step : (w : Walk) {a : Role} {w' : Walk} → Stepped bound ws w (Ok (TypeDue a w')) → TypeStep w a w'
   due-step w (type-due h) = record { reads = type-step w h; here = refl }
   due-step w (alias e d a) = record { reads = alias-step w e d a; here = refl }
 
@@ -383,7 +384,7 @@ module _ {N : Type 0} (bound : ℕ) (ws : List ℕ) (nm : ℕ → N) (ty : ℕ �
     pub end : w'.place ≡ w.place + length tokens
     pub further : w.place < w'.place
 
-  pub own-step : (w : Walk) {w' : Walk} → Stepped bound ws w (OwnWords w') → OwnStep w w'
+  pub own-step : (w : Walk) {w' : Walk} → Stepped bound ws w (Ok (OwnWords w')) → OwnStep w w'
   unfolding renamed_token token_word
   own-step w (parameter {x = x} {m = m} e h d) =
       let t = entry bound ws w.place d in
@@ -421,20 +422,20 @@ module _ {N : Type 0} (bound : ℕ) (ws : List ℕ) (nm : ℕ → N) (ty : ℕ �
       let z : r₂.end ≡ q = cc r₂.rest in
       omega (arith, n₁, n₂, z)
 
-  pub field-opens : (w : Walk) {ps : List (Piece N)} {n : ℕ} → left_of present bound ws nm ty w ≡ got ps n → FieldNext w → Stepped bound ws w (OwnWords (in_field w (field_type w)))
+  pub field-opens : (w : Walk) {ps : List (Piece N)} {n : ℕ} → left_of present bound ws nm ty w ≡ got ps n → FieldNext w → Stepped bound ws w (Ok (OwnWords (in_field w (field_type w))))
   field-opens w {ps} {n} l (t, m, a, f) = kinds (eqb w.kind 0) refl
     where
-      never : {r : Refusal} → Stepped bound ws w (Halted r) → ⊥
+      never : {r : Refusal} → Stepped bound ws w (Err r) → ⊥
       never s = let k = halt-step bound ws nm ty w s in impossible (cc (k, l))
 
-      named : w.kind ≡ 0 → (x : Reading (ℕ × ℕ)) → read_two 2 bound ws w.place ≡ x → Stepped bound ws w (OwnWords (in_field w (w.place + 2)))
-      named k (got v q) e = subst (λ (i : ℕ). Stepped bound ws w (OwnWords (in_field w i))) (two-end 2 bound w.place e) (field t m a f k e)
+      named : w.kind ≡ 0 → (x : Reading (ℕ × ℕ)) → read_two 2 bound ws w.place ≡ x → Stepped bound ws w (Ok (OwnWords (in_field w (w.place + 2))))
+      named k (got v q) e = subst (λ (i : ℕ). Stepped bound ws w (Ok (OwnWords (in_field w i)))) (two-end 2 bound w.place e) (field t m a f k e)
       named k (stop r) e = absurd (never (no_field t m a f k e))
 
-      nameless-one : (w.kind ≡ 0 → ⊥) → (x : Reading ℕ) → read_below 2 ws w.place ≡ x → Stepped bound ws w (OwnWords (in_field w (w.place + 1)))
-      nameless-one k (got v q) e = subst (λ (i : ℕ). Stepped bound ws w (OwnWords (in_field w i))) (below-there 2 ws w.place e).next (nameless t m a f k e)
+      nameless-one : (w.kind ≡ 0 → ⊥) → (x : Reading ℕ) → read_below 2 ws w.place ≡ x → Stepped bound ws w (Ok (OwnWords (in_field w (w.place + 1))))
+      nameless-one k (got v q) e = subst (λ (i : ℕ). Stepped bound ws w (Ok (OwnWords (in_field w i)))) (below-there 2 ws w.place e).next (nameless t m a f k e)
       nameless-one k (stop r) e = absurd (never (no-nameless t m a f k e))
 
-      kinds : (b : Bool) → eqb w.kind 0 ≡ b → Stepped bound ws w (OwnWords (in_field w (pick b (w.place + 2) (w.place + 1))))
+      kinds : (b : Bool) → eqb w.kind 0 ≡ b → Stepped bound ws w (Ok (OwnWords (in_field w (pick b (w.place + 2) (w.place + 1)))))
       kinds true e = named (eqb-true w.kind 0 e) (read_two 2 bound ws w.place) refl
       kinds false e = nameless-one (eqb-false w.kind 0 e) (read_below 2 ws w.place) refl

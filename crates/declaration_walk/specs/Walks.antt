@@ -1,5 +1,5 @@
 -- A walk over a declaration: what is left to read of it, as pieces, and how each step goes on.
-use Rattle.std.specs.Prelude.{ℕ, ◌+◌, ◌-◌, ◌<◌, ◌≡◌, List, ◌++◌, eqb}
+use Rattle.std.specs.Prelude.{Ok, Err, Result, ℕ, suc, ◌+◌, ◌-◌, ◌<◌, ◌≡◌, List, ◌++◌, eqb}
 use Rattle.rast.specs.Bytes.{Bytes}
 use Rattle.rast.specs.Tree.{Ty}
 use Rattle.rast.specs.Declaration.{Attribute}
@@ -21,11 +21,7 @@ use Rattle.declaration_walk.specs.declared.Role.{Role}
 use Rattle.declaration_walk.specs.declared.Role.TheVariants.{Constraint, StructField, CaseField, Aliased}
 use Rattle.declaration_walk.specs.declared.Walk.{Walk}
 use Rattle.declaration_walk.specs.declared.Next.{Next}
-use Rattle.declaration_walk.specs.declared.Next.TheVariants.{OwnWords, TypeDue, Ended, Halted}
-use Rattle.declaration_walk.specs.declared.Start.{Start}
-use Rattle.declaration_walk.specs.declared.Start.TheVariants.{Begun, NotBegun}
-use Rattle.declaration_walk.specs.declared.Two.{Two}
-use Rattle.declaration_walk.specs.declared.Two.TheVariants.{Both, Neither}
+use Rattle.declaration_walk.specs.declared.Next.TheVariants.{OwnWords, TypeDue, Ended}
 use Rattle.declaration_walk.specs.Pieces.{Piece, runs, type_piece, parameter_pieces, field_pieces, nameless_pieces, fields_pieces, case_pieces, counted, title_tokens, use_tokens}
 
 -- ---- runs of pieces
@@ -76,9 +72,9 @@ read_entry b ws p = read_below b ws p >>= λ x q. read_word ws q >>= λ y r. got
 unfoldable pub read_two : ℕ → ℕ → List ℕ → ℕ → Reading (ℕ × ℕ)
 read_two b c ws p = read_below b ws p >>= λ x q. read_below c ws q >>= λ y r. got (x, y) r
 
-abbrev pub two_scan : Reading (ℕ × ℕ) → Two
-two_scan (got e n) = Both e.0 e.1 n
-two_scan (stop r) = Neither r
+abbrev pub two_scan : Reading (ℕ × ℕ) → Result (ℕ × ℕ × ℕ) Refusal
+two_scan (got e n) = Ok (e.0, e.1, n)
+two_scan (stop r) = Err r
 
 -- the walk at another place
 abbrev pub moved : Walk → ℕ → Walk
@@ -122,28 +118,28 @@ abbrev pub past_field : Walk → ℕ → Walk
 past_field w q = record { place = q; role = w.role; types = 0; parameters = 0; after = NoMore; kind = w.kind; fields = w.fields - 1; cases = w.cases }
 
 -- the own words of the next step, and how it goes on
-pub data Stepped (bound : ℕ) (ws : List ℕ) (w : Walk) : Next → Type 0 where
-  type-due : 0 < w.types → Stepped bound ws w (TypeDue w.role (past_type w))
-  parameter : {x m q : ℕ} → w.types ≡ 0 → 0 < w.parameters → read_entry bound ws w.place ≡ got (x, m) q → Stepped bound ws w (OwnWords (in_parameter w m q))
-  no-parameter : {r : Refusal} → w.types ≡ 0 → 0 < w.parameters → read_entry bound ws w.place ≡ stop r → Stepped bound ws w (Halted r)
-  fields : {r : Role} {k n q : ℕ} → w.types ≡ 0 → w.parameters ≡ 0 → w.after ≡ FieldList r → read_entry field_kinds ws w.place ≡ got (k, n) q → Stepped bound ws w (OwnWords (in_fields w r k n q))
-  no_fields : {a : Role} {r : Refusal} → w.types ≡ 0 → w.parameters ≡ 0 → w.after ≡ FieldList a → read_entry field_kinds ws w.place ≡ stop r → Stepped bound ws w (Halted r)
-  cases : {n q : ℕ} → w.types ≡ 0 → w.parameters ≡ 0 → w.after ≡ CaseList → read_word ws w.place ≡ got n q → Stepped bound ws w (OwnWords (in_cases n q))
-  no_cases : {r : Refusal} → w.types ≡ 0 → w.parameters ≡ 0 → w.after ≡ CaseList → read_word ws w.place ≡ stop r → Stepped bound ws w (Halted r)
-  alias : w.types ≡ 0 → w.parameters ≡ 0 → w.after ≡ OneType → Stepped bound ws w (TypeDue Aliased (past_alias w))
+pub data Stepped (bound : ℕ) (ws : List ℕ) (w : Walk) : Result Next Refusal → Type 0 where
+  type-due : 0 < w.types → Stepped bound ws w (Ok (TypeDue w.role (past_type w)))
+  parameter : {x m q : ℕ} → w.types ≡ 0 → 0 < w.parameters → read_entry bound ws w.place ≡ got (x, m) q → Stepped bound ws w (Ok (OwnWords (in_parameter w m q)))
+  no-parameter : {r : Refusal} → w.types ≡ 0 → 0 < w.parameters → read_entry bound ws w.place ≡ stop r → Stepped bound ws w (Err r)
+  fields : {r : Role} {k n q : ℕ} → w.types ≡ 0 → w.parameters ≡ 0 → w.after ≡ FieldList r → read_entry field_kinds ws w.place ≡ got (k, n) q → Stepped bound ws w (Ok (OwnWords (in_fields w r k n q)))
+  no_fields : {a : Role} {r : Refusal} → w.types ≡ 0 → w.parameters ≡ 0 → w.after ≡ FieldList a → read_entry field_kinds ws w.place ≡ stop r → Stepped bound ws w (Err r)
+  cases : {n q : ℕ} → w.types ≡ 0 → w.parameters ≡ 0 → w.after ≡ CaseList → read_word ws w.place ≡ got n q → Stepped bound ws w (Ok (OwnWords (in_cases n q)))
+  no_cases : {r : Refusal} → w.types ≡ 0 → w.parameters ≡ 0 → w.after ≡ CaseList → read_word ws w.place ≡ stop r → Stepped bound ws w (Err r)
+  alias : w.types ≡ 0 → w.parameters ≡ 0 → w.after ≡ OneType → Stepped bound ws w (Ok (TypeDue Aliased (past_alias w)))
   field : {v x q : ℕ} → w.types ≡ 0 → w.parameters ≡ 0 → w.after ≡ NoMore → 0 < w.fields → w.kind ≡ named_kind → read_two visibility_count bound ws w.place ≡ got (v, x) q
-      → Stepped bound ws w (OwnWords (in_field w q))
+      → Stepped bound ws w (Ok (OwnWords (in_field w q)))
   no_field : {r : Refusal} → w.types ≡ 0 → w.parameters ≡ 0 → w.after ≡ NoMore → 0 < w.fields → w.kind ≡ named_kind → read_two visibility_count bound ws w.place ≡ stop r
-      → Stepped bound ws w (Halted r)
+      → Stepped bound ws w (Err r)
   nameless : {v q : ℕ} → w.types ≡ 0 → w.parameters ≡ 0 → w.after ≡ NoMore → 0 < w.fields → (w.kind ≡ named_kind → ⊥) → read_below visibility_count ws w.place ≡ got v q
-      → Stepped bound ws w (OwnWords (in_field w q))
+      → Stepped bound ws w (Ok (OwnWords (in_field w q)))
   no-nameless : {r : Refusal} → w.types ≡ 0 → w.parameters ≡ 0 → w.after ≡ NoMore → 0 < w.fields → (w.kind ≡ named_kind → ⊥) → read_below visibility_count ws w.place ≡ stop r
-      → Stepped bound ws w (Halted r)
+      → Stepped bound ws w (Err r)
   case : {d x q : ℕ} → w.types ≡ 0 → w.parameters ≡ 0 → w.after ≡ NoMore → w.fields ≡ 0 → 0 < w.cases → read_two bound bound ws w.place ≡ got (d, x) q
-      → Stepped bound ws w (OwnWords (in_case w q))
+      → Stepped bound ws w (Ok (OwnWords (in_case w q)))
   no-case : {r : Refusal} → w.types ≡ 0 → w.parameters ≡ 0 → w.after ≡ NoMore → w.fields ≡ 0 → 0 < w.cases → read_two bound bound ws w.place ≡ stop r
-      → Stepped bound ws w (Halted r)
-  end : w.types ≡ 0 → w.parameters ≡ 0 → w.after ≡ NoMore → w.fields ≡ 0 → w.cases ≡ 0 → Stepped bound ws w Ended
+      → Stepped bound ws w (Err r)
+  end : w.types ≡ 0 → w.parameters ≡ 0 → w.after ≡ NoMore → w.fields ≡ 0 → w.cases ≡ 0 → Stepped bound ws w (Ok Ended)
 
 -- ---- the start
 
@@ -186,21 +182,29 @@ abbrev pub opened : Opening → ℕ → Walk
 opened o n = record { place = n; role = Constraint; types = 0; parameters = o.parameters; after = o.after; kind = 0; fields = 0; cases = 0 }
 
 -- a title behind its head, by the walk alone: its own words do not matter to it
-abbrev pub started_at : After → Reading (ℕ × ℕ) → Start
-started_at after (got e n) = Begun (record { place = n; role = Constraint; types = 0; parameters = e.1; after = after; kind = 0; fields = 0; cases = 0 })
-started_at after (stop r) = NotBegun r
+abbrev pub started_at : After → Reading (ℕ × ℕ) → Result Walk Refusal
+started_at after (got e n) = Ok (record { place = n; role = Constraint; types = 0; parameters = e.1; after = after; kind = 0; fields = 0; cases = 0 })
+started_at after (stop r) = Err r
 
-abbrev pub started_behind : {A : Type 0} → Reading A → (ℕ → Start) → Start
+abbrev pub started_behind : {A : Type 0} → Reading A → (ℕ → Result Walk Refusal) → Result Walk Refusal
 started_behind (got a n) f = f n
-started_behind (stop r) f = NotBegun r
+started_behind (stop r) f = Err r
 
-abbrev pub titled : After → ℕ → List ℕ → ℕ → Start
+abbrev pub titled : After → ℕ → List ℕ → ℕ → Result Walk Refusal
 titled after bound ws p =
     started_behind (read_below bound ws p) λ q. started_behind (read_attributes bound ws q) λ r. started_at after (read_entry bound ws r)
 
-abbrev pub started : Reading Opening → Start
-started (got o n) = Begun (opened o n)
-started (stop r) = NotBegun r
+abbrev pub started : Reading Opening → Result Walk Refusal
+started (got o n) = Ok (opened o n)
+started (stop r) = Err r
+
+-- ---- things one behind the other
+
+-- n things begin at p, and r says where they end, or the refusal that is met first: P says where each ends
+pub data EachScanned (P : ℕ → Result ℕ Refusal → Type 0) : ℕ → ℕ → Result ℕ Refusal → Type 0 where
+  all : {p : ℕ} → EachScanned P 0 p (Ok p)
+  more : {n p q : ℕ} {r : Result ℕ Refusal} → P p (Ok q) → EachScanned P n q r → EachScanned P (suc n) p r
+  refused : {n p : ℕ} {k : Refusal} → P p (Err k) → EachScanned P (suc n) p (Err k)
 
 -- ---- of an encoding
 

@@ -1,4 +1,7 @@
 -- Laws of heads.
+use Rattle.encoding.specs.declared.Head.{Head}
+use Rattle.encoding.specs.declared.Refusal.{Refusal}
+use Rattle.std.specs.Prelude.{Result}
 use Prim.Native.Nat.{ℕ, ◌+◌, ◌≤◌, ◌<◌}
 use mathlib.Core.Path.{◌≡◌, refl, ap, sym, ◌∙◌}
 use mathlib.Core.List.{List}
@@ -8,12 +11,10 @@ use mathlib.Core.Bool.{false}
 use lib.Dec.{eqb}
 use lib.ListN.{length, get_or}
 use Rattle.encoding.specs.declared.Refusal.TheVariants.{EndsEarly, UnknownWord}
-use Rattle.encoding.specs.declared.WordScan.{WordScan}
 use Rattle.encoding.specs.declared.Head.TheVariants.{Plain}
-use Rattle.encoding.specs.declared.HeadScan.{HeadScan}
 use Rattle.encoding.specs.Reading.{Reading, got, stop, ◌>>=◌}
 use Rattle.encoding.specs.Heads.{head_after, read_head}
-use Rattle.encoding.specs.Scans.{word_scan, head_scan, head_of, own_word}
+use Rattle.encoding.specs.Scans.{scan_of, head_of, own_word}
 use Rattle.encoding.proofs.Reading.{word_in, word_end}
 
 pub head_at : (b : ℕ) (ws : List ℕ) (at : ℕ) → at < length ws → read_head b ws at ≡ head_after b ws (get_or ws at 0) (at + 1)
@@ -53,14 +54,14 @@ head-other b ws w p h =
       no 24 (omega arith),
     )
 
-own-made : (w : ℕ) (x : Reading ℕ) → own_word w (word_scan x) ≡ head_scan (x >>= λ v q. got (head_of w v) q)
+own-made : (w : ℕ) (x : Reading ℕ) → own_word w (scan_of x) ≡ scan_of (x >>= λ v q. got (head_of w v) q)
 own-made w (got v n) = refl
 own-made w (stop k) = refl
 
 -- a head with one own word
-pub head-worded : (b : ℕ) (ws : List ℕ) (w p : ℕ) (x : Reading ℕ) {r : HeadScan} {s : WordScan}
-    → head_after b ws w p ≡ (x >>= λ v q. got (head_of w v) q) → r ≡ own_word w s → s ≡ word_scan x → r ≡ head_scan (head_after b ws w p)
-head-worded b ws w p x k d e = d ∙ ap (own_word w) e ∙ own-made w x ∙ ap head_scan (sym k)
+pub head-worded : (b : ℕ) (ws : List ℕ) (w p : ℕ) (x : Reading ℕ) {r : Result (Head × ℕ) Refusal} {s : Result (ℕ × ℕ) Refusal}
+    → head_after b ws w p ≡ (x >>= λ v q. got (head_of w v) q) → r ≡ own_word w s → s ≡ scan_of x → r ≡ scan_of (head_after b ws w p)
+head-worded b ws w p x k d e = d ∙ ap (own_word w) e ∙ own-made w x ∙ ap scan_of (sym k)
 
 -- a number that is none of six in a row is past them
 pub past-six : (w a : ℕ) → a ≤ w → (w ≡ a → ⊥) → (w ≡ a + 1 → ⊥) → (w ≡ a + 2 → ⊥) → (w ≡ a + 3 → ⊥) → (w ≡ a + 4 → ⊥) → (w ≡ a + 5 → ⊥) → a + 6 ≤ w

@@ -1,13 +1,13 @@
 -- Laws of the bytes of names: the part of the text that a pair names, and equal bytes.
 use Prim.Native.Nat.{ℕ, suc, ◌+◌, ◌*◌, ◌-◌, ◌≤◌, ◌<◌}
 use mathlib.Core.Path.{◌≡◌, refl, ap, sym, ◌∙◌}
-use mathlib.Core.Bool.{Bool, true, false, beq}
+use mathlib.Core.Bool.{Bool, true, false, beq, ◌&&◌}
 use mathlib.Core.List.{List, [], ◌∷◌}
 use native.Mathlib.Omega.{arith}
-use native.Mathlib.Numerals.{add-one}
 use lib.Dec.{eqb}
-use lib.ListN.{length, get_or, take, drop, drop_of_length-le}
-use lib.Seq.{drop-cons}
+use lib.Pointwise.{pointwise}
+use Rattle.std.specs.Prelude.{nat_eq}
+use lib.ListN.{length, get_or, take, drop}
 use Rattle.rast.specs.Bytes.{Bytes, ascii, same, ◌and◌}
 use Rattle.rast.proofs.BytesLaws.{and-false}
 use Rattle.encoding.specs.Tables.{fixed_names, name_bytes, name_count}
@@ -46,14 +46,18 @@ same-apart [] (y ∷ b) h = refl
 same-apart (x ∷ a) [] h = refl
 same-apart (x ∷ a) (y ∷ b) h = rw (same-apart a b (λ e. h (ap suc e))) (and-false (eqb x y))
 
-pub same_more : (a b : Bytes) (i : ℕ) → i < length a → i < length b
-    → same (drop i a) (drop i b) ≡ (eqb (get_or a i 0) (get_or b i 0) and same (drop (i + 1) a) (drop (i + 1) b))
-unfolding same
-same_more a b i h k = rw (add-one i, drop-cons a i 0 h, drop-cons b i 0 k)
+and_is : (s t : Bool) → (s && t) ≡ (s and t)
+unfolding ◌and◌
+and_is true t = refl
+and_is false t = refl
 
-pub same_end : (a b : Bytes) (i : ℕ) → length a ≤ i → length b ≤ i → same (drop i a) (drop i b) ≡ true
+-- what the library's `==` answers
+pub same_is : (a b : Bytes) → pointwise nat_eq a b ≡ same a b
 unfolding same
-same_end a b i h k = rw (drop_of_length-le a h, drop_of_length-le b k)
+same_is [] [] = refl
+same_is [] (y ∷ b) = refl
+same_is (x ∷ a) [] = refl
+same_is (x ∷ a) (y ∷ b) = rw (same_is a b) (and_is (nat_eq x y) (same a b))
 
 -- ---- fixed names
 

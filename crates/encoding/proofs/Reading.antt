@@ -1,4 +1,5 @@
 -- Laws of reading at a position, and from the code's answers back to the readings.
+use Rattle.std.specs.Prelude.{Ok, Err, Result, IsErrAnd}
 use Prim.Native.Nat.{ℕ, zero, suc, ◌+◌, ◌-◌, ◌≤◌, ◌<◌}
 use mathlib.Core.Path.{◌≡◌, refl, ap}
 use mathlib.Core.List.{List}
@@ -8,45 +9,24 @@ use borrow.Author.Tests.{lt-ltb, le-ltb}
 use lib.ListN.{length, get_or}
 use Rattle.encoding.specs.declared.Refusal.{Refusal}
 use Rattle.encoding.specs.declared.Refusal.TheVariants.{EndsEarly, UnknownWord}
-use Rattle.encoding.specs.declared.Scan.{Scan}
-use Rattle.encoding.specs.declared.Scan.TheVariants.{At, Refused}
-use Rattle.encoding.specs.declared.WordScan.{WordScan}
-use Rattle.encoding.specs.declared.WordScan.TheVariants.{Word, NoWord}
-use Rattle.encoding.specs.declared.PathAt.{PathAt}
-use Rattle.encoding.specs.declared.PathScan.{PathScan}
-use Rattle.encoding.specs.declared.PathScan.TheVariants.{OwnPath, NoPath}
-use Rattle.encoding.specs.declared.Head.{Head}
-use Rattle.encoding.specs.declared.HeadScan.{HeadScan}
-use Rattle.encoding.specs.declared.HeadScan.TheVariants.{Own, NoHead}
 use Rattle.encoding.specs.Reading.{Reading, got, stop, read_word, read_below, read_names}
-use Rattle.encoding.specs.Scans.{word_scan, ended, path_scan, head_scan, map_reading}
+use Rattle.encoding.specs.Scans.{scan_of, ended, map_reading}
 use Rattle.encoding.proofs.Tables.{impossible}
+
+-- the answer that a `?` hands on
+pub handed-on : {A : Type 0} {r : Result A Refusal} {k : Refusal} → IsErrAnd r (λ u. u ≡ k) → r ≡ Err k
+handed-on {r = Err u} e = ap Err e
+handed-on {r = Ok a} e = absurd e
 
 -- ---- from an answer to the reading behind it
 
-pub word_got : (x : Reading ℕ) {r : WordScan} {w n : ℕ} → r ≡ word_scan x → r ≡ Word w n → x ≡ got w n
-word_got (got a m) e d = cc
-word_got (stop k) e d = impossible (cc)
+pub read-got : {A : Type 0} (x : Reading A) {r : Result (A × ℕ) Refusal} {a : A} {n : ℕ} → r ≡ scan_of x → r ≡ Ok (a, n) → x ≡ got a n
+read-got {A} (got b m) {a = a} {n = n} e d = let q : ◌≡◌ {A = A × ℕ} (b, m) (a, n) = cc in ap (λ z. got z.0 z.1) q
+read-got (stop k) e d = impossible (cc)
 
-pub word-stop : (x : Reading ℕ) {r : WordScan} {k : Refusal} → r ≡ word_scan x → r ≡ NoWord k → x ≡ stop k
-word-stop (got a m) e d = impossible (cc)
-word-stop (stop k) e d = cc
-
-pub path-got : (x : Reading PathAt) {r : PathScan} {p : PathAt} {n : ℕ} → r ≡ path_scan x → r ≡ OwnPath p n → x ≡ got p n
-path-got (got a m) e d = cc
-path-got (stop k) e d = impossible (cc)
-
-pub path-stop : (x : Reading PathAt) {r : PathScan} {k : Refusal} → r ≡ path_scan x → r ≡ NoPath k → x ≡ stop k
-path-stop (got a m) e d = impossible (cc)
-path-stop (stop k) e d = cc
-
-pub head-got : (x : Reading Head) {r : HeadScan} {h : Head} {n : ℕ} → r ≡ head_scan x → r ≡ Own h n → x ≡ got h n
-head-got (got a m) e d = cc
-head-got (stop k) e d = impossible (cc)
-
-pub head-stop : (x : Reading Head) {r : HeadScan} {k : Refusal} → r ≡ head_scan x → r ≡ NoHead k → x ≡ stop k
-head-stop (got a m) e d = impossible (cc)
-head-stop (stop k) e d = cc
+pub read-stop : {A : Type 0} (x : Reading A) {r : Result (A × ℕ) Refusal} {k : Refusal} → r ≡ scan_of x → r ≡ Err k → x ≡ stop k
+read-stop (got a m) e d = impossible (cc)
+read-stop (stop k) {k = k'} e d = cc
 
 -- what was read is one value, and ends at one place
 pub got-value : {A : Type 0} {a c : A} {m n : ℕ} → got a m ≡ got c n → a ≡ c
@@ -60,11 +40,11 @@ pub record Read {A : Type 0} (x : Reading A) (n : ℕ) : Type 0 where
   pub value : A
   pub reads : x ≡ got value n
 
-pub scan-got : {A : Type 0} (x : Reading A) {r : Scan} {n : ℕ} → r ≡ ended x → r ≡ At n → Read x n
+pub scan-got : {A : Type 0} (x : Reading A) {r : Result ℕ Refusal} {n : ℕ} → r ≡ ended x → r ≡ Ok n → Read x n
 scan-got (got a m) {r} {n} e d = let q : m ≡ n = cc in record { value = a; reads = ap (got a) q }
 scan-got (stop k) e d = impossible (cc)
 
-pub scan-stop : {A : Type 0} (x : Reading A) {r : Scan} {k : Refusal} → r ≡ ended x → r ≡ Refused k → x ≡ stop k
+pub scan-stop : {A : Type 0} (x : Reading A) {r : Result ℕ Refusal} {k : Refusal} → r ≡ ended x → r ≡ Err k → x ≡ stop k
 scan-stop (got a m) e d = impossible (cc)
 scan-stop (stop k) e d = cc
 

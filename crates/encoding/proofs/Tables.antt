@@ -1,20 +1,18 @@
 -- Laws of the tables: pairs and names.
+use Rattle.encoding.specs.declared.Refusal.{Refusal}
+use Rattle.std.specs.Prelude.{Ok, Err, Result}
 use Prim.Native.Nat.{ℕ, zero, suc, ◌+◌, ◌-◌, ◌*◌, ◌/◌, ◌%◌, ◌≤◌, ◌<◌}
 use mathlib.Core.Path.{◌≡◌, refl, sym, ◌∙◌}
 use mathlib.Core.Bool.{Bool, true, false}
-use mathlib.Core.List.{List, [], ◌∷◌}
+use mathlib.Core.List.{List, [], ◌∷◌, ◌++◌}
 use native.Mathlib.Omega.{arith}
-use native.Mathlib.Numerals.{add-one, add-two}
 use native.Mathlib.Decide.{ℕ_discrete, dec_lt}
 use borrow.Author.Tests.{lt-ltb, le-ltb, le-leb, lt-leb, eqb-true, leb-true, ltb-false}
 use lib.Dec.{eqb, leb, ltb}
-use lib.ListN.{length, get_or, take, drop, drop_of_length-le, length-take, length-drop}
-use lib.Seq.{drop-cons}
+use lib.ListN.{length, get_or, take, drop, length-take, length-drop}
 use Rattle.rast.specs.Bytes.{Bytes, ascii, same, ◌and◌, ◌or◌}
 use Rattle.rast.proofs.BytesLaws.{and_left, and_right, and-false}
 use Rattle.encoding.specs.declared.Refusal.TheVariants.{Overlong, BadPair}
-use Rattle.encoding.specs.declared.Check.{Check}
-use Rattle.encoding.specs.declared.Check.TheVariants.{Passed, Failed}
 use Rattle.encoding.specs.Refusals.{pick}
 use Rattle.encoding.specs.Tables.{overlong, check_tables, good_pairs, fixed_names, name_bytes, name_count, pair_bytes}
 use Rattle.encoding.specs.Tested.{Good, digit_at, name_length}
@@ -81,10 +79,6 @@ fixed-inside k h = every-at-most (λ i. get_or starts i 0 + length (get_or fixed
 
 -- ---- pairs
 
-pub pairs_end : (l : List ℕ) (i end size : ℕ) → length l ≤ i → good_pairs (drop i l) end size ≡ true
-unfolding good_pairs
-pairs_end l i end size h = rw (drop_of_length-le l h)
-
 -- half a pair ends the table
 pub pairs-odd : (l : List ℕ) (end size : ℕ) → (length l % 2 ≡ 0 → ⊥) → good_pairs l end size ≡ false
 unfolding good_pairs ◌and◌
@@ -92,30 +86,38 @@ pairs-odd [] end size h = absurd (h refl)
 pairs-odd (x ∷ []) end size h = refl
 pairs-odd (x ∷ y ∷ l) end size h = rw (pairs-odd l (x + y) size (λ e. h (omega (arith, e)))) (and-false (leb end x and leb (x + y) size))
 
-pairs-more : (l : List ℕ) (i end size : ℕ) → i + 1 < length l
-    → good_pairs (drop i l) end size
-    ≡ (leb end (get_or l i 0) and leb (get_or l i 0 + get_or l (i + 1) 0) size
-    and good_pairs (drop (i + 2) l) (get_or l i 0 + get_or l (i + 1) 0) size)
+-- a table's first pair, x, and the table behind it, r
+module _ (l x r : List ℕ) (end size : ℕ) (s : l ≡ x ++ r) (two : length x ≡ 2) where
+  first : good_pairs l end size
+      ≡ (leb end (get_or x 0 0) and leb (get_or x 0 0 + get_or x 1 0) size and good_pairs r (get_or x 0 0 + get_or x 1 0) size)
+  unfolding good_pairs
+  first = rw s (go x two)
+    where
+      go : (x : List ℕ) → length x ≡ 2 → good_pairs (x ++ r) end size
+          ≡ (leb end (get_or x 0 0) and leb (get_or x 0 0 + get_or x 1 0) size and good_pairs r (get_or x 0 0 + get_or x 1 0) size)
+      go [] e = impossible (cc)
+      go (a ∷ []) e = impossible (cc)
+      go (a ∷ b ∷ []) e = refl
+      go (a ∷ b ∷ c ∷ x) e = absurd (let z : ⊥ = omega arith in z)
+
+  pub pairs-early : get_or x 0 0 < end → good_pairs l end size ≡ false
+  unfolding ◌and◌
+  pairs-early k = rw (first, lt-leb end (get_or x 0 0) k)
+
+  pub pairs-late : end ≤ get_or x 0 0 → size < get_or x 0 0 + get_or x 1 0 → good_pairs l end size ≡ false
+  unfolding ◌and◌
+  pairs-late k m = rw (first, le-leb end (get_or x 0 0) k, lt-leb (get_or x 0 0 + get_or x 1 0) size m)
+
+  pub pairs_next : end ≤ get_or x 0 0 → get_or x 0 0 + get_or x 1 0 ≤ size → good_pairs l end size ≡ good_pairs r (get_or x 0 0 + get_or x 1 0) size
+  unfolding ◌and◌
+  pairs_next k m = rw (first, le-leb end (get_or x 0 0) k, le-leb (get_or x 0 0 + get_or x 1 0) size m)
+
+-- what is less than a pair, and no half of one, is nothing
+pub pairs_end : (l : List ℕ) (end size : ℕ) → length l < 2 → length l % 2 ≡ 0 → good_pairs l end size ≡ true
 unfolding good_pairs
-pairs-more l i end size h =
-    let h₀ : i < length l = omega arith in
-    let h₁ : suc i < length l = omega arith in
-    rw (add-one i, add-two i, drop-cons l i 0 h₀, drop-cons l (suc i) 0 h₁)
-
-pub pairs-early : (l : List ℕ) (i end size : ℕ) → i + 1 < length l → get_or l i 0 < end → good_pairs (drop i l) end size ≡ false
-unfolding ◌and◌
-pairs-early l i end size h k = rw (pairs-more l i end size h, lt-leb end (get_or l i 0) k)
-
-pub pairs-late : (l : List ℕ) (i end size : ℕ) → i + 1 < length l → end ≤ get_or l i 0
-    → size < get_or l i 0 + get_or l (i + 1) 0 → good_pairs (drop i l) end size ≡ false
-unfolding ◌and◌
-pairs-late l i end size h k m = rw (pairs-more l i end size h, le-leb end (get_or l i 0) k, lt-leb (get_or l i 0 + get_or l (i + 1) 0) size m)
-
-pub pairs_next : (l : List ℕ) (i end size : ℕ) → i + 1 < length l → end ≤ get_or l i 0
-    → get_or l i 0 + get_or l (i + 1) 0 ≤ size
-    → good_pairs (drop i l) end size ≡ good_pairs (drop (i + 2) l) (get_or l i 0 + get_or l (i + 1) 0) size
-unfolding ◌and◌
-pairs_next l i end size h k m = rw (pairs-more l i end size h, le-leb end (get_or l i 0) k, le-leb (get_or l i 0 + get_or l (i + 1) 0) size m)
+pairs_end [] end size h e = refl
+pairs_end (x ∷ []) end size h e = impossible (cc)
+pairs_end (x ∷ y ∷ l) end size h e = absurd (let z : ⊥ = omega arith in z)
 
 -- a good pair lies within the text
 pair_fits : (l : List ℕ) (end size i : ℕ) → good_pairs l end size ≡ true → 2 * i + 1 < length l → get_or l (2 * i) 0 + get_or l (2 * i + 1) 0 ≤ size
@@ -168,14 +170,14 @@ pub record Tables (words pairs : List ℕ) (text : Bytes) : Type 0 where
   pub few : length words ≤ 8192
   pub pairs-few : length pairs / 2 ≤ 1024
 
-passed : (a b c g : Bool) → pick (a or b or c) (Failed Overlong) (pick g Passed (Failed BadPair)) ≡ Passed → (a ≡ false) × (b ≡ false) × (c ≡ false) × (g ≡ true)
+passed : (a b c g : Bool) → pick {A = Result (Unit {0}) Refusal} (a or b or c) (Err Overlong) (pick g (Ok tt) (Err BadPair)) ≡ Ok tt → (a ≡ false) × (b ≡ false) × (c ≡ false) × (g ≡ true)
 passed false false false true e = (refl, refl, refl, refl)
 passed false false false false e = impossible (cc)
 passed false false true g e = impossible (cc)
 passed false true c g e = impossible (cc)
 passed true b c g e = impossible (cc)
 
-pub tables-passed : (words pairs : List ℕ) (text : Bytes) → check_tables words pairs text ≡ Passed → Tables words pairs text
+pub tables-passed : (words pairs : List ℕ) (text : Bytes) → check_tables words pairs text ≡ Ok tt → Tables words pairs text
 unfolding check_tables overlong
 tables-passed words pairs text e =
     let p = passed (ltb 8192 (length words)) (ltb 1024 (length pairs / 2)) (ltb 16384 (length text)) (good_pairs pairs 0 (length text)) e in
@@ -186,5 +188,5 @@ tables-passed words pairs text e =
     }
 
 -- what a call is asked for, where the code's test of the tables passed
-pub tables-hold : (words pairs : List ℕ) (text : Bytes) {c : Check} → c ≡ check_tables words pairs text → c ≡ Passed → Good pairs text × (length words ≤ 8192)
+pub tables-hold : (words pairs : List ℕ) (text : Bytes) {c : Result (Unit {0}) Refusal} → c ≡ check_tables words pairs text → c ≡ Ok tt → Good pairs text × (length words ≤ 8192)
 tables-hold words pairs text e d = let t = tables-passed words pairs text (sym e ∙ d) in (t.good, t.few)

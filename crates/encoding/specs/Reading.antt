@@ -1,8 +1,8 @@
 -- Reading at a position of the words: a value and the position behind it, or the refusal that is met first.
-use Rattle.std.specs.Prelude.{ℕ, zero, suc, ◌+◌, List, ltb, eqb, length, get_or}
+use Rattle.std.specs.Prelude.{Ok, Err, ℕ, zero, suc, ◌+◌, List, ltb, eqb, length, get_or}
 use Rattle.encoding.specs.declared.Refusal.{Refusal}
 use Rattle.encoding.specs.declared.Refusal.TheVariants.{EndsEarly, UnknownWord, LeftOver}
-use Rattle.encoding.specs.Refusals.{pick, Answer, given, refused}
+use Rattle.encoding.specs.Refusals.{pick, Answer}
 
 pub data Reading (A : Type 0) : Type 0 where
   got : A → ℕ → Reading A
@@ -28,5 +28,5 @@ read_names bound ws (suc n) at = read_below bound ws at >>= λ x p. read_names b
 
 -- the words are read to their end, or some are left over
 unfoldable pub whole : {A : Type 0} → ℕ → Reading A → Answer A
-whole size (got a n) = pick (eqb n size) (given a) (refused LeftOver)
-whole size (stop r) = refused r
+whole size (got a n) = pick (eqb n size) (Ok a) (Err LeftOver)
+whole size (stop r) = Err r

@@ -1,9 +1,7 @@
 -- Document 01's table of refusals: the number of each, and the answers that carry them.
-use Rattle.std.specs.Prelude.{ℕ, Bool, true, false}
+use Rattle.std.specs.Prelude.{Ok, Err, Result, ℕ, Bool, true, false}
 use Rattle.encoding.specs.declared.Refusal.{Refusal}
 use Rattle.encoding.specs.declared.Refusal.TheVariants.{Overlong, BadPair, EndsEarly, UnknownWord, TooDeep, LeftOver, NoSuchPart, BufferTooShort, BadFileLength, RepeatedRule, BadLevel}
-use Rattle.encoding.specs.declared.Check.{Check}
-use Rattle.encoding.specs.declared.Check.TheVariants.{Passed, Failed}
 
 -- the first if the test holds, else the second
 abbrev pub pick : {A : Type 0} → Bool → A → A → A
@@ -25,15 +23,14 @@ number RepeatedRule = 10
 number BadLevel = 11
 
 -- what a call gives
-pub data Answer (A : Type 0) : Type 0 where
-  given : A → Answer A
-  refused : Refusal → Answer A
+abbrev pub Answer : Type 0 → Type 0
+Answer A = Result A Refusal
 
 unfoldable pub map_answer : {A B : Type 0} → (A → B) → Answer A → Answer B
-map_answer f (given a) = given (f a)
-map_answer f (refused r) = refused r
+map_answer f (Ok a) = Ok (f a)
+map_answer f (Err r) = Err r
 
 -- the answer, unless a test failed before it
-unfoldable pub unless : {A : Type 0} → Check → Answer A → Answer A
-unless Passed a = a
-unless (Failed r) a = refused r
+unfoldable pub unless : {A : Type 0} → Result (Unit {0}) Refusal → Answer A → Answer A
+unless (Ok tt) a = a
+unless (Err r) a = Err r

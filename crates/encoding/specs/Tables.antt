@@ -1,15 +1,14 @@
 -- Document 01's "sheet" is here an encoding: words, pairs and a text. What is asked of them before a word is read, and the bytes of names.
-use Rattle.std.specs.Prelude.{ℕ, ◌+◌, ◌*◌, ◌-◌, ◌/◌, Bool, true, false, List, [], ◌∷◌, leb, ltb, length, get_or, take, drop}
+use Rattle.encoding.specs.declared.Refusal.{Refusal}
+use Rattle.std.specs.Prelude.{Ok, Err, Result, ℕ, ◌+◌, ◌*◌, ◌-◌, ◌/◌, Bool, true, false, List, [], ◌∷◌, leb, ltb, length, get_or, take, drop}
 use Rattle.rast.specs.Bytes.{Bytes, ascii, ◌and◌, ◌or◌}
 use Rattle.encoding.specs.Words.{first_pair, max_words, max_pairs, max_text, max_level}
 use Rattle.encoding.specs.declared.Refusal.TheVariants.{Overlong, BadPair, BadLevel}
-use Rattle.encoding.specs.declared.Check.{Check}
-use Rattle.encoding.specs.declared.Check.TheVariants.{Passed, Failed}
 use Rattle.encoding.specs.Refusals.{pick}
 
 -- levels 0 to 16
-unfoldable pub check_level : ℕ → Check
-check_level level = pick (ltb max_level level) (Failed BadLevel) Passed
+unfoldable pub check_level : ℕ → Result (Unit {0}) Refusal
+check_level level = pick (ltb max_level level) (Err BadLevel) (Ok tt)
 
 -- a limit on words, whole pairs or text bytes is passed
 unfoldable pub overlong : List ℕ → List ℕ → Bytes → Bool
@@ -23,10 +22,10 @@ good_pairs (offset ∷ count ∷ pairs) end size =
     leb end offset and leb (offset + count) size and good_pairs pairs (offset + count) size
 
 -- 1, then 2
-unfoldable pub check_tables : List ℕ → List ℕ → Bytes → Check
+unfoldable pub check_tables : List ℕ → List ℕ → Bytes → Result (Unit {0}) Refusal
 check_tables words pairs text =
-    pick (overlong words pairs text) (Failed Overlong)
-    (pick (good_pairs pairs 0 (length text)) Passed (Failed BadPair))
+    pick (overlong words pairs text) (Err Overlong)
+    (pick (good_pairs pairs 0 (length text)) (Ok tt) (Err BadPair))
 
 -- name numbers 0 to 15
 unfoldable pub fixed_names : List Bytes

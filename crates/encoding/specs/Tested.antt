@@ -1,19 +1,18 @@
 -- The tests of a call as one, what tables that passed them keep, and how the code holds the fixed names.
-use Rattle.std.specs.Prelude.{ℕ, ◌+◌, ◌*◌, ◌-◌, ◌^◌, ◌/◌, ◌%◌, ◌≤◌, ◌<◌, ◌≡◌, true, List, [], ltb, length, get_or, take, drop}
+use Rattle.encoding.specs.declared.Refusal.{Refusal}
+use Rattle.std.specs.Prelude.{Ok, Err, Result, ℕ, ◌+◌, ◌*◌, ◌-◌, ◌^◌, ◌/◌, ◌%◌, ◌≤◌, ◌<◌, ◌≡◌, true, List, [], ltb, length, get_or, take, drop}
 use Rattle.rast.specs.Bytes.{Bytes}
 use Rattle.encoding.specs.Words.{first_pair}
-use Rattle.encoding.specs.declared.Check.{Check}
-use Rattle.encoding.specs.declared.Check.TheVariants.{Passed, Failed}
 use Rattle.encoding.specs.Refusals.{pick}
 use Rattle.encoding.specs.Tables.{check_level, good_pairs, check_tables, fixed_names}
 
 -- the second of two tests, if the first passed
-abbrev pub behind : Check → Check → Check
-behind Passed c = c
-behind (Failed r) c = Failed r
+abbrev pub behind : Result (Unit {0}) Refusal → Result (Unit {0}) Refusal → Result (Unit {0}) Refusal
+behind (Ok tt) c = c
+behind (Err r) c = Err r
 
 -- what is tested before anything is printed: the level, then the tables
-unfoldable pub check_call : List ℕ → List ℕ → Bytes → ℕ → Check
+unfoldable pub check_call : List ℕ → List ℕ → Bytes → ℕ → Result (Unit {0}) Refusal
 check_call words pairs text level = behind (check_level level) (check_tables words pairs text)
 
 -- the digit at a place, from the right, of a number's hexadecimal digits

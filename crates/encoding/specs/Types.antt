@@ -1,6 +1,5 @@
 -- The tree that an encoding holds.
-use Rattle.std.specs.Prelude.{ℕ, zero, suc, ◌-◌, ◌%◌, List, [], ◌∷◌, map, eqb, leb, length, get_or, take, drop}
-use Rattle.std.proofs.Math.Option.{Option, some, none}
+use Rattle.std.specs.Prelude.{Option, Some, None, ℕ, zero, suc, ◌-◌, ◌%◌, List, [], ◌∷◌, map, eqb, leb, length, get_or, take, drop}
 use Rattle.rast.specs.Bytes.{Bytes}
 use Rattle.rast.specs.Tree.{Path, Global, Crate, Self, MSels, PrimitiveTy, U8, U16, U32, U64, U128, I8, I16, I32, I64, I128, USIZE, Bool·, Ty, Tys, Primitive, TIdentifier, TypeFromPath, TypeApp, Borrowed, BorrowedMut, ImplType, DynType, TupleType, FnType, IntersectionType, Array, TSynonym, TMetaData, nil, cons}
 use Rattle.encoding.specs.Words.{max_depth, global_root, crate_root}
@@ -26,7 +25,7 @@ path_of ws name p = MSels (root_of p.root) (map name (take p.count (drop p.start
 
 -- 0 for no size, else a name's number plus 1
 unfoldable pub size_of : {N : Type 0} → (ℕ → N) → ℕ → Option N
-size_of name s = pick (eqb s 0) none (some (name (s - 1)))
+size_of name s = pick (eqb s 0) None (Some (name (s - 1)))
 
 -- n types, each read by `again`
 unfoldable pub read_types : {N : Type 0} → (ℕ → Reading (Ty N)) → ℕ → ℕ → Reading (Tys N)

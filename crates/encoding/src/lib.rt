@@ -14,7 +14,7 @@ ghost use Rattle.encoding.specs.Reading.{read_word, read_below, read_names};
 ghost use Rattle.encoding.specs.Types.{primitives};
 ghost use Rattle.encoding.specs.Heads.{read_path, path_head, head_after, read_head};
 ghost use Rattle.encoding.specs.HeadWords.{HeadHere, types_below, own_end};
-ghost use Rattle.encoding.specs.Scans.{word_scan, ended, path_scan, head_scan, head_of, own_word};
+ghost use Rattle.encoding.specs.Scans.{scan_of, ended, head_of, own_word};
 
 use crate::words::{
     ARRAY, BORROWED, BORROWED_MUT, DYN_TYPE, FIRST_PAIR, FIXED_NAMES, FLAGS, FN_TYPE, IMPL_TYPE,
@@ -25,7 +25,7 @@ use crate::words::{
 pub mod words;
 
 // Document 01's refusals. `Refusals.number` gives the number of each.
-#[derive(Clone, Copy)]
+#[derive(Clone, Copy, Debug, PartialEq, Eq, Hash)]
 pub enum Refusal {
     Overlong,
     BadPair,
@@ -40,38 +40,34 @@ pub enum Refusal {
     BadLevel,
 }
 
-pub fn refusal_number(r: Refusal) -> u32
-    ensures { result ≡ number r }
-{
-    match r {
-        Refusal::Overlong => 1,
-        Refusal::BadPair => 2,
-        Refusal::EndsEarly => 3,
-        Refusal::UnknownWord => 4,
-        Refusal::TooDeep => 5,
-        Refusal::LeftOver => 6,
-        Refusal::NoSuchPart => 7,
-        Refusal::BufferTooShort => 8,
-        Refusal::BadFileLength => 9,
-        Refusal::RepeatedRule => 10,
-        Refusal::BadLevel => 11,
+// A refusal's number.
+impl From<Refusal> for u32 {
+    ghost from_gives = { λ r n. n ≡ number r };
+
+    fn from(r: Refusal) -> u32 {
+        match r {
+            Refusal::Overlong => 1,
+            Refusal::BadPair => 2,
+            Refusal::EndsEarly => 3,
+            Refusal::UnknownWord => 4,
+            Refusal::TooDeep => 5,
+            Refusal::LeftOver => 6,
+            Refusal::NoSuchPart => 7,
+            Refusal::BufferTooShort => 8,
+            Refusal::BadFileLength => 9,
+            Refusal::RepeatedRule => 10,
+            Refusal::BadLevel => 11,
+        }
     }
 }
 
-// What a test that comes before reading says.
-#[derive(Clone, Copy)]
-pub enum Check {
-    Passed,
-    Failed(Refusal),
-}
-
-fn check_level(level: u32) -> Check
+fn check_level(level: u32) -> Result<(), Refusal>
     ensures { result ≡ check_level level }
 {
     if MAX_LEVEL < level {
-        return Check::Failed(Refusal::BadLevel);
+        return Err(Refusal::BadLevel);
     }
-    Check::Passed
+    Ok(())
 }
 
 // The pairs, whole, each at or behind the end of the one before, end within a text of `size` bytes.
@@ -81,11 +77,10 @@ fn pairs_hold(pairs: &[u32], size: usize) -> bool
     if pairs.len() % 2 != 0 {
         return false;
     }
-    let mut i = 0;
-    let mut end: usize = 0;
-    while i < pairs.len() {
-        let start = pairs[i] as usize;
-        let count = pairs[i + 1] as usize;
+    let mut end = 0;
+    for pair in pairs.chunks_exact(2) {
+        let start = pair[0] as usize;
+        let count = pair[1] as usize;
         if start < end {
             return false;
         }
@@ -93,38 +88,35 @@ fn pairs_hold(pairs: &[u32], size: usize) -> bool
             return false;
         }
         end = start + count;
-        i += 2;
     }
     true
 }
 
 // The limits, then the pairs.
-pub fn check_tables(words: &[u32], pairs: &[u32], text: &[u8]) -> Check
+pub fn check_tables(words: &[u32], pairs: &[u32], text: &[u8]) -> Result<(), Refusal>
     ensures { result ≡ check_tables words.now pairs.now text.now }
 {
     if MAX_WORDS < words.len() {
-        return Check::Failed(Refusal::Overlong);
+        return Err(Refusal::Overlong);
     }
     if MAX_PAIRS < pairs.len() / 2 {
-        return Check::Failed(Refusal::Overlong);
+        return Err(Refusal::Overlong);
     }
     if MAX_TEXT < text.len() {
-        return Check::Failed(Refusal::Overlong);
+        return Err(Refusal::Overlong);
     }
     if pairs_hold(pairs, text.len()) {
-        return Check::Passed;
+        return Ok(());
     }
-    Check::Failed(Refusal::BadPair)
+    Err(Refusal::BadPair)
 }
 
 // What is tested before anything is printed: the level, then the tables.
-pub fn check_call(words: &[u32], pairs: &[u32], text: &[u8], level: u32) -> Check
+pub fn check_call(words: &[u32], pairs: &[u32], text: &[u8], level: u32) -> Result<(), Refusal>
     ensures { result ≡ check_call words.now pairs.now text.now level }
 {
-    match check_level(level) {
-        Check::Passed => check_tables(words, pairs, text),
-        Check::Failed(r) => Check::Failed(r),
-    }
+    check_level(level)?;
+    check_tables(words, pairs, text)
 }
 
 // The sixteen fixed names stand one behind the other in `fixed_names`: where each starts. The string is laid out in pieces of 16, 8, 2 and 1
@@ -254,17 +246,7 @@ pub fn primitive_length(kind: u32) -> usize
 pub fn same_bytes(a: &[u8], b: &[u8]) -> bool
     ensures { result ≡ same a.now b.now }
 {
-    if a.len() != b.len() {
-        return false;
-    }
-    let mut i = 0;
-    while i < a.len() {
-        if a[i] != b[i] {
-            return false;
-        }
-        i += 1;
-    }
-    true
+    a == b
 }
 
 // A byte string's part is taken here, since one is not taken where the string is made.
@@ -277,15 +259,7 @@ pub fn part(bytes: &[u8], start: usize, end: usize) -> &[u8]
 
 // The same slice, made again from its start and length. A slice that is only handed on is copied as a whole, and waits
 // for the two stores that made it.
-pub fn all_numbers(s: &[u32]) -> &[u32]
-    ensures { result.now ≡ s.now }
-{
-    let n = s.len();
-    &s[..n]
-}
-
-// The same for bytes.
-pub fn all_bytes(s: &[u8]) -> &[u8]
+pub fn all<T>(s: &[T]) -> &[T]
     ensures { result.now ≡ s.now }
 {
     let n = s.len();
@@ -312,36 +286,16 @@ pub fn is_name(pairs: &[u32], text: &[u8], name: u32, k: u32, bytes: &[u8]) -> b
     same_bytes(pair_bytes(pairs, text, name), bytes)
 }
 
-// A word that was read, and the position behind it.
-#[derive(Clone, Copy)]
-pub enum WordScan {
-    Word { value: u32, next: usize },
-    NoWord(Refusal),
-}
-
-// The position behind what was read.
-#[derive(Clone, Copy)]
-pub enum Scan {
-    At(usize),
-    Refused(Refusal),
-}
-
 // A path: its root, and where how many names stand.
-#[derive(Clone, Copy)]
+#[derive(Clone, Copy, Debug, PartialEq, Eq)]
 pub struct PathAt {
     pub root: u32,
     pub start: usize,
     pub count: u32,
 }
 
-#[derive(Clone, Copy)]
-pub enum PathScan {
-    OwnPath { path: PathAt, next: usize },
-    NoPath(Refusal),
-}
-
 // A type's head: its kind, with the words of its own.
-#[derive(Clone, Copy)]
+#[derive(Clone, Copy, Debug, PartialEq, Eq)]
 pub enum Head {
     Plain(u32),
     Name(u32),
@@ -359,85 +313,51 @@ pub enum Head {
     Meta(u32),
 }
 
-#[derive(Clone, Copy)]
-pub enum HeadScan {
-    Own { head: Head, next: usize },
-    NoHead(Refusal),
-}
-
 // One word, whichever it is.
-pub fn scan_word(words: &[u32], at: usize) -> WordScan
-    ensures { result ≡ word_scan (read_word words.now at) }
+pub fn scan_word(words: &[u32], at: usize) -> Result<(u32, usize), Refusal>
+    ensures { result ≡ scan_of (read_word words.now at) }
 {
     if words.len() <= at {
-        return WordScan::NoWord(Refusal::EndsEarly);
+        return Err(Refusal::EndsEarly);
     }
-    WordScan::Word {
-        value: words[at],
-        next: at + 1,
-    }
+    Ok((words[at], at + 1))
 }
 
 // One word below `bound`.
-pub fn scan_below(words: &[u32], bound: usize, at: usize) -> WordScan
-    ensures { result ≡ word_scan (read_below bound words.now at) }
+pub fn scan_below(words: &[u32], bound: usize, at: usize) -> Result<(u32, usize), Refusal>
+    ensures { result ≡ scan_of (read_below bound words.now at) }
 {
     if words.len() <= at {
-        return WordScan::NoWord(Refusal::EndsEarly);
+        return Err(Refusal::EndsEarly);
     }
     let w = words[at];
     if bound <= w as usize {
-        return WordScan::NoWord(Refusal::UnknownWord);
+        return Err(Refusal::UnknownWord);
     }
-    WordScan::Word {
-        value: w,
-        next: at + 1,
-    }
+    Ok((w, at + 1))
 }
 
 // `count` names.
-pub fn scan_names(words: &[u32], bound: usize, at: usize, count: u32) -> Scan
+pub fn scan_names(words: &[u32], bound: usize, at: usize, count: u32) -> Result<usize, Refusal>
     ensures { result ≡ ended (read_names bound words.now count at) }
 {
     let mut pos = at;
-    let mut left = count;
-    while 0 < left {
-        match scan_below(words, bound, pos) {
-            WordScan::Word { value: _, next } => {
-                pos = next;
-            }
-            WordScan::NoWord(r) => {
-                return Scan::Refused(r);
-            }
-        }
-        left -= 1;
+    for _ in 0..count {
+        let (_, next) = scan_below(words, bound, pos)?;
+        pos = next;
     }
-    Scan::At(pos)
+    Ok(pos)
 }
 
 // A path at `at`.
-pub fn scan_path(words: &[u32], bound: usize, at: usize) -> PathScan
-    ensures { result ≡ path_scan (read_path bound words.now at) }
+pub fn scan_path(words: &[u32], bound: usize, at: usize) -> Result<(PathAt, usize), Refusal>
+    ensures { result ≡ scan_of (read_path bound words.now at) }
 {
-    match scan_below(words, ROOTS, at) {
-        WordScan::Word {
-            value: root,
-            next: p,
-        } => match scan_word(words, p) {
-            WordScan::Word {
-                value: count,
-                next: start,
-            } => match scan_names(words, bound, start, count) {
-                Scan::At(next) => {
-                    let path = PathAt { root, start, count };
-                    PathScan::OwnPath { path, next }
-                }
-                Scan::Refused(r) => PathScan::NoPath(r),
-            },
-            WordScan::NoWord(r) => PathScan::NoPath(r),
-        },
-        WordScan::NoWord(r) => PathScan::NoPath(r),
-    }
+    let (root, p) = scan_below(words, ROOTS, at)?;
+    let (count, start) = scan_word(words, p)?;
+    let next = scan_names(words, bound, start, count)?;
+    let path = PathAt { root, start, count };
+    Ok((path, next))
 }
 
 // The head of kind `w` whose one own word is `x`.
@@ -455,86 +375,57 @@ fn head_of(w: u32, x: u32) -> Head
 }
 
 // The head of kind `w`, from the scan of its one own word.
-fn own_word(w: u32, own: WordScan) -> HeadScan
+fn own_word(w: u32, own: Result<(u32, usize), Refusal>) -> Result<(Head, usize), Refusal>
     ensures { result ≡ own_word w own }
 {
-    match own {
-        WordScan::Word { value, next } => {
-            let head = head_of(w, value);
-            HeadScan::Own { head, next }
-        }
-        WordScan::NoWord(r) => HeadScan::NoHead(r),
-    }
+    let (value, next) = own?;
+    let head = head_of(w, value);
+    Ok((head, next))
 }
 
 // The head of a path's type.
-fn scan_path_head(words: &[u32], bound: usize, at: usize) -> HeadScan
-    ensures { result ≡ head_scan (path_head bound words.now at) }
+fn scan_path_head(words: &[u32], bound: usize, at: usize) -> Result<(Head, usize), Refusal>
+    ensures { result ≡ scan_of (path_head bound words.now at) }
 {
-    match scan_path(words, bound, at) {
-        PathScan::OwnPath { path, next } => {
-            let head = Head::FromPath(path);
-            HeadScan::Own { head, next }
-        }
-        PathScan::NoPath(r) => HeadScan::NoHead(r),
-    }
+    let (path, next) = scan_path(words, bound, at)?;
+    let head = Head::FromPath(path);
+    Ok((head, next))
 }
 
 // The head of kind `w`, no plain type, whose further words begin at `at`.
-fn scan_after(words: &[u32], bound: usize, w: u32, at: usize) -> HeadScan
+fn scan_after(words: &[u32], bound: usize, w: u32, at: usize) -> Result<(Head, usize), Refusal>
     requires { (plain_kinds ≤ w) × (bound < 2 ^ 63) }
-    ensures { result ≡ head_scan (head_after bound words.now w at) }
+    ensures { result ≡ scan_of (head_after bound words.now w at) }
 {
     match w {
         T_IDENTIFIER => own_word(w, scan_below(words, bound, at)),
         TYPE_FROM_PATH => scan_path_head(words, bound, at),
         TYPE_APP => own_word(w, scan_word(words, at)),
-        BORROWED => HeadScan::Own {
-            head: Head::Ref,
-            next: at,
-        },
-        BORROWED_MUT => HeadScan::Own {
-            head: Head::RefMut,
-            next: at,
-        },
-        IMPL_TYPE => HeadScan::Own {
-            head: Head::Impl,
-            next: at,
-        },
-        DYN_TYPE => HeadScan::Own {
-            head: Head::Dyn,
-            next: at,
-        },
+        BORROWED => Ok((Head::Ref, at)),
+        BORROWED_MUT => Ok((Head::RefMut, at)),
+        IMPL_TYPE => Ok((Head::Impl, at)),
+        DYN_TYPE => Ok((Head::Dyn, at)),
         TUPLE_TYPE => own_word(w, scan_word(words, at)),
         FN_TYPE => own_word(w, scan_word(words, at)),
-        INTERSECTION_TYPE => HeadScan::Own {
-            head: Head::Both,
-            next: at,
-        },
+        INTERSECTION_TYPE => Ok((Head::Both, at)),
         ARRAY => own_word(w, scan_below(words, bound + 1, at)),
-        T_SYNONYM => HeadScan::Own {
-            head: Head::Synonym,
-            next: at,
-        },
+        T_SYNONYM => Ok((Head::Synonym, at)),
         T_META_DATA => own_word(w, scan_below(words, FLAGS, at)),
-        _ => HeadScan::NoHead(Refusal::UnknownWord),
+        _ => Err(Refusal::UnknownWord),
     }
 }
 
 // A type's head at `at`.
-pub fn scan_head(words: &[u32], bound: usize, at: usize) -> HeadScan
+pub fn scan_head(words: &[u32], bound: usize, at: usize) -> Result<(Head, usize), Refusal>
     requires { bound < 2 ^ 63 }
-    ensures { result ≡ head_scan (read_head bound words.now at) }
+    ensures { result ≡ scan_of (read_head bound words.now at) }
 {
     if words.len() <= at {
-        return HeadScan::NoHead(Refusal::EndsEarly);
+        return Err(Refusal::EndsEarly);
     }
     let w = words[at];
     if w < PLAIN_KINDS {
-        return HeadScan::Own {
-            head: Head::Plain(w),
-            next: at + 1,
-        };
+        return Ok((Head::Plain(w), at + 1));
     }
     scan_after(words, bound, w, at + 1)
 }
@@ -566,7 +457,7 @@ fn path_end(words: &[u32], at: usize) -> usize
 }
 
 // Behind a head: where its own words end, and how many types are due there.
-#[derive(Clone, Copy)]
+#[derive(Clone, Copy, Debug, PartialEq, Eq)]
 pub struct Onward {
     pub next: usize,
     pub due: usize,

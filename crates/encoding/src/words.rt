@@ -1,4 +1,5 @@
 // The words of document 01 by name: kinds of types, heads of declarations, fixed names, roots of paths, and the limits. `specs/Words.antt` has those that definitions name, `specs/Forms.antt` the heads.
+// Kept: numbers and no enums, since they are what the words of a call of the C interface hold.
 
 // Kinds of types. Those below `PLAIN_KINDS` are the plain types, one word each.
 pub const U8: u32 = 0;

@@ -1,9 +1,9 @@
 -- Document 01's demand on sound types: equal text exactly when equal trees, once wrappers have given way to their displays.
-use Rattle.std.specs.Prelude.{ℕ, ◌≡◌, Bool, true, List, ◌↔◌}
+use Rattle.std.specs.Prelude.{Ok, ℕ, ◌≡◌, Bool, true, List, ◌↔◌}
 use Rattle.rast.specs.Bytes.{Bytes}
 use Rattle.rast.specs.Tree.{Ty}
 use Rattle.rast.specs.Sound.{bare}
-use Rattle.encoding.specs.Refusals.{Answer, given, map_answer}
+use Rattle.encoding.specs.Refusals.{Answer, map_answer}
 use Rattle.encoding.specs.Types.{type_of}
 use Rattle.text_calls.specs.Calls.{type_text}
 use Rattle.sound_type.specs.Calls.{type_is_sound}
@@ -30,6 +30,6 @@ bare_type_of e = map_answer bare (type_of e.words e.pairs e.text)
 abbrev pub EqualTextEqualTree : Type 0
 EqualTextEqualTree =
     (e₁ e₂ : Encoding) (level₁ level₂ : ℕ) (text₁ text₂ : Bytes)
-    → text_of e₁ level₁ ≡ given text₁ → text_of e₂ level₂ ≡ given text₂
-    → soundness_of e₁ ≡ given true → soundness_of e₂ ≡ given true
+    → text_of e₁ level₁ ≡ Ok text₁ → text_of e₂ level₂ ≡ Ok text₂
+    → soundness_of e₁ ≡ Ok true → soundness_of e₂ ≡ Ok true
     → (text₁ ≡ text₂) ↔ (bare_type_of e₁ ≡ bare_type_of e₂)

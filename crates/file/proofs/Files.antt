@@ -1,4 +1,5 @@
 -- Laws of files: what is lent to the call, the refusals in their order, and files that are longer than a header can describe.
+use Rattle.std.specs.Prelude.{Err}
 use Prim.Native.Nat.{ℕ, ◌+◌, ◌*◌, ◌≤◌, ◌<◌}
 use mathlib.Core.Path.{◌≡◌, refl, ap, sym, ◌∙◌}
 use mathlib.Core.Bool.{Bool, true, false}
@@ -12,12 +13,10 @@ use Rattle.rast.specs.Bytes.{Bytes, ◌or◌}
 use Rattle.buffer.specs.Wrote.{Wrote}
 use Rattle.buffer.proofs.Laws.{wrote-front}
 use Rattle.encoding.specs.declared.Refusal.TheVariants.{Overlong, BadFileLength}
-use Rattle.encoding.specs.Refusals.{pick, refused}
+use Rattle.encoding.specs.Refusals.{pick}
 use Rattle.little_endian.specs.Numbers.{number_at, numbers_at}
 use Rattle.little_endian.proofs.Fronts.{front-back}
-use Rattle.text_calls.specs.declared.TextAnswer.TheVariants.{Refused}
-use Rattle.text_calls.specs.Calls.{filled}
-use Rattle.encoding.specs.Filled.{filled_by}
+use Rattle.encoding.specs.Filled.{filled}
 use Rattle.text_declaration_call.specs.Calls.{declaration_text}
 use Rattle.file.specs.File.{encoded_text, described_text, file_text, printed, printed_file}
 
@@ -46,30 +45,30 @@ pub described : (file : List ℕ) {pairs words size : ℕ} → 12 ≤ length fil
 unfolding file_text
 described file h p w t = rw (le-ltb (length file) 12 h, p, w, t)
 
-pub header-short : (file o : List ℕ) → length file < 12 → (Refused BadFileLength, o) ≡ filled o (file_text file)
-unfolding filled_by file_text
+pub header-short : (file o : List ℕ) → length file < 12 → (Err BadFileLength, o) ≡ filled o (file_text file)
+unfolding filled file_text
 header-short file o h = rw (lt-ltb (length file) 12 h)
 
 module _ (file : List ℕ) (pairs words size : ℕ) (d : file_text file ≡ described_text pairs words size file) where
-  pub pairs-over : (o : List ℕ) → 1024 < pairs → (Refused Overlong, o) ≡ filled o (file_text file)
-  unfolding filled_by described_text
+  pub pairs-over : (o : List ℕ) → 1024 < pairs → (Err Overlong, o) ≡ filled o (file_text file)
+  unfolding filled described_text
   pairs-over o a = rw (d, lt-ltb 1024 pairs a)
 
-  pub words-over : (o : List ℕ) → pairs ≤ 1024 → 8192 < words → (Refused Overlong, o) ≡ filled o (file_text file)
-  unfolding filled_by described_text
+  pub words-over : (o : List ℕ) → pairs ≤ 1024 → 8192 < words → (Err Overlong, o) ≡ filled o (file_text file)
+  unfolding filled described_text
   words-over o a b = rw (d, le-ltb 1024 pairs a, lt-ltb 8192 words b)
 
-  pub text-over : (o : List ℕ) → pairs ≤ 1024 → words ≤ 8192 → 16384 < size → (Refused Overlong, o) ≡ filled o (file_text file)
-  unfolding filled_by described_text
+  pub text-over : (o : List ℕ) → pairs ≤ 1024 → words ≤ 8192 → 16384 < size → (Err Overlong, o) ≡ filled o (file_text file)
+  unfolding filled described_text
   text-over o a b c = rw (d, le-ltb 1024 pairs a, le-ltb 8192 words b, lt-ltb 16384 size c)
 
   module _ (a : pairs ≤ 1024) (b : words ≤ 8192) (c : size ≤ 16384) where
-    limits-kept : file_text file ≡ pick (eqb (length file) (12 + 8 * pairs + 4 * words + size)) (encoded_text pairs words file) (refused BadFileLength)
+    limits-kept : file_text file ≡ pick (eqb (length file) (12 + 8 * pairs + 4 * words + size)) (encoded_text pairs words file) (Err BadFileLength)
     unfolding described_text
     limits-kept = rw (d, le-ltb 1024 pairs a, le-ltb 8192 words b, le-ltb 16384 size c)
 
-    pub length-wrong : (o : List ℕ) → (length file ≡ 12 + 8 * pairs + 4 * words + size → ⊥) → (Refused BadFileLength, o) ≡ filled o (file_text file)
-    unfolding filled_by
+    pub length-wrong : (o : List ℕ) → (length file ≡ 12 + 8 * pairs + 4 * words + size → ⊥) → (Err BadFileLength, o) ≡ filled o (file_text file)
+    unfolding filled
     length-wrong o n = rw (limits-kept, ne_eqb (length file) (12 + 8 * pairs + 4 * words + size) n)
 
     pub length-right : length file ≡ 12 + 8 * pairs + 4 * words + size → encoded_text pairs words file ≡ file_text file
@@ -79,13 +78,13 @@ module _ (file : List ℕ) (pairs words size : ℕ) (d : file_text file ≡ desc
 
 -- a refusal that the counts alone decide, once the file is too long for any
 too_long : (pairs words size : ℕ) (file : List ℕ) → 57356 < length file
-    → described_text pairs words size file ≡ pick (ltb 1024 pairs or ltb 8192 words or ltb 16384 size) (refused Overlong) (refused BadFileLength)
+    → described_text pairs words size file ≡ pick (ltb 1024 pairs or ltb 8192 words or ltb 16384 size) (Err Overlong) (Err BadFileLength)
 unfolding described_text
 too_long pairs words size file h = go (ltb 1024 pairs) (ltb 8192 words) (ltb 16384 size) refl refl refl
   where
     go : (a b c : Bool) → ltb 1024 pairs ≡ a → ltb 8192 words ≡ b → ltb 16384 size ≡ c
-        → pick (a or b or c) (refused Overlong) (pick (eqb (length file) (12 + 8 * pairs + 4 * words + size)) (encoded_text pairs words file) (refused BadFileLength))
-        ≡ pick (a or b or c) (refused Overlong) (refused BadFileLength)
+        → pick (a or b or c) (Err Overlong) (pick (eqb (length file) (12 + 8 * pairs + 4 * words + size)) (encoded_text pairs words file) (Err BadFileLength))
+        ≡ pick (a or b or c) (Err Overlong) (Err BadFileLength)
     go true b c p q r = refl
     go false true c p q r = refl
     go false false true p q r = refl

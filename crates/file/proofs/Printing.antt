@@ -1,4 +1,5 @@
 -- Laws of printing: numbers and refusals, and from a call's answer to what the buffer holds.
+use Rattle.std.specs.Prelude.{Ok, Err, Result}
 use Prim.Native.Nat.{ℕ, ◌+◌, ◌/◌, ◌%◌, ◌≤◌, ◌<◌}
 use mathlib.Core.Path.{◌≡◌, ap, sym, ◌∙◌, fst_path, snd_path}
 use mathlib.Core.Bool.{Bool, true, false}
@@ -15,9 +16,7 @@ use Rattle.buffer.proofs.Laws.{wrote_then, wrote_as, sets-front}
 use Rattle.encoding.specs.declared.Refusal.{Refusal}
 use Rattle.encoding.specs.declared.Refusal.TheVariants.{Overlong, BadPair, EndsEarly, UnknownWord, TooDeep, LeftOver, NoSuchPart, BufferTooShort, BadFileLength, RepeatedRule, BadLevel}
 use Rattle.encoding.specs.Refusals.{pick, number, Answer}
-use Rattle.text_calls.specs.declared.TextAnswer.{TextAnswer}
-use Rattle.text_calls.specs.declared.TextAnswer.TheVariants.{Length, Refused}
-use Rattle.text_calls.specs.Calls.{filled}
+use Rattle.encoding.specs.Filled.{filled}
 use Rattle.text_calls.proofs.Calls.{Unfilled, no_text, no_room, length-filled, refusal-unfilled}
 use Rattle.file.specs.File.{decimal, refusal_line, printed, at_front}
 
@@ -92,8 +91,8 @@ unfolding printed
 unfilled-line o a k l (no_text e) = rw e
 unfilled-line o a k l (no_room b e h r) = rw (e, lt-leb (length b) 65536 (omega arith), r)
 
-module _ (o after : List ℕ) {r : TextAnswer} (full : 65537 ≡ length o) (a : Answer Bytes) (e : ◌≡◌ {A = TextAnswer × List ℕ} (r, after) (filled (take 65536 o) a)) {m : ℕ} {o' : List ℕ} where
-  pub text-printed : {n : ℕ} → r ≡ Length n → Wrote (after ++ drop 65536 o) n (ascii "\n") o' m → (m, o') ≡ at_front (printed a) o
+module _ (o after : List ℕ) {r : Result ℕ Refusal} (full : 65537 ≡ length o) (a : Answer Bytes) (e : ◌≡◌ {A = Result ℕ Refusal × List ℕ} (r, after) (filled (take 65536 o) a)) {m : ℕ} {o' : List ℕ} where
+  pub text-printed : {n : ℕ} → r ≡ Ok n → Wrote (after ++ drop 65536 o) n (ascii "\n") o' m → (m, o') ≡ at_front (printed a) o
   unfolding printed
   text-printed q w =
       let f = length-filled (take 65536 o) after a e q in
@@ -101,7 +100,7 @@ module _ (o after : List ℕ) {r : TextAnswer} (full : 65537 ≡ length o) (a : 
       let k : after ++ drop 65536 o ≡ f.bytes ++ drop (length f.bytes) o = ap (λ (x : List ℕ). x ++ drop 65536 o) f.front ∙ fronts o f.bytes 65536 (omega arith) (omega arith) in
       rw (f.gives, le-leb (length f.bytes) 65536 (omega arith)) (newline-written o f.bytes (omega arith) (rw (f.size, k) at w))
 
-  pub refusal-printed : {k : Refusal} → r ≡ Refused k → Wrote (after ++ drop 65536 o) 0 (refusal_line k) o' m → (m, o') ≡ at_front (printed a) o
+  pub refusal-printed : {k : Refusal} → r ≡ Err k → Wrote (after ++ drop 65536 o) 0 (refusal_line k) o' m → (m, o') ≡ at_front (printed a) o
   refusal-printed {k} q w =
       let u = refusal-unfilled (take 65536 o) after a e q in
       let h = line-short k in

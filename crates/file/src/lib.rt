@@ -5,22 +5,46 @@
 #![tactic(auto)]
 
 ghost use Rattle.std.specs.Prelude.{◌≡◌, ◌+◌, ◌*◌, ◌≤◌, ◌<◌, length};
+ghost use Rattle.std.specs.Io.{ReadsAtMost};
 ghost use Rattle.buffer.specs.Wrote.{Wrote};
 ghost use Rattle.encoding.specs.Words.{max_words, max_pairs, max_text};
-ghost use Rattle.text_calls.specs.Calls.{filled};
+ghost use Rattle.encoding.specs.Filled.{filled};
 ghost use Rattle.file.specs.File.{decimal, refusal_line, encoded_text, file_text, printed_file, at_front};
 
 use encoding::Refusal;
 use encoding::words::{MAX_PAIRS, MAX_TEXT, MAX_WORDS};
-use text_calls::TextAnswer;
+use std::io;
+use std::io::Read;
 
 const HEADER_BYTES: usize = 12;
 
 // The longest text that is printed. The newline behind it is not counted.
 const MOST_PRINTED: usize = 65536;
 
+// Reads until `bytes` is full or the input ends. The answer is how many bytes were read.
+pub fn read_bytes(input: &mut impl Read, bytes: &mut [u8]) -> io::Result<usize>
+    ensures { ReadsAtMost result bytes.new }
+{
+    let mut done = 0;
+    // Kept: `while`, since each read says how far it came; `read_exact` says nothing of where an input ends early.
+    while done < bytes.len() {
+        let more = input.read(&mut bytes[done..])?;
+        if more == 0 {
+            break;
+        }
+        done += more;
+    }
+    Ok(done)
+}
+
 // The text of the declaration in a file of the length that its header gives, in the front of `out`.
-fn encoded_text(file: &[u8], pairs: usize, words: usize, size: usize, out: &mut [u8]) -> TextAnswer
+fn encoded_text(
+    file: &[u8],
+    pairs: usize,
+    words: usize,
+    size: usize,
+    out: &mut [u8],
+) -> Result<usize, Refusal>
     requires { (pairs ≤ max_pairs) × (words ≤ max_words) × (size ≤ max_text) × (length file.now ≡ 12 + 8 * pairs + 4 * words + size) }
     ensures { (result, out.new) ≡ filled out.old (encoded_text pairs words file.now) }
 {
@@ -43,31 +67,32 @@ fn encoded_text(file: &[u8], pairs: usize, words: usize, size: usize, out: &mut 
 }
 
 // The text of a file's declaration, in the front of `out`. The limits are tested before the file's length, as document 01 asks.
-fn file_text(file: &[u8], out: &mut [u8]) -> TextAnswer
+fn file_text(file: &[u8], out: &mut [u8]) -> Result<usize, Refusal>
     ensures { (result, out.new) ≡ filled out.old (file_text file.now) }
 {
     if file.len() < HEADER_BYTES {
-        return TextAnswer::Refused(Refusal::BadFileLength);
+        return Err(Refusal::BadFileLength);
     }
     let pairs = little_endian::number_at(file, 0) as usize;
     let words = little_endian::number_at(file, 4) as usize;
     let size = little_endian::number_at(file, 8) as usize;
     if MAX_PAIRS < pairs {
-        return TextAnswer::Refused(Refusal::Overlong);
+        return Err(Refusal::Overlong);
     }
     if MAX_WORDS < words {
-        return TextAnswer::Refused(Refusal::Overlong);
+        return Err(Refusal::Overlong);
     }
     if MAX_TEXT < size {
-        return TextAnswer::Refused(Refusal::Overlong);
+        return Err(Refusal::Overlong);
     }
     if file.len() != HEADER_BYTES + 8 * pairs + 4 * words + size {
-        return TextAnswer::Refused(Refusal::BadFileLength);
+        return Err(Refusal::BadFileLength);
     }
     encoded_text(file, pairs, words, size, out)
 }
 
 // A number below 100, in decimal. The answer is the position behind it.
+// Kept: `write!` would ask for a writer over the slice, a type and its proofs for two digits.
 fn put_decimal(n: u32, out: &mut [u8], pos: usize) -> usize
     requires { (n < 100) × (pos + 2 ≤ length out.old) }
     ensures { Wrote out.old pos (decimal n) out.new result }
@@ -86,7 +111,7 @@ fn put_refusal(r: Refusal, out: &mut [u8]) -> usize
     ensures { Wrote out.old 0 (refusal_line r) out.new result }
 {
     let digits = buffer::put(b"refused ", out, 0);
-    let end = put_decimal(encoding::refusal_number(r), out, digits);
+    let end = put_decimal(u32::from(r), out, digits);
     buffer::put(b"\n", out, end)
 }
 
@@ -96,8 +121,8 @@ fn print_into(file: &[u8], out: &mut [u8]) -> usize
     ensures { (result, out.new) ≡ at_front (printed_file file.now) out.old }
 {
     match file_text(file, &mut out[..MOST_PRINTED]) {
-        TextAnswer::Length(n) => buffer::put(b"\n", out, n),
-        TextAnswer::Refused(r) => put_refusal(r, out),
+        Ok(n) => buffer::put(b"\n", out, n),
+        Err(r) => put_refusal(r, out),
     }
 }
 

@@ -1,6 +1,6 @@
 -- Applications of paths: the first argument of one of a class.
+use Rattle.std.specs.Prelude.{Option, Some, None, is_some}
 use Rattle.std.proofs.Common.{◌≡◌, ℕ, ◌+◌, ◌<◌, Bool, true, false, eqb, sym, refl, ◌∙◌, arith, eq-eqb, ne_eqb, eqb-true}
-use mathlib.Core.Option.{Option, some, none}
 use Rattle.rast.specs.Bytes.{Bytes, ◌and◌}
 use Rattle.rast.specs.Tree.{Path, Ty, Tys, Primitive, TIdentifier, TypeFromPath, TypeApp, Borrowed, BorrowedMut, ImplType, DynType, TupleType, FnType, IntersectionType, Array, TSynonym, TMetaData, nil, cons, count}
 use Rattle.rast.proofs.BytesLaws.{and_right, and_no, and-false, and-true}
@@ -10,7 +10,6 @@ use Rattle.tree_words.specs.Encode.{words}
 use Rattle.tree_words.specs.Places.{Place, place}
 use Rattle.known_paths.specs.declared.Class.{Class}
 use Rattle.known_paths.specs.declared.Class.TheVariants.{Counted, Boxed, Uninit, Placebo, ObjectClass, PtrClass, ArrayClass, Collection, MapClass}
-use Rattle.known_paths.specs.declared.Found.TheVariants.{At, NoPart}
 use Rattle.known_paths.specs.Asked.{found, is_found}
 use Rattle.known_paths.specs.Classes.{in_class, arity, is_of, first}
 use Rattle.known_paths.specs.Matches.{on_path, applied}
@@ -108,55 +107,51 @@ arity-some ArrayClass = omega arith
 arity-some Collection = omega arith
 arity-some MapClass = omega arith
 
-pub first-not : (class : Class) (p : Place Bytes) → is_of class p.tpe ≡ false → found (first class p) ≡ NoPart
+pub first-not : (class : Class) (p : Place Bytes) → is_of class p.tpe ≡ false → found (first class p) ≡ None
 unfolding first when found
 first-not class p h = rw h refl
 
 module _ (class : Class) (at : ℕ) where
-  pub first-other : (t : Ty Bytes) → (kind t ≡ 14 → ⊥) → found (first class (place at t)) ≡ NoPart
+  pub first-other : (t : Ty Bytes) → (kind t ≡ 14 → ⊥) → found (first class (place at t)) ≡ None
   first-other t h = first-not class (place at t) (of_other class t h)
 
   module _ (b : Ty Bytes) (ts : Tys Bytes) where
-    pub first_count : (count ts ≡ arity class → ⊥) → found (first class (place at (TypeApp b ts))) ≡ NoPart
+    pub first_count : (count ts ≡ arity class → ⊥) → found (first class (place at (TypeApp b ts))) ≡ None
     first_count h = first-not class (place at (TypeApp b ts)) (of-count class b ts h)
 
-    pub first-base : (kind b ≡ 13 → ⊥) → found (first class (place at (TypeApp b ts))) ≡ NoPart
+    pub first-base : (kind b ≡ 13 → ⊥) → found (first class (place at (TypeApp b ts))) ≡ None
     first-base h = first-not class (place at (TypeApp b ts)) (of-base class b ts h)
 
   module _ (p : Path Bytes) where
-    pub first-class : (ts : Tys Bytes) → in_class class p ≡ false → found (first class (place at (TypeApp (TypeFromPath p) ts))) ≡ NoPart
+    pub first-class : (ts : Tys Bytes) → in_class class p ≡ false → found (first class (place at (TypeApp (TypeFromPath p) ts))) ≡ None
     first-class ts h = first-not class (place at (TypeApp (TypeFromPath p) ts)) (of-no-path class p ts h)
 
     pub first-is : (ts : Tys Bytes) → in_class class p ≡ true → count ts ≡ arity class
-        → found (first class (place at (TypeApp (TypeFromPath p) ts))) ≡ At (at + 2 + words (TypeFromPath p))
+        → found (first class (place at (TypeApp (TypeFromPath p) ts))) ≡ Some (at + 2 + words (TypeFromPath p))
     unfolding is_of applied on_path first when found argument_of argument_at type_at_index count ◌and◌
     first-is nil h k = absurd (let z : ⊥ = omega (arith, arity-some class) in z)
     first-is (cons t ts) h k = rw (h, eq-eqb (count (cons t ts)) (arity class) k) refl
 
-some-there : {A : Type 0} (x : Option A) → Bool
-some-there none = false
-some-there (some a) = true
+found_some : (x : Option (Place Bytes)) → is_found (found x) ≡ is_some x
+unfolding found
+found_some None = refl
+found_some (Some p) = refl
 
-found_some : (x : Option (Place Bytes)) → is_found (found x) ≡ some-there x
-unfolding found some-there
-found_some none = refl
-found_some (some p) = refl
-
-index-some : (p : ℕ) (ts : Tys Bytes) → 0 < count ts → some-there (type_at_index 0 p ts) ≡ true
-unfolding type_at_index some-there count
+index-some : (p : ℕ) (ts : Tys Bytes) → 0 < count ts → is_some (type_at_index 0 p ts) ≡ true
+unfolding type_at_index count
 index-some p nil h = absurd (let z : ⊥ = omega arith in z)
 index-some p (cons t ts) h = refl
 
 -- an application to at least one argument has a first one
-applied-some : (f : Path Bytes → Tys Bytes → Bool) (p : ℕ) (t : Ty Bytes) → ((q : Path Bytes) (ts : Tys Bytes) → f q ts ≡ true → 0 < count ts) → applied f t ≡ true → some-there (argument_at 0 p t) ≡ true
+applied-some : (f : Path Bytes → Tys Bytes → Bool) (p : ℕ) (t : Ty Bytes) → ((q : Path Bytes) (ts : Tys Bytes) → f q ts ≡ true → 0 < count ts) → applied f t ≡ true → is_some (argument_at 0 p t) ≡ true
 unfolding applied on_path argument_at
 applied-some f p t h =
-    applied-cases (λ u. applied f u ≡ true → some-there (argument_at 0 p u) ≡ true)
+    applied-cases (λ u. applied f u ≡ true → is_some (argument_at 0 p u) ≡ true)
     (λ q ts e. index-some (p + 2 + words (TypeFromPath q)) ts (h q ts e))
     (λ u k e. let z = k f in impossible (cc)) t
 
-some-when : (b : Bool) (x : Option (Place Bytes)) → (b ≡ true → some-there x ≡ true) → some-there (when b x) ≡ b
-unfolding when some-there
+some-when : (b : Bool) (x : Option (Place Bytes)) → (b ≡ true → is_some x ≡ true) → is_some (when b x) ≡ b
+unfolding when
 some-when true x h = h refl
 some-when false x h = refl
 

@@ -1,6 +1,6 @@
 -- Where the parts of an accepted type stand.
+use Rattle.std.specs.Prelude.{Option, Some, None}
 use Rattle.std.proofs.Common.{◌≡◌, ℕ, zero, suc, ◌+◌, Bool, true, false, List, get_or, sym, refl, ap, ◌∙◌, subst}
-use mathlib.Core.Option.{Option, some, none}
 use Rattle.rast.specs.Bytes.{Bytes}
 use Rattle.rast.specs.Tree.{Ty, Tys, Primitive, TIdentifier, TypeFromPath, TypeApp, Borrowed, BorrowedMut, ImplType, DynType, TupleType, FnType, IntersectionType, Array, TSynonym, TMetaData, nil, cons}
 use Rattle.encoding.specs.Reading.{Reading, got}
@@ -21,9 +21,9 @@ pub record Standing (ws pairs : List ℕ) (text : Bytes) (p : Place Bytes) : Typ
 
 -- f leads from a type that stands where it is said to another
 pub record Keeps (ws pairs : List ℕ) (text : Bytes) (f : Place Bytes → Option (Place Bytes)) : Type 0 where
-  pub keeps : (p q : Place Bytes) → Standing ws pairs text p → f p ≡ some q → Standing ws pairs text q
+  pub keeps : (p q : Place Bytes) → Standing ws pairs text p → f p ≡ Some q → Standing ws pairs text q
 
-pub some_same : {A : Type 0} {a b : A} → some a ≡ some b → a ≡ b
+pub some_same : {A : Type 0} {a b : A} → Some a ≡ Some b → a ≡ b
 some_same e = cc
 
 made-below : {x : Reading (Ty Bytes)} {c : Ty Bytes → Ty Bytes} {t u : Ty Bytes} {n : ℕ} (m : Made x c t n) → m.value ≡ u → x ≡ got u n
@@ -75,11 +75,11 @@ module _ (ws pairs : List ℕ) (text : Bytes) where
     pub element-below : {u : Ty Bytes} {s : Option Bytes} → again p ≡ got (Array u s) n → again (p + 2) ≡ got u n
     element-below e = let m = (array_of ws pairs text p e (sym (type-kind ws pairs text p e))).1 in made-below m (cc m.made)
 
-  types-below : (k p : ℕ) (ts : Tys Bytes) (n i : ℕ) (q : Place Bytes) → read_types again k p ≡ got ts n → type_at_index i p ts ≡ some q → Standing ws pairs text q
+  types-below : (k p : ℕ) (ts : Tys Bytes) (n i : ℕ) (q : Place Bytes) → read_types again k p ≡ got ts n → type_at_index i p ts ≡ Some q → Standing ws pairs text q
   unfolding read_types type_at_index
   types-below zero p ts n i q e d = let z : ts ≡ nil = cc in none-there ts z d
     where
-      none-there : (us : Tys Bytes) → us ≡ nil → type_at_index i p us ≡ some q → Standing ws pairs text q
+      none-there : (us : Tys Bytes) → us ≡ nil → type_at_index i p us ≡ Some q → Standing ws pairs text q
       none-there nil z d = impossible (cc)
       none-there (cons u us) z d = impossible (cc)
   types-below (suc k) p nil n i q e d = impossible (cc)
@@ -104,7 +104,7 @@ module _ (ws pairs : List ℕ) (text : Bytes) where
       let o : m.middle ≡ p + 2 + words b = type-words ws pairs text (p + 2) r in
       (r ∙ ap (got b) o, rw (sym o) (m.reads₂ ∙ ap (λ v. got v n) j))
 
-  argument-stands : (i p : ℕ) (t : Ty Bytes) (n : ℕ) (q : Place Bytes) → again p ≡ got t n → argument_at i p t ≡ some q → Standing ws pairs text q
+  argument-stands : (i p : ℕ) (t : Ty Bytes) (n : ℕ) (q : Place Bytes) → again p ≡ got t n → argument_at i p t ≡ Some q → Standing ws pairs text q
   unfolding argument_at
   argument-stands i p (Primitive x) n q e d = impossible (cc)
   argument-stands i p (TIdentifier x) n q e d = impossible (cc)
@@ -125,7 +125,7 @@ module _ (ws pairs : List ℕ) (text : Bytes) where
   unfolding argument_of
   argument-keeps i = record { keeps = λ p q s e. argument-stands i p.at p.tpe s.end q s.reads e }
 
-  dyn-stands : (p : ℕ) (t : Ty Bytes) (n : ℕ) (q : Place Bytes) → again p ≡ got t n → dyn_at p t ≡ some q → Standing ws pairs text q
+  dyn-stands : (p : ℕ) (t : Ty Bytes) (n : ℕ) (q : Place Bytes) → again p ≡ got t n → dyn_at p t ≡ Some q → Standing ws pairs text q
   unfolding dyn_at
   dyn-stands p (Primitive x) n q e d = impossible (cc)
   dyn-stands p (TIdentifier x) n q e d = impossible (cc)
@@ -146,7 +146,7 @@ module _ (ws pairs : List ℕ) (text : Bytes) where
   unfolding dyn_of
   dyn-keeps = record { keeps = λ p q s e. dyn-stands p.at p.tpe s.end q s.reads e }
 
-  element-stands : (p : ℕ) (t : Ty Bytes) (n : ℕ) (q : Place Bytes) → again p ≡ got t n → element_at p t ≡ some q → Standing ws pairs text q
+  element-stands : (p : ℕ) (t : Ty Bytes) (n : ℕ) (q : Place Bytes) → again p ≡ got t n → element_at p t ≡ Some q → Standing ws pairs text q
   unfolding element_at
   element-stands p (Primitive x) n q e d = impossible (cc)
   element-stands p (TIdentifier x) n q e d = impossible (cc)
@@ -169,18 +169,18 @@ module _ (ws pairs : List ℕ) (text : Bytes) where
 
   -- ---- compositions
 
-  pub when-keeps : (b : Bool) (x : Option (Place Bytes)) (q : Place Bytes) → (x ≡ some q → Standing ws pairs text q) → when b x ≡ some q → Standing ws pairs text q
+  pub when-keeps : (b : Bool) (x : Option (Place Bytes)) (q : Place Bytes) → (x ≡ Some q → Standing ws pairs text q) → when b x ≡ Some q → Standing ws pairs text q
   unfolding when
   when-keeps true x q h e = h e
   when-keeps false x q h e = impossible (cc)
 
-  pub then_keeps : (x : Option (Place Bytes)) (f : Place Bytes → Option (Place Bytes)) (q : Place Bytes) → ((p : Place Bytes) → x ≡ some p → Standing ws pairs text p) → Keeps ws pairs text f
-      → and_then x f ≡ some q → Standing ws pairs text q
+  pub then_keeps : (x : Option (Place Bytes)) (f : Place Bytes → Option (Place Bytes)) (q : Place Bytes) → ((p : Place Bytes) → x ≡ Some p → Standing ws pairs text p) → Keeps ws pairs text f
+      → and_then x f ≡ Some q → Standing ws pairs text q
   unfolding and_then
-  then_keeps none f q h k e = impossible (cc)
-  then_keeps (some p) f q h k e = k.keeps p q (h p refl) e
+  then_keeps None f q h k e = impossible (cc)
+  then_keeps (Some p) f q h k e = k.keeps p q (h p refl) e
 
-  pub else-keeps : (x y : Option (Place Bytes)) (q : Place Bytes) → (x ≡ some q → Standing ws pairs text q) → (y ≡ some q → Standing ws pairs text q) → or_else x y ≡ some q → Standing ws pairs text q
+  pub else-keeps : (x y : Option (Place Bytes)) (q : Place Bytes) → (x ≡ Some q → Standing ws pairs text q) → (y ≡ Some q → Standing ws pairs text q) → or_else x y ≡ Some q → Standing ws pairs text q
   unfolding or_else
-  else-keeps none y q h k e = k e
-  else-keeps (some p) y q h k e = h e
+  else-keeps None y q h k e = k e
+  else-keeps (Some p) y q h k e = h e

@@ -1,6 +1,6 @@
 -- Where the first argument of an application is found, and what was found.
+use Rattle.std.specs.Prelude.{Option, Ok, Err, Some, None, Result}
 use Rattle.std.proofs.Common.{◌≡◌, ℕ, ◌+◌, ◌-◌, ◌<◌, Bool, true, false, not, T, ltb, List, [], ◌∷◌, length, get_or, sym, refl, ap, ◌∙◌, subst, arith}
-use mathlib.Core.Option.{Option, some, none}
 use denote.Enum.Declared.{tag_of}
 use mir.Val.{has_key}
 use types.Run.{OneOf, miss}
@@ -11,19 +11,17 @@ use Rattle.encoding.specs.declared.Refusal.{Refusal}
 use Rattle.encoding.specs.declared.Refusal.TheVariants.{EndsEarly}
 use Rattle.encoding.specs.declared.Head.{Head}
 use Rattle.encoding.specs.declared.Head.TheVariants.{Plain, Name, FromPath, Apply, Ref, RefMut, Impl, Dyn, Tuple, Function, Both, ArrayOf, Synonym, Meta}
-use Rattle.encoding.specs.declared.HeadScan.{HeadScan}
-use Rattle.encoding.specs.declared.HeadScan.TheVariants.{Own, NoHead}
 use Rattle.encoding.specs.Refusals.{pick}
 use Rattle.encoding.specs.Tables.{name_bytes, name_count}
 use Rattle.encoding.specs.Reading.{Reading, got, stop, read_word}
 use Rattle.encoding.specs.Heads.{head_after, read_head}
 use Rattle.encoding.specs.HeadWords.{head_kind, InsideHead}
-use Rattle.encoding.specs.Scans.{head_scan}
+use Rattle.encoding.specs.Scans.{scan_of}
 use Rattle.encoding.specs.Tested.{Good}
 use Rattle.encoding.specs.Types.{path_of, read_types, read_node, read_type, type_at}
 use Rattle.encoding.specs.contracts.Head.{the_type}
 use Rattle.encoding.proofs.Tables.{impossible}
-use Rattle.encoding.proofs.Reading.{head-got, head-stop}
+use Rattle.encoding.proofs.Reading.{read-got, read-stop}
 use Rattle.encoding.proofs.Inside.{head-behind, head-lies}
 use Rattle.encoding.proofs.Types.{Made₂, made_got, made₂-got, node_of, types-count}
 use Rattle.encoding.proofs.TypeKinds.{kind, head-kind, node-kind}
@@ -33,8 +31,6 @@ use Rattle.tree_words.specs.Encode.{words}
 use Rattle.tree_words.specs.Places.{Place, place}
 use Rattle.tree_words.proofs.Renaming.{type-words}
 use Rattle.known_paths.specs.declared.Class.{Class}
-use Rattle.known_paths.specs.declared.Found.{Found}
-use Rattle.known_paths.specs.declared.Found.TheVariants.{At, NoPart}
 use Rattle.known_paths.specs.Asked.{Finds, found}
 use Rattle.known_paths.specs.Classes.{in_class, arity, first, is_of}
 use Rattle.known_paths.specs.Steps.{when, argument_of}
@@ -76,12 +72,12 @@ word_next ws p v = go (ltb p (length ws))
     go false e = impossible (cc)
 
 -- the head that a scan gave, and the refusal
-module _ (ws : List ℕ) (at : ℕ) {b bound : ℕ} {s : HeadScan} (i : bound ≡ b) (e : s ≡ head_scan (read_head bound ws at)) where
-  pub scanned : {h g : Head} {q : ℕ} → s ≡ Own h q → h ≡ g → read_head b ws at ≡ got g q
-  scanned d k = head-got (read_head b ws at) (rw i at e) (rw k at d)
+module _ (ws : List ℕ) (at : ℕ) {b bound : ℕ} {s : Result (Head × ℕ) Refusal} (i : bound ≡ b) (e : s ≡ scan_of (read_head bound ws at)) where
+  pub scanned : {h g : Head} {q : ℕ} → s ≡ Ok (h, q) → h ≡ g → read_head b ws at ≡ got g q
+  scanned d k = read-got (read_head b ws at) (rw i at e) (rw k at d)
 
-  pub unscanned : {r : Refusal} → s ≡ NoHead r → read_head b ws at ≡ stop r
-  unscanned d = head-stop (read_head b ws at) (rw i at e) d
+  pub unscanned : {r : Refusal} → s ≡ Err r → read_head b ws at ≡ stop r
+  unscanned d = read-stop (read_head b ws at) (rw i at e) d
 
 module _ (b : ℕ) (ws : List ℕ) (at : ℕ) where
   -- a head whose variant is one of some is of no kind that another variant has
@@ -122,26 +118,26 @@ module _ (ws pairs : List ℕ) (text : Bytes) where
     path-by d = let k = node_of ws pairs text at e d in (cc, cc)
 
   module _ (at : ℕ) (class : Class) where
-    pub argument-stop : {r : Refusal} → head_at at ≡ stop r → Finds (first class) again at NoPart
+    pub argument-stop : {r : Refusal} → head_at at ≡ stop r → Finds (first class) again at None
     argument-stop d = record { says = λ t n e. no-head at e d }
 
-    pub argument-other : {h : Head} {q : ℕ} → head_at at ≡ got h q → OneOf unapplied (tag_of the_type h) → Finds (first class) again at NoPart
+    pub argument-other : {h : Head} {q : ℕ} → head_at at ≡ got h q → OneOf unapplied (tag_of the_type h) → Finds (first class) again at None
     argument-other d o = record {
       says = λ t n e. sym (first-other class at t λ c. other-kind (name_count pairs) ws at unapplied 14 tt d o (sym (kind-by at e d) ∙ c));
     }
 
     module _ {k q : ℕ} (d : head_at at ≡ got (Apply k) q) where
-      pub argument-count : {r : ℕ} → r ≡ arity class → (k ≡ r → ⊥) → Finds (first class) again at NoPart
+      pub argument-count : {r : ℕ} → r ≡ arity class → (k ≡ r → ⊥) → Finds (first class) again at None
       argument-count i m = record {
         says = λ t n e.
             let a = apply-by at e d in
             rw a.made (sym (first_count class at a.left a.right λ c. m (sym (types-count again k a.middle a.reads₂) ∙ c ∙ sym i)));
       }
 
-      pub base-stop : {r : Refusal} → head_at q ≡ stop r → Finds (first class) again at NoPart
+      pub base-stop : {r : Refusal} → head_at q ≡ stop r → Finds (first class) again at None
       base-stop b = record { says = λ t n e. no-head q (apply-by at e d).reads b }
 
-      pub base-other : {h : Head} {p : ℕ} → head_at q ≡ got h p → OneOf pathless (tag_of the_type h) → Finds (first class) again at NoPart
+      pub base-other : {h : Head} {p : ℕ} → head_at q ≡ got h p → OneOf pathless (tag_of the_type h) → Finds (first class) again at None
       base-other b o = record {
         says = λ t n e.
             let a = apply-by at e d in
@@ -153,20 +149,20 @@ module _ (ws pairs : List ℕ) (text : Bytes) where
         abbrev base : Path Bytes
         base = path_of ws (name_bytes pairs text) x
 
-        pub argument-class : {r : Bool} → r ≡ in_class class base → r ≡ false → Finds (first class) again at NoPart
+        pub argument-class : {r : Bool} → r ≡ in_class class base → r ≡ false → Finds (first class) again at None
         argument-class i c = record {
           says = λ t n e.
               let a = apply-by at e d in
               rw (a.made, (path-by q a.reads b).0) (sym (first-class class at base a.right (sym i ∙ c)));
         }
 
-        pub argument-found : {m : ℕ} {r : Bool} → m ≡ arity class → k ≡ m → r ≡ in_class class base → r ≡ true → Finds (first class) again at (At p)
+        pub argument-found : {m : ℕ} {r : Bool} → m ≡ arity class → k ≡ m → r ≡ in_class class base → r ≡ true → Finds (first class) again at (Some p)
         argument-found j l i c = record {
           says = λ t n e.
               let a = apply-by at e d in
               let y = path-by q a.reads b in
               let w : at + 2 + words a.left ≡ p = omega (arith, type-words ws pairs text q a.reads, apply-end (name_count pairs) ws at d, y.1) in
-              rw (a.made, y.0) (sym (first-is class at base a.right (sym i ∙ c) (types-count again k a.middle a.reads₂ ∙ l ∙ j) ∙ ap At (rw y.0 at w)));
+              rw (a.made, y.0) (sym (first-is class at base a.right (sym i ∙ c) (types-count again k a.middle a.reads₂ ∙ l ∙ j) ∙ ap Some (rw y.0 at w)));
         }
 
 -- ---- what was found
@@ -176,20 +172,20 @@ pub record Located (ws pairs : List ℕ) (text : Bytes) (f : Place Bytes → Opt
   pub tpe : Ty Bytes
   pub end : ℕ
   pub reads : type_at ws pairs text s ≡ got tpe end
-  pub is : f (place at t) ≡ some (place s tpe)
+  pub is : f (place at t) ≡ Some (place s tpe)
 
-found-place : (x : Option (Place Bytes)) {s : ℕ} → found x ≡ At s → (A : Type 0) → ((p : Place Bytes) → x ≡ some p → p.at ≡ s → A) → A
+found-place : (x : Option (Place Bytes)) {s : ℕ} → found x ≡ Some s → (A : Type 0) → ((p : Place Bytes) → x ≡ Some p → p.at ≡ s → A) → A
 unfolding found
-found-place none e A k = impossible (cc)
-found-place (some p) e A k = k p refl (cc)
+found-place None e A k = impossible (cc)
+found-place (Some p) e A k = k p refl (cc)
 
-pub found_none : (x : Option (Place Bytes)) → found x ≡ NoPart → x ≡ none
+pub found_none : (x : Option (Place Bytes)) → found x ≡ None → x ≡ None
 unfolding found
-found_none none e = refl
-found_none (some p) e = impossible (cc)
+found_none None e = refl
+found_none (Some p) e = impossible (cc)
 
 module _ (ws pairs : List ℕ) (text : Bytes) (at : ℕ) {t : Ty Bytes} {n : ℕ} (e : type_at ws pairs text at ≡ got t n) {f : Place Bytes → Option (Place Bytes)} where
-  pub located : {r : Found} {s : ℕ} → Keeps ws pairs text f → Finds f (type_at ws pairs text) at r → r ≡ At s → Located ws pairs text f at t s
+  pub located : {r : Option ℕ} {s : ℕ} → Keeps ws pairs text f → Finds f (type_at ws pairs text) at r → r ≡ Some s → Located ws pairs text f at t s
   located {r} {s} k d i =
       found-place (f (place at t)) (sym (d.says t n e) ∙ i) (Located ws pairs text f at t s) λ p u v.
       let w = k.keeps (place at t) p (record { end = n; reads = e }) u in
@@ -197,10 +193,10 @@ module _ (ws pairs : List ℕ) (text : Bytes) (at : ℕ) {t : Ty Bytes} {n : ℕ
         tpe = p.tpe;
         end = w.end;
         reads = ap (type_at ws pairs text) (sym v) ∙ w.reads;
-        is = u ∙ ap (λ q. some (place q p.tpe)) v;
+        is = u ∙ ap (λ q. Some (place q p.tpe)) v;
       }
 
-  pub nowhere : {r : Found} → Finds f (type_at ws pairs text) at r → r ≡ NoPart → f (place at t) ≡ none
+  pub nowhere : {r : Option ℕ} → Finds f (type_at ws pairs text) at r → r ≡ None → f (place at t) ≡ None
   nowhere d i = found_none (f (place at t)) (sym (d.says t n e) ∙ i)
 
 -- ---- a first argument that was found
@@ -216,14 +212,14 @@ module _ (ws pairs : List ℕ) (text : Bytes) where
 
 module _ (ws pairs : List ℕ) (text : Bytes) (at : ℕ) where
   -- a part that was found can be read
-  pub found-readable : {f : Place Bytes → Option (Place Bytes)} {m : Found} {s : ℕ} → Keeps ws pairs text f → Readable (type_at ws pairs text at) → Finds f (type_at ws pairs text) at m → m ≡ At s → Readable (type_at ws pairs text s)
+  pub found-readable : {f : Place Bytes → Option (Place Bytes)} {m : Option ℕ} {s : ℕ} → Keeps ws pairs text f → Readable (type_at ws pairs text at) → Finds f (type_at ws pairs text) at m → m ≡ Some s → Readable (type_at ws pairs text s)
   found-readable k r d y =
       let l = located ws pairs text at r.reads k d y in
       record { value = l.tpe; end = l.end; reads = l.reads }
 
-  pub found-ready : {f : Place Bytes → Option (Place Bytes)} {m : Found} {s : ℕ} → Keeps ws pairs text f → Good pairs text × Readable (type_at ws pairs text at) → Finds f (type_at ws pairs text) at m → m ≡ At s
+  pub found-ready : {f : Place Bytes → Option (Place Bytes)} {m : Option ℕ} {s : ℕ} → Keeps ws pairs text f → Good pairs text × Readable (type_at ws pairs text at) → Finds f (type_at ws pairs text) at m → m ≡ Some s
       → Good pairs text × Readable (type_at ws pairs text s)
   found-ready k r d y = (r.0, found-readable k r.1 d y)
 
-  pub found_here : {f : Place Bytes → Option (Place Bytes)} {m : Found} {s : ℕ} → Keeps ws pairs text f → Readable (type_at ws pairs text at) → Finds f (type_at ws pairs text) at m → m ≡ At s → s < length ws
+  pub found_here : {f : Place Bytes → Option (Place Bytes)} {m : Option ℕ} {s : ℕ} → Keeps ws pairs text f → Readable (type_at ws pairs text at) → Finds f (type_at ws pairs text) at m → m ≡ Some s → s < length ws
   found_here {s = s} k r d y = type-here ws pairs text s (found-readable k r d y).reads

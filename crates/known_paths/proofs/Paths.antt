@@ -1,7 +1,10 @@
 -- A path by the words that stand there: equal paths have the same root and as many names.
-use Rattle.std.proofs.Common.{◌≡◌, ℕ, suc, ◌+◌, ◌-◌, ◌<◌, ◌≤◌, Bool, true, false, List, [], ◌∷◌, length, get_or, take, drop, sym, refl, ap, ◌∙◌, arith, length-append, length-drop, length-take, drop-cons, le-leb}
-use borrow.Author.Tests.{lt-leb}
+use Rattle.std.proofs.Common.{◌≡◌, ℕ, suc, ◌+◌, ◌<◌, Bool, true, false, List, [], ◌∷◌, length, get_or, take, sym, refl, ap, ◌∙◌, arith, length-append, length-drop, length-take, drop-cons, le-leb}
+use borrow.Author.Tests.{lt-leb, eq-eqb, ne_eqb, eqb-true}
+use Rattle.std.specs.Prelude.{nat_eq, nat_le, ◌&&◌}
+use Rattle.std.specs.List.{starts_with}
 use lib.ListN.{length-map}
+use Prim.Native.Nat.compare
 use Rattle.rast.specs.Bytes.{Bytes, ascii, same, begins, ◌and◌, among}
 use Rattle.rast.specs.Tree.{Path, Global, Crate, Self, PMemberSelect, MSels}
 use Rattle.rast.proofs.BytesLaws.{and_left, and_right, and_no, and_yes, and-false, same_self}
@@ -214,13 +217,16 @@ fixed-no-array pairs text x h =
     rw (name-fixed pairs text x h)
     (every-agree (λ j. begins (ascii "Array") (get_or fixed_names j [])) (λ j. false) 16 refl x h)
 
-pub begins-short : (d : Bytes) → length d < 5 → begins (ascii "Array") d ≡ false
-unfolding begins ascii ◌and◌
-begins-short d h = rw (lt-leb 5 (length d) h) refl
-
-pub begins-long : (d : Bytes) → 5 ≤ length d → begins (ascii "Array") d ≡ same (take (5 - 0) (drop 0 d)) (ascii "Array")
-unfolding begins ascii ◌and◌
-begins-long d h = rw (le-leb 5 (length d) h) refl
+-- `starts_with` of std
+pub begins-starts : (p d : Bytes) → starts_with nat_eq d p ≡ begins p d
+unfolding begins same ◌and◌
+begins-starts [] d = rw (le-leb 0 (length d) (omega arith))
+begins-starts (x ∷ p) [] = rw (lt-leb (suc (length p)) 0 (omega arith))
+begins-starts (x ∷ p) (y ∷ d) = go (begins-starts p d) (nat_eq x y) refl
+  where
+    go : starts_with nat_eq d p ≡ begins p d → (t : Bool) → nat_eq x y ≡ t → (nat_eq x y && starts_with nat_eq d p) ≡ (nat_le (suc (length p)) (suc (length d)) and (nat_eq y x and same (take (length p) d) p))
+    go h true e = let i : x ≡ y = eqb-true x y e in rw (e, eq-eqb y x (sym i)) (h ∙ ap (λ (b : Bool). b and same (take (length p) d) p) (sym (rw (compare.suc-suc (length p) (length d)) refl)))
+    go h false e = rw (e, ne_eqb y x (λ i. let z : true ≡ false = sym (eq-eqb x y (sym i)) ∙ e in impossible (cc))) (sym (and-false (nat_le (suc (length p)) (suc (length d)))))
 
 -- ---- the tests in their order
 

@@ -1,6 +1,5 @@
 -- The paths whose applications have names of their own, and the first argument of such an application.
-use Rattle.std.specs.Prelude.{ℕ, Bool, false, nat_eq}
-use Rattle.std.proofs.Math.Option.{Option}
+use Rattle.std.specs.Prelude.{Option, ℕ, Bool, false, nat_eq}
 use Rattle.rast.specs.Bytes.{Bytes, ascii, same, begins, ◌and◌, ◌or◌}
 use Rattle.rast.specs.Tree.{Path, Ty, count}
 use Rattle.tree_words.specs.Places.{Place}

@@ -1,6 +1,5 @@
 -- Matches on one constructor of `Type`, and parts that are taken out by one.
-use Rattle.std.specs.Prelude.{ℕ, zero, suc, Bool, true, false}
-use Rattle.std.proofs.Math.Option.{Option, some, none}
+use Rattle.std.specs.Prelude.{Option, Some, None, ℕ, zero, suc, Bool, true, false}
 use Rattle.rast.specs.Bytes.{Bytes}
 use Rattle.rast.specs.Tree.{Path, Ty, Tys, Primitive, TIdentifier, TypeFromPath, TypeApp, Borrowed, BorrowedMut, ImplType, DynType, TupleType, FnType, IntersectionType, Array, TSynonym, TMetaData, nil, cons}
 
@@ -40,44 +39,44 @@ applied f (TMetaData d c o) = false
 
 -- `types[i]`, if there are so many
 unfoldable pub type_in : {N : Type 0} → ℕ → Tys N → Option (Ty N)
-type_in i nil = none
-type_in zero (cons t ts) = some t
+type_in i nil = None
+type_in zero (cons t ts) = Some t
 type_in (suc i) (cons t ts) = type_in i ts
 
 -- `arguments[i]` of a `TypeApp`
 unfoldable pub argument : {N : Type 0} → ℕ → Ty N → Option (Ty N)
-argument i (Primitive p) = none
-argument i (TIdentifier x) = none
-argument i (TypeFromPath p) = none
+argument i (Primitive p) = None
+argument i (TIdentifier x) = None
+argument i (TypeFromPath p) = None
 argument i (TypeApp b ts) = type_in i ts
-argument i (Borrowed t) = none
-argument i (BorrowedMut t) = none
-argument i (ImplType t) = none
-argument i (DynType t) = none
-argument i (TupleType ts) = none
-argument i (FnType ts t) = none
-argument i (IntersectionType l r) = none
-argument i (Array t s) = none
-argument i (TSynonym d b) = none
-argument i (TMetaData d c o) = none
+argument i (Borrowed t) = None
+argument i (BorrowedMut t) = None
+argument i (ImplType t) = None
+argument i (DynType t) = None
+argument i (TupleType ts) = None
+argument i (FnType ts t) = None
+argument i (IntersectionType l r) = None
+argument i (Array t s) = None
+argument i (TSynonym d b) = None
+argument i (TMetaData d c o) = None
 
 -- `underlying` of an `Array` without a size
 unfoldable pub unsized : {N : Type 0} → Ty N → Option (Ty N)
-unsized (Primitive p) = none
-unsized (TIdentifier x) = none
-unsized (TypeFromPath p) = none
-unsized (TypeApp b ts) = none
-unsized (Borrowed t) = none
-unsized (BorrowedMut t) = none
-unsized (ImplType t) = none
-unsized (DynType t) = none
-unsized (TupleType ts) = none
-unsized (FnType ts t) = none
-unsized (IntersectionType l r) = none
-unsized (Array t none) = some t
-unsized (Array t (some x)) = none
-unsized (TSynonym d b) = none
-unsized (TMetaData d c o) = none
+unsized (Primitive p) = None
+unsized (TIdentifier x) = None
+unsized (TypeFromPath p) = None
+unsized (TypeApp b ts) = None
+unsized (Borrowed t) = None
+unsized (BorrowedMut t) = None
+unsized (ImplType t) = None
+unsized (DynType t) = None
+unsized (TupleType ts) = None
+unsized (FnType ts t) = None
+unsized (IntersectionType l r) = None
+unsized (Array t None) = Some t
+unsized (Array t (Some x)) = None
+unsized (TSynonym d b) = None
+unsized (TMetaData d c o) = None
 
 -- `DynType?`
 unfoldable pub is_dyn : Ty Bytes → Bool
@@ -98,5 +97,5 @@ is_dyn (TMetaData d c o) = false
 
 -- there is one, and f of it
 unfoldable pub some_is : {A : Type 0} → (A → Bool) → Option A → Bool
-some_is f none = false
-some_is f (some a) = f a
+some_is f None = false
+some_is f (Some a) = f a

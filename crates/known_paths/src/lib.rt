@@ -11,7 +11,7 @@ ghost use Rattle.encoding.specs.Types.{path_of, type_at};
 ghost use Rattle.accepted_types.specs.Accepted.{Readable};
 ghost use Rattle.known_paths.specs.declared.Class.TheVariants.{Counted};
 ghost use Rattle.unwrap.specs.Asked.{Judges};
-ghost use Rattle.known_paths.specs.Asked.{InRuntime, Finds, is_found};
+ghost use Rattle.known_paths.specs.Asked.{InRuntime, Finds};
 ghost use Rattle.known_paths.specs.Classes.{is_set, in_class, member_in, arity, name_count_of, is_of, first};
 ghost use Rattle.known_paths.specs.Paths.{same_path, in_std, runtime_member};
 
@@ -19,10 +19,10 @@ use encoding::words::{
     ARC, BOX, BOXED, DAFNY_RUNTIME, FIRST_PAIR, GLOBAL, MAYBE_PLACEBO, MAYBE_UNINIT, MEM, OBJECT,
     PTR, RC, RC_MODULE, STD, SYNC, TYPE_APP, TYPE_FROM_PATH,
 };
-use encoding::{Head, HeadScan, PathAt};
+use encoding::{Head, PathAt};
 
 // The paths whose applications are told apart: `Rc` and `Arc`, `Box`, `MaybeUninit`, and members of `dafny_runtime`.
-#[derive(Clone, Copy)]
+#[derive(Clone, Copy, Debug, PartialEq, Eq)]
 pub enum Class {
     Counted,
     Boxed,
@@ -33,13 +33,6 @@ pub enum Class {
     ArrayClass,
     Collection,
     MapClass,
-}
-
-// Where a part of a type stands, if the type has it.
-#[derive(Clone, Copy)]
-pub enum Found {
-    At(usize),
-    NoPart,
 }
 
 // ---- names and paths
@@ -63,11 +56,7 @@ fn is_array_name(pairs: &[u32], text: &[u8], name: u32) -> bool
     if name < FIRST_PAIR {
         return false;
     }
-    let bytes = encoding::pair_bytes(pairs, text, name);
-    if bytes.len() < 5 {
-        return false;
-    }
-    encoding::same_bytes(encoding::part(bytes, 0, 5), b"Array")
+    encoding::pair_bytes(pairs, text, name).starts_with(b"Array")
 }
 
 // Whether a name is `Set`, `Sequence` or `Multiset`.
@@ -137,9 +126,7 @@ fn is_member(pairs: &[u32], text: &[u8], class: Class, name: u32) -> bool
     ensures { result ≡ member_in class (name_bytes pairs.now text.now name) }
 {
     match class {
-        Class::Counted => false,
-        Class::Boxed => false,
-        Class::Uninit => false,
+        Class::Counted | Class::Boxed | Class::Uninit => false,
         Class::Placebo => encoding::is_name(pairs, text, name, MAYBE_PLACEBO, b"MaybePlacebo"),
         Class::ObjectClass => encoding::is_name(pairs, text, name, OBJECT, b"Object"),
         Class::PtrClass => encoding::is_name(pairs, text, name, PTR, b"Ptr"),
@@ -195,26 +182,20 @@ fn is_in_class(words: &[u32], pairs: &[u32], text: &[u8], class: Class, path: Pa
             MAYBE_UNINIT,
             b"MaybeUninit",
         ),
-        Class::Placebo => is_runtime_class(words, pairs, text, class, path),
-        Class::ObjectClass => is_runtime_class(words, pairs, text, class, path),
-        Class::PtrClass => is_runtime_class(words, pairs, text, class, path),
-        Class::ArrayClass => is_runtime_class(words, pairs, text, class, path),
-        Class::Collection => is_runtime_class(words, pairs, text, class, path),
-        Class::MapClass => is_runtime_class(words, pairs, text, class, path),
+        Class::Placebo
+        | Class::ObjectClass
+        | Class::PtrClass
+        | Class::ArrayClass
+        | Class::Collection
+        | Class::MapClass => is_runtime_class(words, pairs, text, class, path),
     }
 }
 
 // How many arguments an application has, and how many names its path has.
-#[derive(Clone, Copy)]
+#[derive(Clone, Copy, Debug, PartialEq, Eq)]
 struct PathForm {
     arguments: u32,
     names: u32,
-}
-
-fn of_form(arguments: u32, names: u32) -> PathForm
-    ensures { (result.arguments ≡ arguments) × (result.names ≡ names) }
-{
-    PathForm { arguments, names }
 }
 
 // The form of the applications of a class.
@@ -222,54 +203,58 @@ fn form_of(class: Class) -> PathForm
     ensures { (result.arguments ≡ arity class) × (result.names ≡ name_count_of class) }
 {
     match class {
-        Class::Counted => of_form(1, 3),
-        Class::Boxed => of_form(1, 3),
-        Class::Uninit => of_form(1, 3),
-        Class::Placebo => of_form(1, 2),
-        Class::ObjectClass => of_form(1, 2),
-        Class::PtrClass => of_form(1, 2),
-        Class::ArrayClass => of_form(1, 2),
-        Class::Collection => of_form(1, 2),
-        Class::MapClass => of_form(2, 2),
+        Class::Counted | Class::Boxed | Class::Uninit => PathForm {
+            arguments: 1,
+            names: 3,
+        },
+        Class::Placebo
+        | Class::ObjectClass
+        | Class::PtrClass
+        | Class::ArrayClass
+        | Class::Collection => PathForm {
+            arguments: 1,
+            names: 2,
+        },
+        Class::MapClass => PathForm {
+            arguments: 2,
+            names: 2,
+        },
     }
 }
 
 // ---- on an accepted type
 
 // The first argument of an application of a path of the class.
-pub fn first_argument(words: &[u32], pairs: &[u32], text: &[u8], class: Class, at: usize) -> Found
+pub fn first_argument(
+    words: &[u32],
+    pairs: &[u32],
+    text: &[u8],
+    class: Class,
+    at: usize,
+) -> Option<usize>
     requires { Good pairs.now text.now × Readable (type_at words.now pairs.now text.now at) }
     ensures { Finds (first class) (type_at words.now pairs.now text.now) at result }
 {
     let bound = encoding::name_count(pairs);
-    let HeadScan::Own { head, next: base } = encoding::scan_head(words, bound, at) else {
-        return Found::NoPart;
+    let Ok((head, base)) = encoding::scan_head(words, bound, at) else {
+        return None;
     };
     let Head::Apply(n) = head else {
-        return Found::NoPart;
+        return None;
     };
     if n != form_of(class).arguments {
-        return Found::NoPart;
+        return None;
     }
-    let HeadScan::Own { head: name, next } = encoding::scan_head(words, bound, base) else {
-        return Found::NoPart;
+    let Ok((name, next)) = encoding::scan_head(words, bound, base) else {
+        return None;
     };
     let Head::FromPath(path) = name else {
-        return Found::NoPart;
+        return None;
     };
     if is_in_class(words, pairs, text, class, path) {
-        return Found::At(next);
+        return Some(next);
     }
-    Found::NoPart
-}
-
-pub fn is_found(found: Found) -> bool
-    ensures { result ≡ is_found found }
-{
-    match found {
-        Found::At(_) => true,
-        Found::NoPart => false,
-    }
+    None
 }
 
 // Whether a type is an application of a path of the class. Shapes only ask this, and most types are no application: it is seen by the words, without taking heads.

@@ -1,12 +1,12 @@
 -- A run of numbers, filled from its front.
 use Prim.Native.Nat.{ℕ, zero, suc, ◌+◌, ◌*◌, ◌<◌}
-use mathlib.Core.Path.{◌≡◌, ap, sym, ◌∙◌}
+use mathlib.Core.Path.{◌≡◌, ap, sym}
 use mathlib.Core.List.{List, [], ◌∷◌, ◌++◌}
 use native.Mathlib.Omega.{arith}
 use native.Mathlib.Nat.{add-zero}
 use native.Mathlib.Numerals.{add-one}
 use lib.ListN.{length, set, take}
-use lib.Seq.{take-suc-set, take_all}
+use lib.Seq.{take-suc-set}
 use Rattle.little_endian.specs.Numbers.{number_at, numbers_at}
 
 -- one number more, at the end
@@ -20,9 +20,3 @@ run_more (suc n) bytes at =
 pub run-filled : (out bytes : List ℕ) (at i v : ℕ) → i < length out → take i out ≡ numbers_at i bytes at → v ≡ number_at bytes (at + 4 * i)
     → take (i + 1) (set out i v) ≡ numbers_at (i + 1) bytes at
 run-filled out bytes at i v h e d = rw (add-one i, take-suc-set out i v h, e, d) (sym (run_more i bytes at))
-
-pub run-whole : (out bytes : List ℕ) (at i n : ℕ) → i ≡ length out → length out ≡ n → take i out ≡ numbers_at i bytes at → out ≡ numbers_at n bytes at
-run-whole out bytes at i n h k e =
-    let p : take i out ≡ out = take_all i out (omega arith) in
-    let q : i ≡ n = omega arith in
-    sym p ∙ e ∙ rw q

@@ -1,4 +1,5 @@
 -- Document 01's case (f) and the parts that are easily confused, on encodings. One list, and one claim for all of it, by computation.
+use Rattle.std.specs.Prelude.{Ok, Err}
 use Prim.Native.Nat.{ℕ}
 use mathlib.Core.Path.{◌≡◌, refl}
 use mathlib.Core.List.{List, [], ◌∷◌, ◌++◌, map}
@@ -6,7 +7,7 @@ use Rattle.rast.specs.Bytes.{Bytes, ascii, same, begins, ◌and◌}
 use Rattle.rast.specs.Tree.{MSels, count}
 use Rattle.rast.specs.DeclarationToString.{Expand}
 use Rattle.encoding.specs.declared.Refusal.TheVariants.{NoSuchPart}
-use Rattle.encoding.specs.Refusals.{Answer, given, refused, unless}
+use Rattle.encoding.specs.Refusals.{Answer, unless}
 use Rattle.encoding.specs.Reading.{read_word, read_below, read_names, whole}
 use Rattle.encoding.specs.Tables.{overlong, good_pairs, check_tables, fixed_names, pair_bytes, name_bytes}
 use Rattle.encoding.specs.Heads.{read_path, path_head, head_after, read_head}
@@ -19,7 +20,8 @@ use Rattle.shapes.specs.Parts.{removed_at, expanded_at, owned_at, is_map, MaybeU
 use Rattle.shapes.specs.Shapes.{IsBox, IsRc, IsBoxDyn, IsMaybeUninit, IsMultiArray, IsObject, IsPointer, IsObjectOrPointer, IsBuiltinCollection}
 use Rattle.parts.specs.declared.Wanted.{Wanted}
 use Rattle.parts.specs.declared.Wanted.TheVariants.{Removed, Expanded, Owned, OfMultiArray, OfBox, OfPointer, OfRc, OfBoxDyn, OfCollection, OfPlacebo, OfUninitArray}
-use Rattle.parts.specs.Answers.{Span, span_of, span_in, part_of}
+use Rattle.parts.specs.Answers.{span_of, span_in, part_of}
+use Rattle.parts.specs.declared.Span.{Span}
 use Rattle.parts.specs.Asked.{part_for}
 
 -- names 16 to 18: `Array2`, `Set`, `Map`
@@ -49,10 +51,10 @@ abbrev uninit : List ℕ
 uninit = 14 ∷ 1 ∷ 13 ∷ 0 ∷ 3 ∷ 1 ∷ 8 ∷ 9 ∷ 11 ∷ []
 
 abbrev part : ℕ → ℕ → Answer Span
-part s n = given (record { start = s; length = n })
+part s n = Ok (record { start = s; length = n })
 
 abbrev none : Answer Span
-none = refused NoSuchPart
+none = Err NoSuchPart
 
 unfoldable pub examples : List (Wanted × List ℕ × Answer Span)
 examples =

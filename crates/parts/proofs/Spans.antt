@@ -1,8 +1,8 @@
 -- Accept, then find: the public answers by where a part of the accepted type is found.
+use Rattle.std.specs.Prelude.{Option, Ok, Err, Some, None, Result}
 use Prim.Native.Nat.{ℕ, ◌+◌, ◌-◌, ◌≤◌}
 use mathlib.Core.Path.{◌≡◌, refl, ap, sym, ◌∙◌}
 use mathlib.Core.List.{List, []}
-use mathlib.Core.Option.{Option, some, none}
 use native.Mathlib.Omega.{arith}
 use lib.ListN.{length, take, drop}
 use Rattle.rast.specs.Bytes.{Bytes}
@@ -10,9 +10,7 @@ use Rattle.rast.specs.Tree.{Ty}
 use Rattle.rast.specs.DeclarationToString.{Expand}
 use Rattle.encoding.specs.declared.Refusal.{Refusal}
 use Rattle.encoding.specs.declared.Refusal.TheVariants.{NoSuchPart}
-use Rattle.encoding.specs.declared.Check.{Check}
-use Rattle.encoding.specs.declared.Check.TheVariants.{Passed, Failed}
-use Rattle.encoding.specs.Refusals.{Answer, given, refused}
+use Rattle.encoding.specs.Refusals.{Answer}
 use Rattle.encoding.specs.Tables.{name_bytes}
 use Rattle.encoding.specs.Reading.{Reading, got}
 use Rattle.encoding.specs.Types.{type_at, type_of}
@@ -26,16 +24,13 @@ use Rattle.tree_words.specs.Encode.{words, encode}
 use Rattle.tree_words.specs.Places.{Place, place}
 use Rattle.tree_words.proofs.Renaming.{numbered, words-kept, encode-words, tree-run, type-words}
 use Rattle.unwrap.specs.Asked.{Judges, ExpandsAt}
-use Rattle.known_paths.specs.declared.Found.{Found}
-use Rattle.known_paths.specs.declared.Found.TheVariants.{At, NoPart}
 use Rattle.known_paths.specs.Asked.{Finds, found}
 use Rattle.shapes.specs.Accepted.{acceptance}
 use Rattle.shapes.specs.Parts.{removed_at, owned_at, RemoveSynonyms, ExpandAt, ToOwned}
-use Rattle.parts.specs.declared.PartAnswer.{PartAnswer}
-use Rattle.parts.specs.declared.PartAnswer.TheVariants.{Part, Refused}
 use Rattle.parts.specs.declared.Wanted.{Wanted}
 use Rattle.parts.specs.declared.Wanted.TheVariants.{Removed, Expanded, Owned, OfMultiArray, OfBox, OfPointer, OfRc, OfBoxDyn, OfCollection, OfPlacebo, OfUninitArray}
-use Rattle.parts.specs.Answers.{Span, span_of, span_in, part_of, part_answer, part_words}
+use Rattle.parts.specs.Answers.{span_of, span_in, part_of, part_words}
+use Rattle.parts.specs.declared.Span.{Span}
 use Rattle.parts.specs.Asked.{part_for, Spans}
 use Rattle.known_paths.proofs.Children.{Standing, Keeps}
 use Rattle.known_paths.proofs.Finding.{located, nowhere}
@@ -64,26 +59,26 @@ module _ (ws pairs : List ℕ) (text : Bytes) where
   -- ---- the parts that every type has
 
   module _ (at r : ℕ) where
-    pub removed-finds : Judges (λ t. (removed_at at t).at) (again at) r → Finds RemoveSynonyms again at (At r)
+    pub removed-finds : Judges (λ t. (removed_at at t).at) (again at) r → Finds RemoveSynonyms again at (Some r)
     unfolding RemoveSynonyms found
-    removed-finds j = record { says = λ t n e. ap At (j.says t n e) }
+    removed-finds j = record { says = λ t n e. ap Some (j.says t n e) }
 
-    pub owned-finds : Judges (λ t. (owned_at at t).at) (again at) r → Finds ToOwned again at (At r)
+    pub owned-finds : Judges (λ t. (owned_at at t).at) (again at) r → Finds ToOwned again at (Some r)
     unfolding ToOwned found
-    owned-finds j = record { says = λ t n e. ap At (j.says t n e) }
+    owned-finds j = record { says = λ t n e. ap Some (j.says t n e) }
 
-    pub expanded-finds : ExpandsAt again at r → Finds ExpandAt again at (At r)
+    pub expanded-finds : ExpandsAt again at r → Finds ExpandAt again at (Some r)
     unfolding ExpandAt found
-    expanded-finds x = finds-expanded ws pairs text at r x ExpandAt (λ p. some p) (λ p. refl) (record { says = λ t n e. refl })
+    expanded-finds x = finds-expanded ws pairs text at r x ExpandAt (λ p. Some p) (λ p. refl) (record { says = λ t n e. refl })
 
   -- ---- spans
 
   module _ (f : Place Bytes → Option (Place Bytes)) where
-    pub span_none : {u : Found} → Finds f again 0 u → u ≡ NoPart → Spans f (again 0) (Refused NoSuchPart)
+    pub span_none : {u : Option ℕ} → Finds f again 0 u → u ≡ None → Spans f (again 0) (Err NoSuchPart)
     unfolding span_of
     span_none d k = record { says = λ t n e. rw (nowhere ws pairs text 0 e d k) refl }
 
-    pub span-found : {u : Found} {s end : ℕ} → Keeps ws pairs text f → Finds f again 0 u → u ≡ At s → EndsAt (again s) end → Spans f (again 0) (Part s (end - s))
+    pub span-found : {u : Option ℕ} {s end : ℕ} → Keeps ws pairs text f → Finds f again 0 u → u ≡ Some s → EndsAt (again s) end → Spans f (again 0) (Ok (record { start = s; length = end - s }))
     unfolding span_of
     span-found {u} {s} {end} k d i x = record {
       says = λ t n e.
@@ -91,14 +86,14 @@ module _ (ws pairs : List ℕ) (text : Bytes) where
           let z : l.end ≡ end = cc (l.reads, x.reads) in
           let w = type-words ws pairs text s l.reads in
           let o : end - s ≡ words l.tpe = omega (arith, z, w) in
-          rw l.is (ap (Part s) o);
+          rw l.is (ap (λ k. Ok (record { start = s; length = k })) o);
     }
 
-    pub part-given : {r : PartAnswer} → Accepted ws pairs text → Spans f (again 0) r → r ≡ part_answer (part_of f ws pairs text)
+    pub part-given : {r : Result Span Refusal} → Accepted ws pairs text → Spans f (again 0) r → r ≡ part_of f ws pairs text
     unfolding part_of span_in
     part-given a s = rw a.is (s.says a.type (length ws) a.reads)
 
-    pub part-refused : {c : Check} {r : Refusal} → c ≡ acceptance (type_of ws pairs text) → c ≡ Failed r → Refused r ≡ part_answer (part_of f ws pairs text)
+    pub part-refused : {c : Result (Unit {0}) Refusal} {r : Refusal} → c ≡ acceptance (type_of ws pairs text) → c ≡ Err r → Err r ≡ part_of f ws pairs text
     unfolding part_of span_in
     part-refused e d = rw (not-accepted ws pairs text e d) refl
 
@@ -107,50 +102,42 @@ module _ (ws pairs : List ℕ) (text : Bytes) where
     pub expanded-end : EndsAt (again s) (length ws)
     expanded-end = record { value = Expand a.type; reads = x.expands a.type (length ws) a.reads }
 
-    pub expanded-given : Part s (length ws - s) ≡ part_answer (part_of ExpandAt ws pairs text)
+    pub expanded-given : Ok (record { start = s; length = length ws - s }) ≡ part_of ExpandAt ws pairs text
     expanded-given = part-given ExpandAt a (span-found ExpandAt (expanded_keeps ws pairs text) (expanded-finds 0 s x) refl expanded-end)
 
   -- a part that ends does so behind its start
   pub part-forward : (s : ℕ) {end : ℕ} → EndsAt (again s) end → s ≤ end
   part-forward s x = omega (arith, type-words ws pairs text s x.reads)
 
-answer-part : (a : Answer Span) {r : PartAnswer} {s n : ℕ} → r ≡ part_answer a → r ≡ Part s n → (A : Type 0) → ((p : Span) → a ≡ given p → p.start ≡ s → p.length ≡ n → A) → A
-answer-part (given p) e d A k = k p refl (cc) (cc)
-answer-part (refused q) e d A k = impossible (cc)
-
-answer-none : (a : Answer Span) {r : PartAnswer} {q : Refusal} → r ≡ part_answer a → r ≡ Refused q → a ≡ refused q
-answer-none (given p) e d = impossible (cc)
-answer-none (refused q) e d = cc
-
 -- ---- the words of a part
 
-span-some : (o : Option (Place Bytes)) {p : Span} → span_of o ≡ given p → (A : Type 0) → ((q : Place Bytes) → o ≡ some q → q.at ≡ p.start → words q.tpe ≡ p.length → A) → A
+span-some : (o : Option (Place Bytes)) {p : Span} → span_of o ≡ Ok p → (A : Type 0) → ((q : Place Bytes) → o ≡ Some q → q.at ≡ p.start → words q.tpe ≡ p.length → A) → A
 unfolding span_of
-span-some none e A k = impossible (cc)
-span-some (some q) {p} e A k = let d = same-given e in k q refl (ap (λ (s : Span). s.start) d) (ap (λ (s : Span). s.length) d)
+span-some None e A k = impossible (cc)
+span-some (Some q) {p} e A k = let d = same-given e in k q refl (ap (λ (s : Span). s.start) d) (ap (λ (s : Span). s.length) d)
   where
-    same-given : {a b : Span} → given a ≡ given b → a ≡ b
+    same-given : {a b : Span} → ◌≡◌ {A = Answer Span} (Ok a) (Ok b) → a ≡ b
     same-given e = cc
 
 module _ (ws pairs : List ℕ) (text : Bytes) (f : Place Bytes → Option (Place Bytes)) (k : Keeps ws pairs text f) where
   -- a part of the type that fills the words stands where it is said
-  part-stands : {t : Ty Bytes} (q : Place Bytes) → type_of ws pairs text ≡ given t → f (place 0 t) ≡ some q → Standing ws pairs text q
+  part-stands : {t : Ty Bytes} (q : Place Bytes) → type_of ws pairs text ≡ Ok t → f (place 0 t) ≡ Some q → Standing ws pairs text q
   part-stands {t} q i o =
-      let a = accepted ws pairs text {c = Passed} (rw i refl) refl in
+      let a = accepted ws pairs text {c = Ok tt} (rw i refl) refl in
       let j : a.type ≡ t = cc a.is in
       k.keeps (place 0 t) q (record { end = length ws; reads = a.reads ∙ ap (λ y. got y (length ws)) j }) o
 
   -- where there is a part, there is a type
-  typed : {p : Span} → part_of f ws pairs text ≡ given p → Accepted ws pairs text
+  typed : {p : Span} → part_of f ws pairs text ≡ Ok p → Accepted ws pairs text
   unfolding part_of span_in
   typed {p} e = go (type_of ws pairs text) refl e
     where
-      go : (x : Answer (Ty Bytes)) → type_of ws pairs text ≡ x → span_in f x ≡ given p → Accepted ws pairs text
-      go (given t) i d = accepted ws pairs text {c = Passed} (rw i refl) refl
-      go (refused r) i d = impossible (cc)
+      go : (x : Answer (Ty Bytes)) → type_of ws pairs text ≡ x → span_in f x ≡ Ok p → Accepted ws pairs text
+      go (Ok t) i d = accepted ws pairs text {c = Ok tt} (rw i refl) refl
+      go (Err r) i d = impossible (cc)
 
   -- a part's words lie within the words
-  within : {p : Span} → part_of f ws pairs text ≡ given p → p.start + p.length ≤ length ws
+  within : {p : Span} → part_of f ws pairs text ≡ Ok p → p.start + p.length ≤ length ws
   unfolding part_of span_in
   within {p} e =
       let a = typed e in
@@ -160,23 +147,20 @@ module _ (ws pairs : List ℕ) (text : Bytes) (f : Place Bytes → Option (Place
       let l = type-lies ws pairs text q.at (omega (arith, h)) s.reads in
       omega (arith, l.ends, type-words ws pairs text q.at s.reads, u, v)
 
-  module _ {r : PartAnswer} (e : r ≡ part_answer (part_of f ws pairs text)) where
-    pub part-within : {s n : ℕ} → r ≡ Part s n → s + n ≤ length ws
-    part-within {s} {n} d =
-        answer-part (part_of f ws pairs text) e d (s + n ≤ length ws) λ p i u v. omega (arith, within i, u, v)
+  module _ {r : Result Span Refusal} (e : r ≡ part_of f ws pairs text) where
+    pub part-within : {p : Span} → r ≡ Ok p → p.start + p.length ≤ length ws
+    part-within d = within (sym e ∙ d)
 
-    pub part-few : {s n : ℕ} → r ≡ Part s n → length ws ≤ 8192
-    part-few d = answer-part (part_of f ws pairs text) e d (length ws ≤ 8192) λ p i u v. (typed i).few
+    pub part-few : {p : Span} → r ≡ Ok p → length ws ≤ 8192
+    part-few d = (typed (sym e ∙ d)).few
 
-    pub words-given : {s n : ℕ} → r ≡ Part s n → take (s + n - s) (drop s ws) ≡ part_words ws (part_of f ws pairs text)
+    pub words-given : {p : Span} → r ≡ Ok p → take (p.start + p.length - p.start) (drop p.start ws) ≡ part_words ws (part_of f ws pairs text)
     unfolding part_words
-    words-given {s} {n} d =
-        answer-part (part_of f ws pairs text) e d (take (s + n - s) (drop s ws) ≡ part_words ws (part_of f ws pairs text)) λ p i u v.
-        rw (part-to ws s n, i, u, v) refl
+    words-given {p} d = rw (part-to ws p.start p.length, sym e ∙ d) refl
 
-    pub words-refused : {q : Refusal} → r ≡ Refused q → [] ≡ part_words ws (part_of f ws pairs text)
+    pub words-refused : {q : Refusal} → r ≡ Err q → [] ≡ part_words ws (part_of f ws pairs text)
     unfolding part_words
-    words-refused d = rw (answer-none (part_of f ws pairs text) e d) refl
+    words-refused d = rw (sym e ∙ d) refl
 
 -- ---- what the words of a part hold
 
@@ -187,7 +171,7 @@ pub record Encoded (ws pairs : List ℕ) (text : Bytes) (b : List ℕ) (t : Ty B
   pub is : b ≡ encode tree
 
 module _ (ws pairs : List ℕ) (text : Bytes) (f : Place Bytes → Option (Place Bytes)) (k : Keeps ws pairs text f) where
-  pub part-encoded : {t : Ty Bytes} (q : Place Bytes) → type_of ws pairs text ≡ given t → f (place 0 t) ≡ some q → Encoded ws pairs text (part_words ws (part_of f ws pairs text)) q.tpe
+  pub part-encoded : {t : Ty Bytes} (q : Place Bytes) → type_of ws pairs text ≡ Ok t → f (place 0 t) ≡ Some q → Encoded ws pairs text (part_words ws (part_of f ws pairs text)) q.tpe
   unfolding part_of span_in span_of part_words
   part-encoded {t} q i o =
       let s = part-stands ws pairs text f k q i o in

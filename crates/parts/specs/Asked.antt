@@ -1,15 +1,15 @@
 -- What the functions behind the calls are asked for and answer.
-use Rattle.std.specs.Prelude.{ℕ, ◌≡◌}
-use Rattle.std.proofs.Math.Option.{Option}
+use Rattle.encoding.specs.declared.Refusal.{Refusal}
+use Rattle.std.specs.Prelude.{Option, Result, ℕ, ◌≡◌}
 use Rattle.rast.specs.Bytes.{Bytes}
 use Rattle.rast.specs.Tree.{Ty}
 use Rattle.encoding.specs.Reading.{Reading, got}
 use Rattle.tree_words.specs.Places.{Place, place}
 use Rattle.shapes.specs.Parts.{RemoveSynonyms, ExpandAt, ToOwned, MultiArrayUnderlying, BoxUnderlying, ObjectOrPointerUnderlying, RcUnderlying, BoxDynUnderlying, GetBuiltinCollectionElement, ExtractMaybePlacebo, ExtractMaybeUninitArrayElement}
-use Rattle.parts.specs.declared.PartAnswer.{PartAnswer}
 use Rattle.parts.specs.declared.Wanted.{Wanted}
 use Rattle.parts.specs.declared.Wanted.TheVariants.{Removed, Expanded, Owned, OfMultiArray, OfBox, OfPointer, OfRc, OfBoxDyn, OfCollection, OfPlacebo, OfUninitArray}
-use Rattle.parts.specs.Answers.{span_of, part_answer}
+use Rattle.parts.specs.declared.Span.{Span}
+use Rattle.parts.specs.Answers.{span_of}
 
 -- the part that a call asks for
 abbrev pub part_for : Wanted → Place Bytes → Option (Place Bytes)
@@ -26,5 +26,5 @@ part_for OfPlacebo = ExtractMaybePlacebo
 part_for OfUninitArray = ExtractMaybeUninitArrayElement
 
 -- the answer r gives the part f of the type that was read at 0
-pub record Spans (f : Place Bytes → Option (Place Bytes)) (x : Reading (Ty Bytes)) (r : PartAnswer) : Type 0 where
-  pub says : (t : Ty Bytes) (n : ℕ) → x ≡ got t n → r ≡ part_answer (span_of (f (place 0 t)))
+pub record Spans (f : Place Bytes → Option (Place Bytes)) (x : Reading (Ty Bytes)) (r : Result Span Refusal) : Type 0 where
+  pub says : (t : Ty Bytes) (n : ℕ) → x ≡ got t n → r ≡ span_of (f (place 0 t))

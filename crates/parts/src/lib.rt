@@ -7,21 +7,21 @@ ghost use Rattle.encoding.specs.Types.{type_at};
 ghost use Rattle.accepted_types.specs.Accepted.{Readable};
 ghost use Rattle.known_paths.specs.Asked.{Finds};
 ghost use Rattle.shapes.specs.Parts.{RemoveSynonyms, ExpandAt, ToOwned, MultiArrayUnderlying, BoxUnderlying, ObjectOrPointerUnderlying, RcUnderlying, BoxDynUnderlying, GetBuiltinCollectionElement, ExtractMaybePlacebo, ExtractMaybeUninitArrayElement};
-ghost use Rattle.parts.specs.Answers.{part_of, part_answer, part_words};
+ghost use Rattle.parts.specs.Answers.{part_of, part_words};
 ghost use Rattle.parts.specs.Asked.{part_for, Spans};
 
-use encoding::{Check, Refusal};
-use known_paths::{Class, Found};
+use encoding::Refusal;
+use known_paths::Class;
 
-// A part: where its words start and how many they are, or the refusal.
-#[derive(Clone, Copy)]
-pub enum PartAnswer {
-    Part { start: usize, length: usize },
-    Refused(Refusal),
+// The words of a part: from where, and how many.
+#[derive(Clone, Copy, Debug, PartialEq, Eq, Hash)]
+pub struct Span {
+    pub start: usize,
+    pub length: usize,
 }
 
 // The parts, each named after its call.
-#[derive(Clone, Copy)]
+#[derive(Clone, Copy, Debug, PartialEq, Eq)]
 enum Wanted {
     Removed,
     Expanded,
@@ -37,14 +37,15 @@ enum Wanted {
 }
 
 // Where a part of an accepted type stands.
-fn find(words: &[u32], pairs: &[u32], text: &[u8], wanted: Wanted, at: usize) -> Found
+// Kept: no plainer as a closure at each call, since each of the 22 would have to show that what it finds stands where it says; `part-keeps` shows it once for every variant.
+fn find(words: &[u32], pairs: &[u32], text: &[u8], wanted: Wanted, at: usize) -> Option<usize>
     requires { Good pairs.now text.now × Readable (type_at words.now pairs.now text.now at) }
     ensures { Finds (part_for wanted) (type_at words.now pairs.now text.now) at result }
 {
     match wanted {
-        Wanted::Removed => Found::At(shapes::remove_wrappers(words, pairs, text, at)),
-        Wanted::Expanded => Found::At(unwrap::expand(words, pairs, text, at)),
-        Wanted::Owned => Found::At(shapes::owned(words, pairs, text, at)),
+        Wanted::Removed => Some(shapes::remove_wrappers(words, pairs, text, at)),
+        Wanted::Expanded => Some(unwrap::expand(words, pairs, text, at)),
+        Wanted::Owned => Some(shapes::owned(words, pairs, text, at)),
         Wanted::OfMultiArray => shapes::multi_array_part(words, pairs, text, at),
         Wanted::OfBox => known_paths::first_argument(words, pairs, text, Class::Boxed, at),
         Wanted::OfPointer => shapes::object_or_pointer_part(words, pairs, text, at),
@@ -57,42 +58,38 @@ fn find(words: &[u32], pairs: &[u32], text: &[u8], wanted: Wanted, at: usize) ->
 }
 
 // A part of an accepted type that stands at 0.
-fn part_at(words: &[u32], pairs: &[u32], text: &[u8], wanted: Wanted) -> PartAnswer
+fn part_at(words: &[u32], pairs: &[u32], text: &[u8], wanted: Wanted) -> Result<Span, Refusal>
     requires { Good pairs.now text.now × Readable (type_at words.now pairs.now text.now 0) }
     ensures { Spans (part_for wanted) (type_at words.now pairs.now text.now 0) result }
 {
-    let Found::At(start) = find(words, pairs, text, wanted, 0) else {
-        return PartAnswer::Refused(Refusal::NoSuchPart);
+    let Some(start) = find(words, pairs, text, wanted, 0) else {
+        return Err(Refusal::NoSuchPart);
     };
-    PartAnswer::Part {
-        start,
-        length: accepted_types::skip_type(words, pairs, text, start) - start,
-    }
+    let length = accepted_types::skip_type(words, pairs, text, start) - start;
+    Ok(Span { start, length })
 }
 
 // A part of the type that the encoding holds.
-fn part_in(words: &[u32], pairs: &[u32], text: &[u8], wanted: Wanted) -> PartAnswer
-    ensures { result ≡ part_answer (part_of (part_for wanted) words.now pairs.now text.now) }
+fn part_in(words: &[u32], pairs: &[u32], text: &[u8], wanted: Wanted) -> Result<Span, Refusal>
+    ensures { result ≡ part_of (part_for wanted) words.now pairs.now text.now }
 {
-    match shapes::accept(words, pairs, text) {
-        Check::Passed => part_at(words, pairs, text, wanted),
-        Check::Failed(r) => PartAnswer::Refused(r),
-    }
+    shapes::accept(words, pairs, text)?;
+    part_at(words, pairs, text, wanted)
 }
 
 // The words of that part, none when refused.
 fn words_in<'a>(words: &'a [u32], pairs: &[u32], text: &[u8], wanted: Wanted) -> &'a [u32]
     ensures { result.now ≡ part_words words.now (part_of (part_for wanted) words.now pairs.now text.now) }
 {
-    let PartAnswer::Part { start, length } = part_in(words, pairs, text, wanted) else {
+    let Ok(Span { start, length }) = part_in(words, pairs, text, wanted) else {
         return &words[..0];
     };
     &words[start..start + length]
 }
 
 // `RemoveSynonyms`: where it stands, and its words
-pub fn remove_synonyms_at(words: &[u32], pairs: &[u32], text: &[u8]) -> PartAnswer
-    ensures { result ≡ part_answer (part_of RemoveSynonyms words.now pairs.now text.now) }
+pub fn remove_synonyms_at(words: &[u32], pairs: &[u32], text: &[u8]) -> Result<Span, Refusal>
+    ensures { result ≡ part_of RemoveSynonyms words.now pairs.now text.now }
 {
     part_in(words, pairs, text, Wanted::Removed)
 }
@@ -104,19 +101,13 @@ pub fn remove_synonyms<'a>(words: &'a [u32], pairs: &[u32], text: &[u8]) -> &'a 
 }
 
 // `Expand`: where it stands, and its words. It ends where the type ends that fills the words.
-pub fn expand_at(words: &[u32], pairs: &[u32], text: &[u8]) -> PartAnswer
-    ensures { result ≡ part_answer (part_of ExpandAt words.now pairs.now text.now) }
+pub fn expand_at(words: &[u32], pairs: &[u32], text: &[u8]) -> Result<Span, Refusal>
+    ensures { result ≡ part_of ExpandAt words.now pairs.now text.now }
 {
-    match shapes::accept(words, pairs, text) {
-        Check::Passed => {
-            let start = unwrap::expand(words, pairs, text, 0);
-            PartAnswer::Part {
-                start,
-                length: words.len() - start,
-            }
-        }
-        Check::Failed(r) => PartAnswer::Refused(r),
-    }
+    shapes::accept(words, pairs, text)?;
+    let start = unwrap::expand(words, pairs, text, 0);
+    let length = words.len() - start;
+    Ok(Span { start, length })
 }
 
 pub fn expand<'a>(words: &'a [u32], pairs: &[u32], text: &[u8]) -> &'a [u32]
@@ -126,8 +117,8 @@ pub fn expand<'a>(words: &'a [u32], pairs: &[u32], text: &[u8]) -> &'a [u32]
 }
 
 // `ToOwned`: where it stands, and its words
-pub fn to_owned_at(words: &[u32], pairs: &[u32], text: &[u8]) -> PartAnswer
-    ensures { result ≡ part_answer (part_of ToOwned words.now pairs.now text.now) }
+pub fn to_owned_at(words: &[u32], pairs: &[u32], text: &[u8]) -> Result<Span, Refusal>
+    ensures { result ≡ part_of ToOwned words.now pairs.now text.now }
 {
     part_in(words, pairs, text, Wanted::Owned)
 }
@@ -139,8 +130,8 @@ pub fn to_owned<'a>(words: &'a [u32], pairs: &[u32], text: &[u8]) -> &'a [u32]
 }
 
 // `MultiArrayUnderlying`: where it stands, and its words
-pub fn multi_array_underlying_at(words: &[u32], pairs: &[u32], text: &[u8]) -> PartAnswer
-    ensures { result ≡ part_answer (part_of MultiArrayUnderlying words.now pairs.now text.now) }
+pub fn multi_array_underlying_at(words: &[u32], pairs: &[u32], text: &[u8]) -> Result<Span, Refusal>
+    ensures { result ≡ part_of MultiArrayUnderlying words.now pairs.now text.now }
 {
     part_in(words, pairs, text, Wanted::OfMultiArray)
 }
@@ -152,8 +143,8 @@ pub fn multi_array_underlying<'a>(words: &'a [u32], pairs: &[u32], text: &[u8]) 
 }
 
 // `BoxUnderlying`: where it stands, and its words
-pub fn box_underlying_at(words: &[u32], pairs: &[u32], text: &[u8]) -> PartAnswer
-    ensures { result ≡ part_answer (part_of BoxUnderlying words.now pairs.now text.now) }
+pub fn box_underlying_at(words: &[u32], pairs: &[u32], text: &[u8]) -> Result<Span, Refusal>
+    ensures { result ≡ part_of BoxUnderlying words.now pairs.now text.now }
 {
     part_in(words, pairs, text, Wanted::OfBox)
 }
@@ -165,8 +156,12 @@ pub fn box_underlying<'a>(words: &'a [u32], pairs: &[u32], text: &[u8]) -> &'a [
 }
 
 // `ObjectOrPointerUnderlying`: where it stands, and its words
-pub fn object_or_pointer_underlying_at(words: &[u32], pairs: &[u32], text: &[u8]) -> PartAnswer
-    ensures { result ≡ part_answer (part_of ObjectOrPointerUnderlying words.now pairs.now text.now) }
+pub fn object_or_pointer_underlying_at(
+    words: &[u32],
+    pairs: &[u32],
+    text: &[u8],
+) -> Result<Span, Refusal>
+    ensures { result ≡ part_of ObjectOrPointerUnderlying words.now pairs.now text.now }
 {
     part_in(words, pairs, text, Wanted::OfPointer)
 }
@@ -178,8 +173,8 @@ pub fn object_or_pointer_underlying<'a>(words: &'a [u32], pairs: &[u32], text: &
 }
 
 // `RcUnderlying`: where it stands, and its words
-pub fn rc_underlying_at(words: &[u32], pairs: &[u32], text: &[u8]) -> PartAnswer
-    ensures { result ≡ part_answer (part_of RcUnderlying words.now pairs.now text.now) }
+pub fn rc_underlying_at(words: &[u32], pairs: &[u32], text: &[u8]) -> Result<Span, Refusal>
+    ensures { result ≡ part_of RcUnderlying words.now pairs.now text.now }
 {
     part_in(words, pairs, text, Wanted::OfRc)
 }
@@ -191,8 +186,8 @@ pub fn rc_underlying<'a>(words: &'a [u32], pairs: &[u32], text: &[u8]) -> &'a [u
 }
 
 // `BoxDynUnderlying`: where it stands, and its words
-pub fn box_dyn_underlying_at(words: &[u32], pairs: &[u32], text: &[u8]) -> PartAnswer
-    ensures { result ≡ part_answer (part_of BoxDynUnderlying words.now pairs.now text.now) }
+pub fn box_dyn_underlying_at(words: &[u32], pairs: &[u32], text: &[u8]) -> Result<Span, Refusal>
+    ensures { result ≡ part_of BoxDynUnderlying words.now pairs.now text.now }
 {
     part_in(words, pairs, text, Wanted::OfBoxDyn)
 }
@@ -204,8 +199,12 @@ pub fn box_dyn_underlying<'a>(words: &'a [u32], pairs: &[u32], text: &[u8]) -> &
 }
 
 // `GetBuiltinCollectionElement`: where it stands, and its words
-pub fn get_builtin_collection_element_at(words: &[u32], pairs: &[u32], text: &[u8]) -> PartAnswer
-    ensures { result ≡ part_answer (part_of GetBuiltinCollectionElement words.now pairs.now text.now) }
+pub fn get_builtin_collection_element_at(
+    words: &[u32],
+    pairs: &[u32],
+    text: &[u8],
+) -> Result<Span, Refusal>
+    ensures { result ≡ part_of GetBuiltinCollectionElement words.now pairs.now text.now }
 {
     part_in(words, pairs, text, Wanted::OfCollection)
 }
@@ -217,8 +216,8 @@ pub fn get_builtin_collection_element<'a>(words: &'a [u32], pairs: &[u32], text:
 }
 
 // `ExtractMaybePlacebo`: where it stands, and its words
-pub fn extract_maybe_placebo_at(words: &[u32], pairs: &[u32], text: &[u8]) -> PartAnswer
-    ensures { result ≡ part_answer (part_of ExtractMaybePlacebo words.now pairs.now text.now) }
+pub fn extract_maybe_placebo_at(words: &[u32], pairs: &[u32], text: &[u8]) -> Result<Span, Refusal>
+    ensures { result ≡ part_of ExtractMaybePlacebo words.now pairs.now text.now }
 {
     part_in(words, pairs, text, Wanted::OfPlacebo)
 }
@@ -234,8 +233,8 @@ pub fn extract_maybe_uninit_array_element_at(
     words: &[u32],
     pairs: &[u32],
     text: &[u8],
-) -> PartAnswer
-    ensures { result ≡ part_answer (part_of ExtractMaybeUninitArrayElement words.now pairs.now text.now) }
+) -> Result<Span, Refusal>
+    ensures { result ≡ part_of ExtractMaybeUninitArrayElement words.now pairs.now text.now }
 {
     part_in(words, pairs, text, Wanted::OfUninitArray)
 }

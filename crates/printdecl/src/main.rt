@@ -4,35 +4,10 @@
 // 0: a refusal is no failure, since it was printed.
 #![tactic(auto)]
 
-ghost use Rattle.printdecl.specs.Reading.{Within};
-
-use std::io::Read;
 use std::process::ExitCode;
 
 // One byte more than the longest file that a header can describe: of a longer one no more is needed (`long-file`, in file's proofs).
 const MOST_READ: usize = 57357;
-
-// What came of reading: how many bytes there were until the input ended or the buffer was full, or that a read failed.
-#[derive(Clone, Copy)]
-enum Input {
-    Bytes(usize),
-    Failed,
-}
-
-// A read that fails is told from the end of the input, so that what came before it is not taken for a file.
-fn read_input(input: &mut impl Read, buf: &mut [u8]) -> Input
-    ensures { Within result buf.new }
-{
-    let mut done = 0;
-    while done < buf.len() {
-        match input.read(&mut buf[done..]) {
-            Ok(0) => return Input::Bytes(done),
-            Ok(more) => done += more,
-            Err(_) => return Input::Failed,
-        }
-    }
-    Input::Bytes(done)
-}
 
 // Says what failed. The status tells it too, so nothing is lost where this cannot be written.
 fn say(rt: &impl Eprint, what: &str) -> ExitCode {
@@ -52,8 +27,9 @@ fn answer(rt: &(impl Print + Eprint), file: &[u8]) -> ExitCode {
 
 fn main(rt: HostRuntime) -> ExitCode {
     let mut bytes = [0u8; MOST_READ];
-    match read_input(&mut rt.stdin(), &mut bytes) {
-        Input::Bytes(n) => answer(&rt, &bytes[..n]),
-        Input::Failed => say(&rt, "printdecl: cannot read the input"),
+    // A read that fails is told from the end of the input, so that what came before it is not taken for a file.
+    match file::read_bytes(&mut rt.stdin(), &mut bytes) {
+        Ok(n) => answer(&rt, &bytes[..n]),
+        Err(_) => say(&rt, "printdecl: cannot read the input"),
     }
 }

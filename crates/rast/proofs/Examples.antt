@@ -1,7 +1,7 @@
 -- Worked examples of document 01: types with their text, and whether they are sound. One list, and one claim for all of it, by computation.
+use Rattle.std.specs.Prelude.{Some, None}
 use Prim.Native.String.{String}
 use Rattle.std.proofs.Common.{◌≡◌, Bool, true, false, List, [], ◌∷◌, map, refl}
-use mathlib.Core.Option.{some, none}
 use Rattle.rast.specs.Bytes.{Bytes, ascii, same, each, among}
 use Rattle.rast.specs.ToString.{Path-to_string, Primitive-to_string, size_text, Type-to_string}
 use Rattle.rast.specs.Sound.{is_word_byte, excluded, is_word, sound_name, sound_size, sound_names, is_global, sound_path, is_intersection, is_named, is_empty, sound}
@@ -36,9 +36,9 @@ examples =
     ∷ (BorrowedMut (DynType (named "mute")), "&mut dyn mute", true)
     ∷ (Borrowed (ImplType (named "mut")), "&impl mut", false)
     -- arrays
-    ∷ (Array u8 none, "[u8]", true)
-    ∷ (Array (IntersectionType u8 bool) (some (ascii "16")), "[u8 + bool; 16]", true)
-    ∷ (Array u8 (some (ascii "")), "[u8; ]", false)
+    ∷ (Array u8 None, "[u8]", true)
+    ∷ (Array (IntersectionType u8 bool) (Some (ascii "16")), "[u8 + bool; 16]", true)
+    ∷ (Array u8 (Some (ascii "")), "[u8; ]", false)
     -- paths and lists
     ∷ (TypeApp (TypeFromPath (MSels Global (ascii "std" ∷ ascii "rc" ∷ ascii "Rc" ∷ []))) (cons (TupleType (cons u8 (cons bool nil))) nil), "::std::rc::Rc<(u8, bool)>", true)
     ∷ (FnType (cons (TypeFromPath Crate) (cons (TypeFromPath Self) nil)) (IntersectionType u8 bool), "::std::ops::Fn(crate, Self) -> u8 + bool", false)

@@ -1,8 +1,8 @@
 -- A parser of types: a machine with a stack that takes one byte at a time, so that it needs no fuel and no lookahead.
 -- It gives back the type whose text it is fed (`ParserLaws`). What it makes of a text that no sound type has is left open.
+use Rattle.std.specs.Prelude.{Option, Some, None}
 use Rattle.std.proofs.Common.{ℕ, Bool, cond, eqb, List, [], ◌∷◌, ◌++◌}
 use Prim.Native.Char.{Char, code}
-use mathlib.Core.Option.{Option, some, none}
 use Rattle.rast.specs.Bytes.{Bytes, ascii, same}
 use Rattle.rast.specs.Sound.{is_word_byte}
 use Rattle.rast.specs.Tree.{Path, Global, Crate, Self, PMemberSelect, PrimitiveTy, U8, U16, U32, U64, U128, I8, I16, I32, I64, I128, USIZE, Bool·, Ty, Tys, Primitive, TIdentifier, TypeFromPath, TypeApp, Borrowed, BorrowedMut, ImplType, DynType, TupleType, FnType, IntersectionType, Array, nil, cons}
@@ -50,8 +50,8 @@ find x (w ∷ ws) = cond (same x w.0) w.1 (find x ws)
 
 unfoldable pub meaning : Option (Path Bytes) → Bytes → Word
 unfolding find keywords
-meaning none x = find x keywords
-meaning (some p) x = name
+meaning None x = find x keywords
+meaning (Some p) x = name
 
 unfoldable pub leaf : Word → Bytes → Ty Bytes
 leaf (primitive p) x = Primitive p
@@ -62,8 +62,8 @@ leaf name x = TIdentifier x
 -- the type that ends in the word
 unfoldable pub ended : Option (Path Bytes) → Bytes → Ty Bytes
 unfolding leaf find keywords
-ended none x = leaf (find x keywords) x
-ended (some p) x = TypeFromPath (PMemberSelect p x)
+ended None x = leaf (find x keywords) x
+ended (Some p) x = TypeFromPath (PMemberSelect p x)
 
 rooted : Word → Path Bytes
 rooted (primitive p) = Global
@@ -74,13 +74,13 @@ rooted name = Global
 -- the path that a colon behind the word goes on from
 unfoldable pub further : Option (Path Bytes) → Bytes → Path Bytes
 unfolding rooted find keywords
-further none x = rooted (find x keywords)
-further (some p) x = PMemberSelect p x
+further None x = rooted (find x keywords)
+further (Some p) x = PMemberSelect p x
 
 -- the path that a colon with no word before it goes on from: the first of two begins at `Global`
 colon : Option (Path Bytes) → Path Bytes
-colon none = Global
-colon (some p) = p
+colon None = Global
+colon (Some p) = p
 
 -- ---- the machine
 
@@ -106,7 +106,7 @@ pub data State : Type 0 where
   fail : State
 
 abbrev pub want : List Prefix → List Frame → State
-want ps s = word [] none ps s
+want ps s = word [] None ps s
 
 -- an opened list
 abbrev pub begin : Open → List Prefix → List Frame → State
@@ -134,7 +134,7 @@ unfolding closed
 closing b t [] = over t
 closing b t (plus l ∷ s) = closing b (IntersectionType l t) s
 closing b t (list o ps k ∷ s) = cond (is "," b) (want [] (list o ps (λ ts. k (cons t ts)) ∷ s)) (closed o (k (cons t nil)) ps s)
-closing b t (array ps ∷ s) = cond (is ";" b) (sizing [] t ps s) (have (Array t none) ps s)
+closing b t (array ps ∷ s) = cond (is ";" b) (sizing [] t ps s) (have (Array t None) ps s)
 
 -- a type, and the byte behind it: after a space a `+` may follow
 unfoldable pub after : ℕ → Ty Bytes → List Frame → State
@@ -154,7 +154,7 @@ ending : ℕ → Option (Path Bytes) → Bytes → List Prefix → List Frame �
 unfolding spaced meaning ended further closing
 ending b e x ps s =
     cond (is " " b) (spaced (meaning e x) (ended e x) ps s)
-    (cond (is ":" b) (word [] (some (further e x)) ps s)
+    (cond (is ":" b) (word [] (Some (further e x)) ps s)
     (cond (is "<" b) (begin (args (ended e x)) ps s)
     (cond (is "(" b) (begin fn ps s)
     (closing b (wrap ps (ended e x)) s))))
@@ -164,7 +164,7 @@ opening : ℕ → Option (Path Bytes) → List Prefix → List Frame → State
 unfolding colon shut
 opening b e ps s =
     cond (is " " b) (word [] e ps s)
-    (cond (is ":" b) (word [] (some (colon e)) ps s)
+    (cond (is ":" b) (word [] (Some (colon e)) ps s)
     (cond (is "&" b) (want (amp ∷ ps) s)
     (cond (is "(" b) (begin tuple ps s)
     (cond (is "[" b) (want [] (array ps ∷ s))
@@ -177,7 +177,7 @@ step (word [] e ps s) b = cond (is_word_byte b) (word (b ∷ []) e ps s) (openin
 step (word (x ∷ xs) e ps s) b = cond (is_word_byte b) (word (x ∷ xs ++ (b ∷ [])) e ps s) (ending b e (x ∷ xs) ps s)
 step (have t ps s) b = cond (is "+" b) (want [] (plus (wrap ps t) ∷ s)) (after b (wrap ps t) s)
 step (arrow ts ps s) b = cond (is ">" b) (want (ret ts ∷ ps) s) (arrow ts ps s)
-step (sizing x t ps s) b = cond (is_word_byte b) (sizing (x ++ (b ∷ [])) t ps s) (cond (is "]" b) (have (Array t (some x)) ps s) (sizing x t ps s))
+step (sizing x t ps s) b = cond (is_word_byte b) (sizing (x ++ (b ∷ [])) t ps s) (cond (is "]" b) (have (Array t (Some x)) ps s) (sizing x t ps s))
 step (over t) b = over t
 step fail b = fail
 
@@ -186,12 +186,12 @@ run [] q = q
 run (b ∷ bs) q = run bs (step q b)
 
 unfoldable pub result : State → Option (Ty Bytes)
-result (word x e ps s) = none
-result (have t ps s) = none
-result (arrow ts ps s) = none
-result (sizing x t ps s) = none
-result (over t) = some t
-result fail = none
+result (word x e ps s) = None
+result (have t ps s) = None
+result (arrow ts ps s) = None
+result (sizing x t ps s) = None
+result (over t) = Some t
+result fail = None
 
 -- the type that has the text; the `;` ends its last type
 unfoldable pub parse : Bytes → Option (Ty Bytes)

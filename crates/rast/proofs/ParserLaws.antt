@@ -1,7 +1,7 @@
 -- The parser gives back the type whose text it is fed, with every wrapper gone.
+use Rattle.std.specs.Prelude.{Option, Some, None}
 use Rattle.std.proofs.Common.{◌≡◌, ℕ, Bool, true, false, cond, not, T, List, [], ◌∷◌, ◌++◌, map, refl, ap, ◌∙◌, append_assoc, append-nil}
 use Prim.Native.Char.{code}
-use mathlib.Core.Option.{Option, some, none}
 use Rattle.rast.specs.Bytes.{Bytes, ascii, ◌and◌, ◌or◌, same, each, among}
 use Rattle.rast.specs.ToString.{Path-to_string, Primitive-to_string, size_text, Type-to_string, arguments_text, comma_text, after_text}
 use Rattle.rast.specs.Sound.{bare, bares, within, is_word_start, is_word_byte, excluded, is_word, sound_name, sound_size, sound_names, is_global, sound_path, is_intersection, is_named, is_empty, sound, sounds}
@@ -82,7 +82,7 @@ word_bytes (b ∷ x) h = wider (is_word_start b) (within 48 57 b) (each is_word_
     wider true b c h = h
     wider false b c h = absurd h
 
-size-bytes : (x : Bytes) → T (sound_size (some x)) → T (each is_word_byte x)
+size-bytes : (x : Bytes) → T (sound_size (Some x)) → T (each is_word_byte x)
 unfolding sound_size each
 size-bytes [] h = absurd h
 size-bytes (b ∷ x) h = h
@@ -134,7 +134,7 @@ arguments-begin (b ∷ x) e ps s n = refl
 
 -- a path goes on behind a word
 colons-behind-word : (x : Bytes) (e : Option (Path Bytes)) (ps : List Prefix) (s : List Frame) (r : Bytes) → T (non_empty x)
-    → run (ascii "::" ++ r) (word x e ps s) ≡ run r (word [] (some (further e x)) ps s)
+    → run (ascii "::" ++ r) (word x e ps s) ≡ run r (word [] (Some (further e x)) ps s)
 unfolding non_empty run step
 colons-behind-word [] e ps s r n = absurd n
 colons-behind-word (b ∷ x) e ps s r n = refl
@@ -164,11 +164,11 @@ word-leads : (x : Bytes) (w : Word) → T (is_word x) → find x keywords ≡ w 
 unfolding meaning ended
 word-leads x w h e n = record {
   last = x;
-  before = none;
+  before = None;
   full = word-non_empty x h;
   plainly = rw e n;
   ends = rw e;
-  reach = λ ps s r. word-takes-all x none ps s r (word_bytes x h);
+  reach = λ ps s r. word-takes-all x None ps s r (word_bytes x h);
 }
 
 name-leads : (x : Bytes) → T (sound_name x) → Leads x (TIdentifier x)
@@ -196,7 +196,7 @@ primitive-leads p = let k = primitive-word p in word-leads (Primitive-to_string 
 
 -- a path's text and the next `::` lead to the next name
 colons-behind-path : (p : Path Bytes) → T (sound_names p) → (ps : List Prefix) (s : List Frame) (r : Bytes)
-    → run (Path-to_string p ++ (ascii "::" ++ r)) (want ps s) ≡ run r (word [] (some p) ps s)
+    → run (Path-to_string p ++ (ascii "::" ++ r)) (want ps s) ≡ run r (word [] (Some p) ps s)
 unfolding sound_names Path-to_string run step
 colons-behind-path Global h ps s r = refl
 colons-behind-path Crate h ps s r = refl
@@ -204,7 +204,7 @@ colons-behind-path Self h ps s r = refl
 colons-behind-path (PMemberSelect p x) h ps s r =
     let k = and_both (sound_names p) (sound_name x) h in
     let m = sound-name-is-name x k.1 in
-    simp append_assoc (colons-behind-path p k.0 ps s _ ∙ word-takes-all x (some p) ps s _ (word_bytes x m.0) ∙ colons-behind-word x (some p) ps s r (word-non_empty x m.0))
+    simp append_assoc (colons-behind-path p k.0 ps s _ ∙ word-takes-all x (Some p) ps s _ (word_bytes x m.0) ∙ colons-behind-word x (Some p) ps s r (word-non_empty x m.0))
 
 path-leads : (p : Path Bytes) → T (sound_path p) → Leads (Path-to_string p) (TypeFromPath p)
 unfolding sound_path is_global sound_names Path-to_string is_word each is_word_byte ended plain meaning
@@ -216,11 +216,11 @@ path-leads (PMemberSelect p x) h =
     let m = sound-name-is-name x k.1 in
     record {
       last = x;
-      before = some p;
+      before = Some p;
       full = word-non_empty x m.0;
       plainly = tt;
       ends = refl;
-      reach = λ ps s r. simp append_assoc (colons-behind-path p k.0 ps s _ ∙ word-takes-all x (some p) ps s r (word_bytes x m.0));
+      reach = λ ps s r. simp append_assoc (colons-behind-path p k.0 ps s _ ∙ word-takes-all x (Some p) ps s r (word_bytes x m.0));
     }
 
 base-leads : (b : Ty Bytes) → T (is_named b) → T (sound b) → Leads (Type-to_string b) (bare b)
@@ -290,15 +290,15 @@ dyn-reads n f = record { go = λ c ps s r h. f.go c (dyn ∷ ps) s r n }
 
 array-reads : {x : Bytes} {t : Ty Bytes} {i : Bool} (z : Option Bytes) → T (sound_size z) → Reads x t i → Reads (ascii "[" ++ x ++ size_text z ++ ascii "]") (Array t z) false
 unfolding size_text run step fits byte
-array-reads {x} {t} none h f = record {
+array-reads {x} {t} None h f = record {
   go = λ c ps s r g.
       let e : x ++ ascii "" ++ ascii "]" ++ (byte c ∷ r) ≡ x ++ (code "]" ∷ (byte c ∷ r)) = simp (append-nil, append_assoc) in
-      ap (λ l. run l (want [] (array ps ∷ s))) e ∙ f.go bracket [] (array ps ∷ s) (byte c ∷ r) tt ∙ ap (run r) (type-ends-at-mark c (Array t none) ps s);
+      ap (λ l. run l (want [] (array ps ∷ s))) e ∙ f.go bracket [] (array ps ∷ s) (byte c ∷ r) tt ∙ ap (run r) (type-ends-at-mark c (Array t None) ps s);
 }
-array-reads {x} {t} (some z) h f = record {
+array-reads {x} {t} (Some z) h f = record {
   go = λ c ps s r g.
       let e : x ++ (ascii "; " ++ z) ++ ascii "]" ++ (byte c ∷ r) ≡ x ++ (ascii "; " ++ (z ++ (ascii "]" ++ (byte c ∷ r)))) = simp append_assoc in
-      ap (λ l. run l (want [] (array ps ∷ s))) e ∙ f.go semi [] (array ps ∷ s) _ tt ∙ size-takes-all z t ps s _ (size-bytes z h) ∙ ap (run r) (type-ends-at-mark c (Array t (some z)) ps s);
+      ap (λ l. run l (want [] (array ps ∷ s))) e ∙ f.go semi [] (array ps ∷ s) _ tt ∙ size-takes-all z t ps s _ (size-bytes z h) ∙ ap (run r) (type-ends-at-mark c (Array t (Some z)) ps s);
 }
 
 -- a mark that is no space ends the right side of a `+`, and so the whole
@@ -442,6 +442,6 @@ mutual
   lists (cons t ts) h = let k = and_both _ _ h in items ts (reads t k.0) (lists ts k.1)
 
 -- the parser gives back a sound type, rid of its wrappers, from its text
-pub parse-text : (t : Ty Bytes) → T (sound t) → parse (Type-to_string t) ≡ some (bare t)
+pub parse-text : (t : Ty Bytes) → T (sound t) → parse (Type-to_string t) ≡ Some (bare t)
 unfolding parse ascii byte fits after wrap
 parse-text t h = ap result ((reads t h).go semi [] [] [] tt)

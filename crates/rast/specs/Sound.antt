@@ -1,6 +1,5 @@
 -- Document 01's "sound": no two such types that differ, wrappers aside, have the same text. It is judged after every wrapper has given way to its display.
-use Rattle.std.specs.Prelude.{ℕ, Bool, true, false, not, List, [], ◌∷◌, nat_eq, nat_le}
-use Rattle.std.proofs.Math.Option.{Option, some, none}
+use Rattle.std.specs.Prelude.{Option, Some, None, ℕ, Bool, true, false, not, List, [], ◌∷◌, nat_eq, nat_le}
 use Rattle.rast.specs.Bytes.{Bytes, ascii, ◌and◌, ◌or◌, each, among}
 use Rattle.rast.specs.Tree.{Path, Global, Crate, Self, PMemberSelect, Ty, Tys, Primitive, TIdentifier, TypeFromPath, TypeApp, Borrowed, BorrowedMut, ImplType, DynType, TupleType, FnType, IntersectionType, Array, TSynonym, TMetaData, nil, cons}
 
@@ -66,9 +65,9 @@ sound_name x = is_word x and not (among x excluded)
 
 -- an array size: one or more letters, digits, underscores
 unfoldable pub sound_size : Option Bytes → Bool
-sound_size none = true
-sound_size (some []) = false
-sound_size (some (x ∷ xs)) = is_word_byte x and each is_word_byte xs
+sound_size None = true
+sound_size (Some []) = false
+sound_size (Some (x ∷ xs)) = is_word_byte x and each is_word_byte xs
 
 -- ---- paths
 

@@ -1,6 +1,5 @@
 -- The text of a path and of a type: `Path.ToString`, `Type.ToString`, `SeqToString`. The source's indent shows in neither and is left out.
-use Rattle.std.specs.Prelude.{◌++◌}
-use Rattle.std.proofs.Math.Option.{Option, some, none}
+use Rattle.std.specs.Prelude.{Option, Some, None, ◌++◌}
 use Rattle.rast.specs.Bytes.{Bytes, ascii}
 use Rattle.rast.specs.Tree.{Path, Global, Crate, Self, PMemberSelect, PrimitiveTy, U8, U16, U32, U64, U128, I8, I16, I32, I64, I128, USIZE, Bool·, Ty, Tys, Primitive, TIdentifier, TypeFromPath, TypeApp, Borrowed, BorrowedMut, ImplType, DynType, TupleType, FnType, IntersectionType, Array, TSynonym, TMetaData, nil, cons}
 
@@ -28,8 +27,8 @@ Primitive-to_string Bool· = ascii "bool"
 
 -- `if size.Some? then "; " + size.value else ""`
 unfoldable pub size_text : Option Bytes → Bytes
-size_text none = ascii ""
-size_text (some size) = ascii "; " ++ size
+size_text None = ascii ""
+size_text (Some size) = ascii "; " ++ size
 
 -- `Type.ToString`
 unfoldable mutual

@@ -1,6 +1,5 @@
 -- RAST's datatypes `Path` and `Type`. They are over the type N of names: name numbers where a tree is rebuilt, bytes where it is printed.
-use Rattle.std.specs.Prelude.{ℕ, suc, Bool, List, [], ◌∷◌}
-use Rattle.std.proofs.Math.Option.{Option}
+use Rattle.std.specs.Prelude.{Option, ℕ, suc, Bool, List, [], ◌∷◌}
 
 -- `Path`
 pub data Path (N : Type 0) : Type 0 where

@@ -1,4 +1,5 @@
 -- What a call that rebuilds has written is an encoding that is accepted, and holds the rebuilt tree.
+use Rattle.std.specs.Prelude.{Ok}
 use Prim.Native.Nat.{ℕ, ◌≤◌}
 use mathlib.Core.Path.{◌≡◌, ap, sym, ◌∙◌, subst}
 use mathlib.Core.List.{List, [], ◌∷◌, map}
@@ -7,8 +8,7 @@ use lib.ListN.{length}
 use Rattle.rast.specs.Bytes.{Bytes}
 use Rattle.rast.specs.Tree.{Ty}
 use Rattle.encoding.specs.Words.{max_depth}
-use Rattle.encoding.specs.declared.Check.TheVariants.{Passed}
-use Rattle.encoding.specs.Refusals.{given, unless}
+use Rattle.encoding.specs.Refusals.{unless}
 use Rattle.encoding.specs.Reading.{whole}
 use Rattle.encoding.specs.Tables.{check_tables, name_count}
 use Rattle.encoding.specs.Forms.{present}
@@ -40,14 +40,14 @@ use Rattle.rebuild_declaration.proofs.Pieces.{top-least, replaced-pieces, declar
 use Rattle.rebuild_calls.specs.ReadBack.{HoldsType, HoldsDeclaration, TypeReadsBack, DeclarationReadsBack}
 
 -- the tables of an encoding that is rebuilt pass
-tables-pass : (words rules pairs : List ℕ) (text : Bytes) → check_all words rules pairs text ≡ Passed → check_tables words pairs text ≡ Passed
+tables-pass : (words rules pairs : List ℕ) (text : Bytes) → check_all words rules pairs text ≡ Ok tt → check_tables words pairs text ≡ Ok tt
 tables-pass words rules pairs text e = sym (check-tables words rules pairs text (all-passed words rules pairs text e).2) ∙ e
 
 -- ---- types
 
 -- a type that was rebuilt within the limits
 pub type-read-back : (words pairs : List ℕ) (text : Bytes) (rules out : List ℕ) {b : RebuiltWords}
-    → type_rebuilt words pairs text rules ≡ given b → b.top ≤ room_of out → b.deep ≤ max_depth → HoldsType words pairs text rules b.words
+    → type_rebuilt words pairs text rules ≡ Ok b → b.top ≤ room_of out → b.deep ≤ max_depth → HoldsType words pairs text rules b.words
 unfolding type_rebuilt tree_of unless
 type-read-back words pairs text rules out {b} e l k =
     let r = ruled-given (λ rs. laid_type (mapping_of pairs text rs)) (check_all words rules pairs text) (whole (length words) (tree_at words pairs 0)) (rules_of rules pairs text) e in
@@ -55,7 +55,7 @@ type-read-back words pairs text rules out {b} e l k =
     let m = mapping_of pairs text r.list in
     let u = Replace m t in
     let p = tables-pass words rules pairs text r.passed in
-    let g = given-whole Passed (length words) (tree_at words pairs 0) r.held in
+    let g = given-whole (Ok tt) (length words) (tree_at words pairs 0) r.held in
     let known = mapped-names rules pairs text r.listed t (type-names (name_count pairs) words max_depth 0 t (length words) g.1) in
     let within : depth u ≤ max_depth = subst (λ (x : RebuiltWords). x.deep ≤ max_depth) r.made k in
     let shallow : word_depth u ≤ max_depth = omega (arith, within, same-depth u) in
@@ -94,7 +94,7 @@ none-deeper deep (type a t ∷ ps) l = (omega (arith, l, same-depth t), none-dee
 
 -- a declaration that was rebuilt within the limits
 pub declaration-read-back : (words pairs : List ℕ) (text : Bytes) (rules out : List ℕ) {b : RebuiltWords}
-    → declaration_rebuilt words pairs text rules ≡ given b → b.top ≤ room_of out → b.deep ≤ max_depth → HoldsDeclaration words pairs text rules b.words
+    → declaration_rebuilt words pairs text rules ≡ Ok b → b.top ≤ room_of out → b.deep ≤ max_depth → HoldsDeclaration words pairs text rules b.words
 unfolding declaration_rebuilt numbered_of unless declaration_tokens
 declaration-read-back words pairs text rules out {b} e l k =
     let r = ruled-given (λ rs. laid_declaration (mapping_of pairs text rs)) (check_all words rules pairs text) (whole (length words) (declaration_in words pairs)) (rules_of rules pairs text) e in
@@ -102,7 +102,7 @@ declaration-read-back words pairs text rules out {b} e l k =
     let m = mapping_of pairs text r.list in
     let u = ReplaceModDecl m d in
     let p = tables-pass words rules pairs text r.passed in
-    let g = given-whole Passed (length words) (declaration_in words pairs) r.held in
+    let g = given-whole (Ok tt) (length words) (declaration_in words pairs) r.held in
     let each = each-piece words pairs (NameBelow (name_count pairs)) (λ t. NamesBelow (name_count pairs) (tokens t)) (λ k h. h) (λ p t n i. type-names (name_count pairs) words max_depth p t n i) 0 g.1 in
     let known : NamesBelow (name_count pairs) (declaration_tokens present u) = rw (replaced-pieces m d) (rebuilt-names (name_count pairs) (Replace m) (mapped-names rules pairs text r.listed) (pieces present d) each) in
     let within : deepest_piece (pieces present u) ≤ max_depth = subst (λ (x : RebuiltWords). x.deep ≤ max_depth) r.made k in

@@ -1,23 +1,20 @@
 -- Where a mapping leaves every type alone that stands in the words of an encoding, as one by no rules does, these come back unaltered.
+use Rattle.encoding.specs.declared.Refusal.{Refusal}
+use Rattle.std.specs.Prelude.{Ok, Result}
 use Prim.Native.Nat.{ℕ}
 use mathlib.Core.Path.{◌≡◌, refl, ap, sym, ◌∙◌, subst}
 use mathlib.Core.List.{List, [], ◌∷◌, map}
 use native.Mathlib.Omega.{arith}
-use borrow.Author.Tests.{eqb-true}
 use mathlib.Core.Bool.{true}
-use lib.Dec.{eqb}
-use lib.ListN.{length, get_or}
+use lib.ListN.{length}
 use Rattle.rast.specs.Bytes.{Bytes}
 use Rattle.rast.specs.Tree.{Ty}
 use Rattle.rast.specs.Declaration.{Declaration}
-use Rattle.encoding.specs.declared.Scan.{Scan}
-use Rattle.encoding.specs.declared.Scan.TheVariants.{At}
-use Rattle.encoding.specs.Refusals.{given, unless}
+use Rattle.encoding.specs.Refusals.{unless}
 use Rattle.encoding.specs.Reading.{Reading, got, read_below, read_word, whole}
 use Rattle.encoding.specs.Scans.{ended}
 use Rattle.encoding.specs.Tables.{check_tables, name_bytes}
 use Rattle.encoding.specs.Declarations.{read_list}
-use Rattle.encoding.proofs.Tables.{impossible}
 use Rattle.encoding.proofs.Answers.{given-whole}
 use Rattle.tree_words.specs.Encode.{encode, words}
 use Rattle.tree_words.specs.Runs.{Run}
@@ -31,7 +28,6 @@ use Rattle.rebuild_spec.proofs.Still.{Kept, still}
 use Rattle.rebuild_rules.specs.Table.{none_stands}
 use Rattle.rebuild_rules.proofs.Lists.{check-tables}
 use Rattle.rebuild_rules.proofs.Nowhere.{none-gives-way}
-use Rattle.rebuild_type.specs.declared.RebuildAnswer.{RebuildAnswer}
 use Rattle.rebuild_type.specs.Laid.{rule_list, mapping, Ruled}
 use Rattle.rebuild_type.specs.Calls.{RebuiltWords, laid_down, laid_type, ruled_by, type_rebuilt}
 use Rattle.rebuild_type.specs.Attempts.{same_words, Fills}
@@ -52,15 +48,9 @@ use Rattle.rebuild_calls.proofs.EachType.{Every, each-type, declaration-deep}
 use Rattle.encoding.specs.Forms.{present}
 
 -- a list of no rules
-no-rules : (pairs : List ℕ) (text : Bytes) → rules_of (0 ∷ []) pairs text ≡ given []
+no-rules : (pairs : List ℕ) (text : Bytes) → rules_of (0 ∷ []) pairs text ≡ Ok []
 unfolding rules_of read_rules read_below read_word read_list whole distinct repeated
 no-rules pairs text = refl
-
--- the list that holds none
-pub none-listed : (rules : List ℕ) → length rules ≡ 1 → eqb (get_or rules 0 0) 0 ≡ true → rules ≡ 0 ∷ []
-none-listed [] l e = impossible (omega (arith, l))
-none-listed (x ∷ []) l e = ap (λ y. y ∷ []) (eqb-true x 0 e)
-none-listed (x ∷ y ∷ ys) l e = impossible (omega (arith, l))
 
 -- ---- types and declarations
 
@@ -102,7 +92,7 @@ module _ (ws pairs : List ℕ) (m : Ty ℕ → Ty ℕ) (stays : (q : ℕ) (t : T
 
 -- so the words are copied
 module _ (ws pairs : List ℕ) (m : Ty ℕ → Ty ℕ) (stays : (q : ℕ) (t : Ty ℕ) → Run ws q (encode t) → m t ≡ t) where
-  pub unaltered-fills : (what : Whole) {o o' : List ℕ} {r : RebuildAnswer} → ended (laid_by what ws pairs m) ≡ At (length ws) → (r, o') ≡ laid_down o (given (same_words ws 0)) → Fills (laid_by what ws pairs m) o o' r
+  pub unaltered-fills : (what : Whole) {o o' : List ℕ} {r : Result ℕ Refusal} → ended (laid_by what ws pairs m) ≡ Ok (length ws) → (r, o') ≡ laid_down o (Ok (same_words ws 0)) → Fills (laid_by what ws pairs m) o o' r
   unaltered-fills AType e h = let t = tree-got AType ws pairs m e in copied-fills (laid_type m) depth t.reads (tree-deep ws pairs 0 t.reads) (type-kept ws pairs m stays t.reads) h
   unaltered-fills ADeclaration e h =
       let d = tree-got ADeclaration ws pairs m e in
@@ -115,30 +105,30 @@ module _ (ws pairs : List ℕ) (text : Bytes) where
   unfolding mapping_of ruled
   none-given q t r = refl
 
-  -- a tree that stays so is given by the words
+  -- a tree that stays so is Ok by the words
   same-given : {A : Type 0} (build : (Ty ℕ → Ty ℕ) → A → RebuiltWords) (deep : A → ℕ) (x : Reading A) {a : A} → (x ≡ got a (length ws) → build (mapping_of pairs text []) a ≡ same_words ws (deep a))
-      → unless (check_tables ws pairs text) (whole (length ws) x) ≡ given a
-      → unless (check_all ws (0 ∷ []) pairs text) (ruled_by (λ rs. build (mapping_of pairs text rs)) (whole (length ws) x) (rules_of (0 ∷ []) pairs text)) ≡ given (same_words ws (deep a))
+      → unless (check_tables ws pairs text) (whole (length ws) x) ≡ Ok a
+      → unless (check_all ws (0 ∷ []) pairs text) (ruled_by (λ rs. build (mapping_of pairs text rs)) (whole (length ws) x) (rules_of (0 ∷ []) pairs text)) ≡ Ok (same_words ws (deep a))
   unfolding unless
   same-given build deep x k e =
       let p = given-whole (check_tables ws pairs text) (length ws) x e in
       rw (check-tables ws (0 ∷ []) pairs text (omega arith), p.0)
-      (both-given (λ rs. build (mapping_of pairs text rs)) [] (length ws) x (rules_of (0 ∷ []) pairs text) p.1 refl (no-rules pairs text) ∙ ap given (k p.1))
+      (both-given (λ rs. build (mapping_of pairs text rs)) [] (length ws) x (rules_of (0 ∷ []) pairs text) p.1 refl (no-rules pairs text) ∙ ap Ok (k p.1))
 
-  pub unaltered : {t : Ty ℕ} → tree_of ws pairs text ≡ given t → type_rebuilt ws pairs text (0 ∷ []) ≡ given (same_words ws (depth t))
+  pub unaltered : {t : Ty ℕ} → tree_of ws pairs text ≡ Ok t → type_rebuilt ws pairs text (0 ∷ []) ≡ Ok (same_words ws (depth t))
   unfolding tree_of type_rebuilt
   unaltered e = same-given laid_type depth (tree_at ws pairs 0) (type-kept ws pairs (mapping_of pairs text []) none-given) e
 
-  pub unaltered-declaration : {d : Declaration ℕ} → unless (check_tables ws pairs text) (whole (length ws) (declaration_in ws pairs)) ≡ given d
-      → declaration_rebuilt ws pairs text (0 ∷ []) ≡ given (same_words ws (deepest_piece (pieces present d)))
+  pub unaltered-declaration : {d : Declaration ℕ} → unless (check_tables ws pairs text) (whole (length ws) (declaration_in ws pairs)) ≡ Ok d
+      → declaration_rebuilt ws pairs text (0 ∷ []) ≡ Ok (same_words ws (deepest_piece (pieces present d)))
   unfolding declaration_rebuilt
   unaltered-declaration e = same-given laid_declaration (λ x. deepest_piece (pieces present x)) (declaration_in ws pairs) (declaration-kept ws pairs (mapping_of pairs text []) none-given) e
 
-  pub copied : (what : Whole) {s : Scan} → s ≡ ended (held_at what ws pairs text) → (o : List ℕ) {rules o' : List ℕ} {r : RebuildAnswer} {n : ℕ} → s ≡ At n → n ≡ length ws → rules ≡ 0 ∷ []
-      → (r, o') ≡ laid_down o (given (same_words ws 0)) → (r, o') ≡ laid_down o (whole_rebuilt what ws pairs text rules)
+  pub copied : (what : Whole) {s : Result ℕ Refusal} → s ≡ ended (held_at what ws pairs text) → (o : List ℕ) {rules o' : List ℕ} {r : Result ℕ Refusal} {n : ℕ} → s ≡ Ok n → n ≡ length ws → rules ≡ 0 ∷ []
+      → (r, o') ≡ laid_down o (Ok (same_words ws 0)) → (r, o') ≡ laid_down o (whole_rebuilt what ws pairs text rules)
   unfolding mapping rule_list
   copied what a o {o' = o'} {r = r} e i k h =
-      let g : rules_of (0 ∷ []) pairs text ≡ given (rule_list (rules_of (0 ∷ []) pairs text)) = rw (no-rules pairs text) refl in
+      let g : rules_of (0 ∷ []) pairs text ≡ Ok (rule_list (rules_of (0 ∷ []) pairs text)) = rw (no-rules pairs text) refl in
       let s : (q : ℕ) (t : Ty ℕ) → Run ws q (encode t) → mapping (0 ∷ []) pairs text t ≡ t = λ q t x. rw (no-rules pairs text) (none-given q t x) in
       let f = unaltered-fills ws pairs (mapping (0 ∷ []) pairs text) s what (laid-ends what ws pairs text a (mapping (0 ∷ []) pairs text) e i) h in
       subst (λ rs. (r, o') ≡ laid_down o (whole_rebuilt what ws pairs text rs)) (sym k) (whole-answered what ws pairs text a (0 ∷ []) o e i g f)

@@ -1,4 +1,5 @@
 -- A type and a declaration alike: where they end, and what the call answers.
+use Rattle.std.specs.Prelude.{Ok, Err, Result, Option}
 use Prim.Native.Nat.{ℕ}
 use mathlib.Core.Path.{◌≡◌, refl, ap, sym, ◌∙◌, subst}
 use mathlib.Core.List.{List}
@@ -8,9 +9,6 @@ use Rattle.rast.specs.Tree.{Ty}
 use Rattle.rast.specs.Declaration.{Declaration}
 use Rattle.encoding.specs.declared.Refusal.{Refusal}
 use Rattle.encoding.specs.declared.Refusal.TheVariants.{LeftOver}
-use Rattle.encoding.specs.declared.Scan.{Scan}
-use Rattle.encoding.specs.declared.Scan.TheVariants.{At, Refused as Halted}
-use Rattle.encoding.specs.Refusals.{given, refused}
 use Rattle.encoding.specs.Reading.{Reading, whole}
 use Rattle.encoding.specs.Scans.{ended, map_reading}
 use Rattle.encoding.proofs.Reading.{scan-stop}
@@ -22,9 +20,6 @@ use Rattle.accept_declaration.specs.Ends.{held_at}
 use Rattle.declaration_walk.proofs.RenamedReading.{declaration-spelled}
 use Rattle.declaration_walk.proofs.Scans.{ended-map, end-got}
 use Rattle.rebuild_type.specs.declared.Attempt.{Attempt}
-use Rattle.rebuild_type.specs.declared.Rebuilt.{Rebuilt}
-use Rattle.rebuild_type.specs.declared.RebuildAnswer.{RebuildAnswer}
-use Rattle.rebuild_type.specs.declared.RebuildAnswer.TheVariants.{Refused}
 use Rattle.rebuild_type.specs.Laid.{Rebuilds, rule_list, mapping}
 use Rattle.rebuild_type.specs.Calls.{RebuiltWords, laid_down, laid_type, ruled_by}
 use Rattle.rebuild_type.specs.Attempts.{LaidRebuilds, Attempted, Fills}
@@ -65,7 +60,7 @@ module _ {what kind : Whole} (e : what ≡ kind) (ws pairs : List ℕ) (m : Ty �
   pub tree-readable : Readable (laid_by what ws pairs m) → Readable (tree_in kind ws pairs)
   tree-readable r = mapped-reads (laid_tree kind m) (tree_in kind ws pairs) (subst Readable laid-kind r)
 
-  pub tree-laid : {limit : ℕ} {s s' : List ℕ} {r : Rebuilt}
+  pub tree-laid : {limit : ℕ} {s s' : List ℕ} {r : Option (ℕ × ℕ × ℕ)}
       → Rebuilds (λ a. (laid_tree kind m a).words) (λ a. (laid_tree kind m a).top) (λ a. (laid_tree kind m a).deep) limit s 0 (tree_in kind ws pairs) s' r → LaidRebuilds limit s (laid_by what ws pairs m) s' r
   tree-laid {limit} {s} {s'} {r} k = subst (λ x. LaidRebuilds limit s x s' r) (sym laid-kind) (laid-mapped (laid_tree kind m) (tree_in kind ws pairs) k)
 
@@ -75,10 +70,10 @@ module _ {what kind : Whole} (e : what ≡ kind) (ws pairs : List ℕ) (m : Ty �
 tree-ends : (what : Whole) (ws pairs : List ℕ) (m : Ty ℕ → Ty ℕ) → ended (laid_by what ws pairs m) ≡ ended (tree_in what ws pairs)
 tree-ends what ws pairs m = ap ended (laid-tree what ws pairs m) ∙ ended-map (laid_tree what m) (tree_in what ws pairs)
 
-pub tree-got : (what : Whole) (ws pairs : List ℕ) (m : Ty ℕ → Ty ℕ) {n : ℕ} → ended (laid_by what ws pairs m) ≡ At n → EndsAt (tree_in what ws pairs) n
+pub tree-got : (what : Whole) (ws pairs : List ℕ) (m : Ty ℕ → Ty ℕ) {n : ℕ} → ended (laid_by what ws pairs m) ≡ Ok n → EndsAt (tree_in what ws pairs) n
 tree-got what ws pairs m e = end-got (tree_in what ws pairs) (tree-ends what ws pairs m) e
 
-pub ended-readable : {A : Type 0} (x : Reading A) {n : ℕ} → ended x ≡ At n → Readable x
+pub ended-readable : {A : Type 0} (x : Reading A) {n : ℕ} → ended x ≡ Ok n → Readable x
 ended-readable x {n} e = let t = end-got x refl e in record { value = t.value; end = n; reads = t.reads }
 
 held-tree : (what : Whole) (ws pairs : List ℕ) (text : Bytes) → ended (held_at what ws pairs text) ≡ ended (tree_in what ws pairs)
@@ -92,34 +87,34 @@ limit_is {x = x} {o = o} {o' = o'} {a = a} e k = subst (λ l. Attempted l x o o'
 
 -- ---- the answers of the call, by what acceptance said
 
-module _ (what : Whole) (ws pairs : List ℕ) (text : Bytes) {s : Scan} (a : s ≡ ended (held_at what ws pairs text)) where
+module _ (what : Whole) (ws pairs : List ℕ) (text : Bytes) {s : Result ℕ Refusal} (a : s ≡ ended (held_at what ws pairs text)) where
   accepts : s ≡ ended (tree_in what ws pairs)
   accepts = a ∙ held-tree what ws pairs text
 
-  pub laid-ends : (m : Ty ℕ → Ty ℕ) {n : ℕ} → s ≡ At n → n ≡ length ws → ended (laid_by what ws pairs m) ≡ At (length ws)
-  laid-ends m e d = tree-ends what ws pairs m ∙ sym accepts ∙ e ∙ ap At d
+  pub laid-ends : (m : Ty ℕ → Ty ℕ) {n : ℕ} → s ≡ Ok n → n ≡ length ws → ended (laid_by what ws pairs m) ≡ Ok (length ws)
+  laid-ends m e d = tree-ends what ws pairs m ∙ sym accepts ∙ e ∙ ap Ok d
 
   module _ (rules o : List ℕ) where
     abbrev build : List Rule → Tree what → RebuiltWords
     build rs = laid_tree what (mapping_of pairs text rs)
 
-    asked : {p : RebuildAnswer × List ℕ} → p ≡ laid_down o (ruled_by build (whole (length ws) (tree_in what ws pairs)) (rules_of rules pairs text)) → p ≡ laid_down o (whole_rebuilt what ws pairs text rules)
+    asked : {p : Result ℕ Refusal × List ℕ} → p ≡ laid_down o (ruled_by build (whole (length ws) (tree_in what ws pairs)) (rules_of rules pairs text)) → p ≡ laid_down o (whole_rebuilt what ws pairs text rules)
     asked e = e ∙ ap (laid_down o) (rebuilt-tree what ws pairs text rules)
 
-    pub whole-stops : {k : Refusal} → s ≡ Halted k → ◌≡◌ {A = RebuildAnswer × List ℕ} (Refused k, o) (laid_down o (whole_rebuilt what ws pairs text rules))
+    pub whole-stops : {k : Refusal} → s ≡ Err k → ◌≡◌ {A = Result ℕ Refusal × List ℕ} (Err k, o) (laid_down o (whole_rebuilt what ws pairs text rules))
     whole-stops e = asked (tree-stops build o (length ws) (tree_in what ws pairs) (rules_of rules pairs text) (scan-stop (tree_in what ws pairs) accepts e))
 
-    module _ {n : ℕ} (e : s ≡ At n) where
+    module _ {n : ℕ} (e : s ≡ Ok n) where
       reads : EndsAt (tree_in what ws pairs) n
       reads = end-got (tree_in what ws pairs) accepts e
 
-      pub whole-over : (n ≡ length ws → ⊥) → ◌≡◌ {A = RebuildAnswer × List ℕ} (Refused LeftOver, o) (laid_down o (whole_rebuilt what ws pairs text rules))
+      pub whole-over : (n ≡ length ws → ⊥) → ◌≡◌ {A = Result ℕ Refusal × List ℕ} (Err LeftOver, o) (laid_down o (whole_rebuilt what ws pairs text rules))
       whole-over d = asked (tree_over build o (length ws) (tree_in what ws pairs) (rules_of rules pairs text) reads.reads d)
 
-      pub whole-refused : {k : Refusal} → n ≡ length ws → rules_of rules pairs text ≡ refused k → ◌≡◌ {A = RebuildAnswer × List ℕ} (Refused k, o) (laid_down o (whole_rebuilt what ws pairs text rules))
+      pub whole-refused : {k : Refusal} → n ≡ length ws → rules_of rules pairs text ≡ Err k → ◌≡◌ {A = Result ℕ Refusal × List ℕ} (Err k, o) (laid_down o (whole_rebuilt what ws pairs text rules))
       whole-refused d c = asked (rules-stop-it build o (length ws) (tree_in what ws pairs) (rules_of rules pairs text) reads.reads d c)
 
-      pub whole-answered : {o' : List ℕ} {r : RebuildAnswer} → n ≡ length ws → rules_of rules pairs text ≡ given (rule_list (rules_of rules pairs text))
+      pub whole-answered : {o' : List ℕ} {r : Result ℕ Refusal} → n ≡ length ws → rules_of rules pairs text ≡ Ok (rule_list (rules_of rules pairs text))
           → Fills (laid_by what ws pairs (mapping rules pairs text)) o o' r → (r, o') ≡ laid_down o (whole_rebuilt what ws pairs text rules)
       unfolding mapping
       whole-answered {o'} {r} d c f =

@@ -1,11 +1,10 @@
 // A type and a declaration rebuilt by rules, into a lent buffer of words.
 #![tactic(auto)]
 
-ghost use Rattle.std.specs.Prelude.{◌≡◌, ◌≤◌, min, true, [], ◌∷◌, length};
+ghost use Rattle.std.specs.Prelude.{Ok, Err, Some, None, false, ◌≡◌, ◌≤◌, min, true, [], ◌∷◌, length};
 ghost use Rattle.encoding.specs.Words.{max_words};
 ghost use Rattle.encoding.specs.Refusals.{unless};
 ghost use Rattle.encoding.specs.Scans.{ended};
-ghost use Rattle.encoding.specs.declared.Scan.TheVariants.{At};
 ghost use Rattle.encoding.specs.Tested.{Good};
 ghost use Rattle.accepted_types.specs.Accepted.{Readable};
 ghost use Rattle.rebuild_spec.specs.Rules.{check_all};
@@ -16,10 +15,9 @@ ghost use Rattle.rebuild_declaration.specs.Calls.{declaration_rebuilt};
 ghost use Rattle.rebuild_calls.specs.Wholes.{laid_by, whole_rebuilt};
 
 use accept_declaration::Whole;
+use encoding::Refusal;
 use encoding::words::MAX_WORDS;
-use encoding::{Check, Refusal, Scan};
-use rebuild_rules::RulesAnswer;
-use rebuild_type::{Attempt, RebuildAnswer, Rebuilt};
+use rebuild_type::Attempt;
 
 // How many words of scratch are tried first, how many then, and up to how many words a tree is tried in these.
 const LITTLE_SCRATCH: usize = 128;
@@ -29,6 +27,7 @@ const MIDDLE_SCRATCH: usize = 512;
 const MIDDLE_TREE: usize = 256;
 
 // The accepted type or declaration, rebuilt to the front of `out`.
+// Kept: no plainer with closures: reading and rebuilding both go by `what`, and so do the clauses of each step between them.
 fn rebuild_whole(
     what: Whole,
     words: &[u32],
@@ -39,7 +38,7 @@ fn rebuild_whole(
     k: usize,
     out: &mut [u32],
     limit: usize,
-) -> Rebuilt
+) -> Option<(usize, usize, usize)>
     requires { Good pairs.now text.now × Ruled rules.now pairs.now text.now table.now k
         × Readable (laid_by what words.now pairs.now (mapping rules.now pairs.now text.now)) × (limit ≤ length out.old) }
     ensures { LaidRebuilds limit out.old
@@ -73,15 +72,11 @@ fn attempt(
 {
     let limit = rebuild_type::room_of(out.len(), scratch.len());
     match rebuild_whole(what, words, pairs, text, rules, table, k, scratch, limit) {
-        Rebuilt::Done {
-            next: _,
-            pos,
-            depth,
-        } => match rebuild_type::finish(scratch, pos, depth, out) {
-            RebuildAnswer::Length(n) => Attempt::Filled(n),
-            RebuildAnswer::Refused(r) => Attempt::Denied(r),
+        Some((_, pos, depth)) => match rebuild_type::finish(scratch, pos, depth, out) {
+            Ok(n) => Attempt::Filled(n),
+            Err(r) => Attempt::Denied(r),
         },
-        Rebuilt::Full => Attempt::NoRoom,
+        None => Attempt::NoRoom,
     }
 }
 
@@ -95,18 +90,18 @@ fn fill_large(
     table: &[u16; 160],
     k: usize,
     out: &mut [u32],
-) -> RebuildAnswer
+) -> Result<usize, Refusal>
     requires { Good pairs.now text.now × Ruled rules.now pairs.now text.now table.now k × (length words.now ≤ max_words)
-        × (ended (laid_by what words.now pairs.now (mapping rules.now pairs.now text.now)) ≡ At (length words.now)) }
+        × (ended (laid_by what words.now pairs.now (mapping rules.now pairs.now text.now)) ≡ Ok (length words.now)) }
     ensures { Fills (laid_by what words.now pairs.now (mapping rules.now pairs.now text.now)) out.old out.new result }
 {
     let mut scratch = [0u32; MAX_WORDS];
     match attempt(what, words, pairs, text, rules, table, k, &mut scratch, out) {
-        Attempt::Filled(n) => RebuildAnswer::Length(n),
-        Attempt::Denied(r) => RebuildAnswer::Refused(r),
+        Attempt::Filled(n) => Ok(n),
+        Attempt::Denied(r) => Err(r),
         Attempt::NoRoom => {
             rebuild_type::clear(out);
-            RebuildAnswer::Refused(Refusal::BufferTooShort)
+            Err(Refusal::BufferTooShort)
         }
     }
 }
@@ -121,9 +116,9 @@ fn fill_more(
     table: &[u16; 160],
     k: usize,
     out: &mut [u32],
-) -> RebuildAnswer
+) -> Result<usize, Refusal>
     requires { Good pairs.now text.now × Ruled rules.now pairs.now text.now table.now k × (length words.now ≤ max_words)
-        × (ended (laid_by what words.now pairs.now (mapping rules.now pairs.now text.now)) ≡ At (length words.now)) }
+        × (ended (laid_by what words.now pairs.now (mapping rules.now pairs.now text.now)) ≡ Ok (length words.now)) }
     ensures { Fills (laid_by what words.now pairs.now (mapping rules.now pairs.now text.now)) out.old out.new result }
 {
     if rebuild_rules::none_stands(rules, pairs, text, table, k, words) {
@@ -134,8 +129,8 @@ fn fill_more(
     }
     let mut scratch = [0u32; MIDDLE_SCRATCH];
     match attempt(what, words, pairs, text, rules, table, k, &mut scratch, out) {
-        Attempt::Filled(n) => RebuildAnswer::Length(n),
-        Attempt::Denied(r) => RebuildAnswer::Refused(r),
+        Attempt::Filled(n) => Ok(n),
+        Attempt::Denied(r) => Err(r),
         Attempt::NoRoom => { fill_large(what, words, pairs, text, rules, table, k, out) },
     }
 }
@@ -151,9 +146,9 @@ fn fill(
     table: &[u16; 160],
     k: usize,
     out: &mut [u32],
-) -> RebuildAnswer
+) -> Result<usize, Refusal>
     requires { Good pairs.now text.now × Ruled rules.now pairs.now text.now table.now k × (length words.now ≤ max_words)
-        × (ended (laid_by what words.now pairs.now (mapping rules.now pairs.now text.now)) ≡ At (length words.now)) }
+        × (ended (laid_by what words.now pairs.now (mapping rules.now pairs.now text.now)) ≡ Ok (length words.now)) }
     ensures { Fills (laid_by what words.now pairs.now (mapping rules.now pairs.now text.now)) out.old out.new result }
 {
     if LITTLE_SCRATCH < words.len() {
@@ -161,13 +156,13 @@ fn fill(
     }
     let mut scratch = [0u32; LITTLE_SCRATCH];
     match attempt(what, words, pairs, text, rules, table, k, &mut scratch, out) {
-        Attempt::Filled(n) => RebuildAnswer::Length(n),
-        Attempt::Denied(r) => RebuildAnswer::Refused(r),
+        Attempt::Filled(n) => Ok(n),
+        Attempt::Denied(r) => Err(r),
         Attempt::NoRoom => {
             // The limit was the caller's, so more scratch would not help.
             if out.len() <= LITTLE_SCRATCH {
                 rebuild_type::clear(out);
-                return RebuildAnswer::Refused(Refusal::BufferTooShort);
+                return Err(Refusal::BufferTooShort);
             }
             fill_more(what, words, pairs, text, rules, table, k, out)
         }
@@ -178,10 +173,7 @@ fn fill(
 fn holds_no_rule(rules: &[u32]) -> bool
     ensures { result ≡ true → rules.now ≡ 0 ∷ [] }
 {
-    if rules.len() != 1 {
-        return false;
-    }
-    rules[0] == 0
+    matches!(rules, [0])
 }
 
 // The tables hold: the tree is read, then the rules, and then the tree is rebuilt. Without rules there is nothing to rebuild.
@@ -192,27 +184,21 @@ fn read_and_fill(
     text: &[u8],
     rules: &[u32],
     out: &mut [u32],
-) -> RebuildAnswer
+) -> Result<usize, Refusal>
     requires { Good pairs.now text.now × (length words.now ≤ max_words) × (length rules.now ≤ max_words) }
     ensures { (result, out.new) ≡ laid_down out.old (whole_rebuilt what words.now pairs.now text.now rules.now) }
 {
-    match accept_declaration::accept(what, words, pairs, text) {
-        Scan::At(end) => {
-            if end != words.len() {
-                return RebuildAnswer::Refused(Refusal::LeftOver);
-            }
-            if holds_no_rule(rules) {
-                return rebuild_type::copy_unaltered(words, out);
-            }
-            // Positions need no more than 16 bits, and a table must be cleared before use.
-            let mut table = [0u16; 160];
-            match rebuild_rules::read_rules(rules, pairs, text, &mut table) {
-                RulesAnswer::Rules(k) => fill(what, words, pairs, text, rules, &table, k, out),
-                RulesAnswer::NoRules(r) => RebuildAnswer::Refused(r),
-            }
-        }
-        Scan::Refused(r) => RebuildAnswer::Refused(r),
+    let end = accept_declaration::accept(what, words, pairs, text)?;
+    if end != words.len() {
+        return Err(Refusal::LeftOver);
     }
+    if holds_no_rule(rules) {
+        return rebuild_type::copy_unaltered(words, out);
+    }
+    // Positions need no more than 16 bits, and a table must be cleared before use.
+    let mut table = [0u16; 160];
+    let k = rebuild_rules::read_rules(rules, pairs, text, &mut table)?;
+    fill(what, words, pairs, text, rules, &table, k, out)
 }
 
 // The tables are tested first, those of the rules with those of the tree.
@@ -223,14 +209,12 @@ fn rebuild_by(
     text: &[u8],
     rules: &[u32],
     out: &mut [u32],
-) -> RebuildAnswer
+) -> Result<usize, Refusal>
     ensures { (result, out.new) ≡ laid_down out.old
         (unless (check_all words.now rules.now pairs.now text.now) (whole_rebuilt what words.now pairs.now text.now rules.now)) }
 {
-    match rebuild_rules::check_all(words, rules, pairs, text) {
-        Check::Passed => read_and_fill(what, words, pairs, text, rules, out),
-        Check::Failed(r) => RebuildAnswer::Refused(r),
-    }
+    rebuild_rules::check_all(words, rules, pairs, text)?;
+    read_and_fill(what, words, pairs, text, rules, out)
 }
 
 // The type that an encoding holds, rebuilt by the rules of a list: `ReplaceMap`. Its words fill the front of `out`.
@@ -240,7 +224,7 @@ pub fn type_rebuild(
     text: &[u8],
     rules: &[u32],
     out: &mut [u32],
-) -> RebuildAnswer
+) -> Result<usize, Refusal>
     ensures { (result, out.new) ≡ laid_down out.old (type_rebuilt words.now pairs.now text.now rules.now) }
 {
     rebuild_by(Whole::AType, words, pairs, text, rules, out)
@@ -253,7 +237,7 @@ pub fn declaration_rebuild(
     text: &[u8],
     rules: &[u32],
     out: &mut [u32],
-) -> RebuildAnswer
+) -> Result<usize, Refusal>
     ensures { (result, out.new) ≡ laid_down out.old (declaration_rebuilt words.now pairs.now text.now rules.now) }
 {
     rebuild_by(Whole::ADeclaration, words, pairs, text, rules, out)

@@ -1,4 +1,5 @@
 -- Laws of the walk that rebuilds a declaration, one step after the other.
+use Rattle.std.specs.Prelude.{Ok, Err, Some, None, Result, Option}
 use Prim.Native.Nat.{ℕ, ◌+◌, ◌-◌, ◌≤◌, ◌<◌, max}
 use mathlib.Core.Path.{◌≡◌, refl, ap, sym, ◌∙◌, subst}
 use mathlib.Core.List.{List, [], ◌∷◌, ◌++◌, map, append-nil}
@@ -23,9 +24,7 @@ use Rattle.rebuild_spec.specs.Replace.{Replace}
 use Rattle.rebuild_spec.specs.Laying.{depth, peak}
 use Rattle.declaration_walk.specs.declared.Walk.{Walk}
 use Rattle.declaration_walk.specs.declared.Next.{Next}
-use Rattle.declaration_walk.specs.declared.Next.TheVariants.{OwnWords, TypeDue, Ended, Halted}
-use Rattle.declaration_walk.specs.declared.Start.{Start}
-use Rattle.declaration_walk.specs.declared.Start.TheVariants.{Begun, NotBegun}
+use Rattle.declaration_walk.specs.declared.Next.TheVariants.{OwnWords, TypeDue, Ended}
 use Rattle.declaration_walk.specs.declared.Role.{Role}
 use Rattle.declaration_walk.specs.Pieces.{Piece, type, own_pieces, pieces}
 use Rattle.declaration_walk.specs.Walks.{ahead, moved, past_type, in_field, FieldNext, field_type, past_field, Stepped, type-due, read_opening, started}
@@ -37,10 +36,6 @@ use Rattle.declaration_walk.proofs.Passes.{bind-at, stepped, begun, not-begun}
 use Rattle.declaration_walk.proofs.Behind.{behind-got, whole-left}
 use Rattle.declaration_walk.proofs.RenamedReading.{declaration-spelled}
 use Rattle.declaration_walk.proofs.Scans.{ended-map}
-use Rattle.rebuild_type.specs.declared.Laying.{Laying}
-use Rattle.rebuild_type.specs.declared.Laying.TheVariants.{To, Over}
-use Rattle.rebuild_type.specs.declared.Rebuilt.{Rebuilt}
-use Rattle.rebuild_type.specs.declared.Rebuilt.TheVariants.{Done, Full}
 use Rattle.rebuild_type.specs.Laid.{Grown, Lays, rebuilt, full, mapping, Ruled, TypeRebuilds}
 use Rattle.rebuild_type.proofs.Growing.{grown-then, grown-nothing, lays-to, lays-over}
 use Rattle.rebuild_type.proofs.Types.{came, filled}
@@ -59,17 +54,17 @@ module _ {m : Ty ℕ → Ty ℕ} {limit p : ℕ} {o : List ℕ} where
       record { fits = omega (arith, c.1); within = l; grown = rw c.0 (grown-nothing o p (omega arith)); deeps = sym c.2 }
 
   -- own words, as they are
-  own-to : (ks : List (Token ℕ)) {b o' : List ℕ} {r : Laying} {q : ℕ} → b ≡ map token_word ks → Lays limit o p b o' r → r ≡ To q → PiecesLaid m limit o p (own_pieces ks) o' q 0
+  own-to : (ks : List (Token ℕ)) {b o' : List ℕ} {r : Option ℕ} {q : ℕ} → b ≡ map token_word ks → Lays limit o p b o' r → r ≡ Some q → PiecesLaid m limit o p (own_pieces ks) o' q 0
   own-to ks e l d =
       let h = lays-to l d in
       let c = own-words m ks in
       record { fits = omega (arith, h.0, h.1.next, c.1, ap length e, length-map ks token_word); within = h.0; grown = rw (c.0, sym e) h.1; deeps = sym c.2 }
 
-  own-over : (ks : List (Token ℕ)) {b o' : List ℕ} {r : Laying} → b ≡ map token_word ks → Lays limit o p b o' r → r ≡ Over → PiecesOver m limit o p (own_pieces ks) o'
+  own-over : (ks : List (Token ℕ)) {b o' : List ℕ} {r : Option ℕ} → b ≡ map token_word ks → Lays limit o p b o' r → r ≡ None → PiecesOver m limit o p (own_pieces ks) o'
   own-over ks e l d = let h = lays-over l d in record { over = omega (arith, h.0, (own-words m ks).1, ap length e, length-map ks token_word); kept = h.1 }
 
   -- a type, rebuilt
-  type-done : (a : Role) {x : Reading (Ty ℕ)} {t : Ty ℕ} {o' : List ℕ} {r : Rebuilt} {e n q d : ℕ} → TypeRebuilds m limit o p x o' r → r ≡ Done n q d → x ≡ got t e → PiecesLaid m limit o p (type a t ∷ []) o' q d × (n ≡ e)
+  type-done : (a : Role) {x : Reading (Ty ℕ)} {t : Ty ℕ} {o' : List ℕ} {r : Option (ℕ × ℕ × ℕ)} {e n q d : ℕ} → TypeRebuilds m limit o p x o' r → r ≡ Some (n, q, d) → x ≡ got t e → PiecesLaid m limit o p (type a t ∷ []) o' q d × (n ≡ e)
   type-done a {t = t} {o' = o'} {q = q} k h e =
       let b = came k h in
       let i : b.value ≡ t = cc (b.reads, e) in
@@ -83,7 +78,7 @@ module _ {m : Ty ℕ → Ty ℕ} {limit p : ℕ} {o : List ℕ} where
         cc (b.reads, e),
       )
 
-  type-over : (a : Role) {x : Reading (Ty ℕ)} {t : Ty ℕ} {o' : List ℕ} {r : Rebuilt} {e : ℕ} → TypeRebuilds m limit o p x o' r → r ≡ Full → x ≡ got t e → PiecesOver m limit o p (type a t ∷ []) o'
+  type-over : (a : Role) {x : Reading (Ty ℕ)} {t : Ty ℕ} {o' : List ℕ} {r : Option (ℕ × ℕ × ℕ)} {e : ℕ} → TypeRebuilds m limit o p x o' r → r ≡ None → x ≡ got t e → PiecesOver m limit o p (type a t ∷ []) o'
   type-over a {t = t} k h e = let f = filled k h e in record { over = omega (arith, f.0, (one_type m a t).1); kept = f.1 }
 
   -- others behind them
@@ -129,8 +124,8 @@ module _ {ws pairs : List ℕ} {text : Bytes} {rules table : List ℕ} {k : ℕ}
   abbrev m : Ty ℕ → Ty ℕ
   m = mapping rules pairs text
 
-  module _ {bound : ℕ} {r : Next} (b : bound ≡ name_count pairs) (h : Stepped bound ws w r) where
-    pub own-laid : {w' : Walk} → r ≡ OwnWords w' → OwnLaid ws pairs w w'
+  module _ {bound : ℕ} {r : Result Next Refusal} (b : bound ≡ name_count pairs) (h : Stepped bound ws w r) where
+    pub own-laid : {w' : Walk} → r ≡ Ok (OwnWords w') → OwnLaid ws pairs w w'
     own-laid {w'} e =
         let t = own-step (name_count pairs) ws (λ x. x) (tree_at ws pairs) w (stepped ws pairs b e h) in
         let v = run-taken (w'.place - w.place) t.tokens t.run (omega (arith, t.end)) in
@@ -142,16 +137,16 @@ module _ {ws pairs : List ℕ} {text : Bytes} {rules table : List ℕ} {k : ℕ}
           inside = omega (arith, v.1, t.further);
         }
 
-    pub type-left : {a : Role} {w' : Walk} → r ≡ TypeDue a w' → TypeLeft ws pairs w a w'
+    pub type-left : {a : Role} {w' : Walk} → r ≡ Ok (TypeDue a w') → TypeLeft ws pairs w a w'
     type-left e =
         let t = due-step (name_count pairs) ws (λ x. x) (tree_at ws pairs) w (stepped ws pairs b e h) in
         let v = bind-got (tree_at ws pairs w.place) _ (sym t.reads ∙ s.readable.reads) in
         record { tree = v.value; end = v.end; first = v.first; reads = t.reads ∙ bind-at (tree_at ws pairs w.place) _ v.first }
 
-    pub nothing_left : r ≡ Ended → Advanced m ws pairs w limit o p o Finished
+    pub nothing_left : r ≡ Ok Ended → Advanced m ws pairs w limit o p o Finished
     nothing_left e = finished (end_step (name_count pairs) ws (λ x. x) (tree_at ws pairs) w (stepped ws pairs b e h)) refl
 
-    pub never_halts : {i : Refusal} → r ≡ Halted i → ⊥
+    pub never_halts : {i : Refusal} → r ≡ Err i → ⊥
     never_halts e = let t = halt-step (name_count pairs) ws (λ x. x) (tree_at ws pairs) w (stepped ws pairs b e h) in impossible (let x = s.readable.reads in cc)
 
   -- what is too long already is so with the rest behind it
@@ -161,15 +156,15 @@ module _ {ws pairs : List ℕ} {text : Bytes} {rules table : List ℕ} {k : ℕ}
       no_space s.readable.reads (subst (λ qs. PiecesOver m limit o p qs o') (sym b.parts) (over-more b.left h))
 
   module _ {w' : Walk} {o' : List ℕ} where
-    module _ (t : OwnLaid ws pairs w w') {r : Laying} (l : Lays limit o p (take (w'.place - w.place) (drop w.place ws)) o' r) where
-      pub own-further : {q : ℕ} → r ≡ To q → Advanced m ws pairs w limit o p o' (Further w' q 0)
+    module _ (t : OwnLaid ws pairs w w') {r : Option ℕ} (l : Lays limit o p (take (w'.place - w.place) (drop w.place ws)) o' r) where
+      pub own-further : {q : ℕ} → r ≡ Some q → Advanced m ws pairs w limit o p o' (Further w' q 0)
       own-further e = further (own_pieces t.tokens) t.reads t.further t.inside (own-to t.tokens t.words l e)
 
-      pub own-full : r ≡ Over → Advanced m ws pairs w limit o p o' NoSpace
+      pub own-full : r ≡ None → Advanced m ws pairs w limit o p o' NoSpace
       own-full e = step-over (own_pieces t.tokens) (left_in ws pairs w') t.reads (own-over t.tokens t.words l e)
 
-    module _ {a : Role} (t : TypeLeft ws pairs w a w') {r : Rebuilt} (l : TypeRebuilds m limit o p (tree_at ws pairs w.place) o' r) where
-      pub type-further : {n q d : ℕ} → r ≡ Done n q d → Advanced m ws pairs w limit o p o' (Further (moved w' n) q d)
+    module _ {a : Role} (t : TypeLeft ws pairs w a w') {r : Option (ℕ × ℕ × ℕ)} (l : TypeRebuilds m limit o p (tree_at ws pairs w.place) o' r) where
+      pub type-further : {n q d : ℕ} → r ≡ Some (n, q, d) → Advanced m ws pairs w limit o p o' (Further (moved w' n) q d)
       type-further {n} e =
           let b = type-done a l e t.first in
           let v = tree-run ws pairs w.place s.inside t.first in
@@ -177,7 +172,7 @@ module _ {ws pairs : List ℕ} {text : Bytes} {rules table : List ℕ} {k : ℕ}
           let i : n ≤ length ws = omega (arith, b.1, v.1, v.0.ends, encode-words t.tree) in
           further (type a t.tree ∷ []) (t.reads ∙ ap (λ x. ahead (type a t.tree ∷ []) (left_in ws pairs (moved w' x))) (sym b.1)) h i b.0
 
-      pub type-full : r ≡ Full → Advanced m ws pairs w limit o p o' NoSpace
+      pub type-full : r ≡ None → Advanced m ws pairs w limit o p o' NoSpace
       type-full e = step-over (type a t.tree ∷ []) (left_in ws pairs (moved w' t.end)) t.reads (type-over a l e t.first)
 
 -- ---- the walk
@@ -221,11 +216,11 @@ module _ {ws pairs : List ℕ} {text : Bytes} {rules table : List ℕ} {k : ℕ}
               n,
             )
 
-    pub going-ends : {o₂ : List ℕ} {a : Advance} → Advanced by ws pairs w limit o₁ q o₂ a → a ≡ Finished → PiecesRebuild by limit o p (left_in ws pairs w₀) o₂ (Done w.place q found)
+    pub going-ends : {o₂ : List ℕ} {a : Advance} → Advanced by ws pairs w limit o₁ q o₂ a → a ≡ Finished → PiecesRebuild by limit o p (left_in ws pairs w₀) o₂ (Some (w.place, q, found))
     unfolding ahead map_reading
     going-ends {o₂} h e = go (subst (Advanced by ws pairs w limit o₁ q o₂) e h)
       where
-        go : Advanced by ws pairs w limit o₁ q o₂ Finished → PiecesRebuild by limit o p (left_in ws pairs w₀) o₂ (Done w.place q found)
+        go : Advanced by ws pairs w limit o₁ q o₂ Finished → PiecesRebuild by limit o p (left_in ws pairs w₀) o₂ (Some (w.place, q, found))
         go (finished r i) =
             let x : left_in ws pairs w₀ ≡ got g.done w.place = g.reads ∙ rw (r, append-nil g.done) refl in
             rebuilt x g.laid.fits g.laid.within (rw i g.laid.grown) g.laid.deeps
@@ -234,10 +229,10 @@ module _ {ws pairs : List ℕ} {text : Bytes} {rules table : List ℕ} {k : ℕ}
     unfolding ahead map_reading
     going-over (no_space {ps = ps} {n = n} r h) = let x : left_in ws pairs w₀ ≡ got (g.done ++ ps) n = g.reads ∙ rw r refl in no_space x (laid-over g.laid h)
 
-    pub going-full : {o₂ : List ℕ} {a : Advance} → Advanced by ws pairs w limit o₁ q o₂ a → a ≡ NoSpace → PiecesRebuild by limit o p (left_in ws pairs w₀) o₂ Full
+    pub going-full : {o₂ : List ℕ} {a : Advance} → Advanced by ws pairs w limit o₁ q o₂ a → a ≡ NoSpace → PiecesRebuild by limit o p (left_in ws pairs w₀) o₂ None
     going-full {o₂} h e = go (going-over (subst (Advanced by ws pairs w limit o₁ q o₂) e h))
       where
-        go : Advanced by ws pairs w₀ limit o p o₂ NoSpace → PiecesRebuild by limit o p (left_in ws pairs w₀) o₂ Full
+        go : Advanced by ws pairs w₀ limit o p o₂ NoSpace → PiecesRebuild by limit o p (left_in ws pairs w₀) o₂ None
         go (no_space r f) = full r f.over f.kept
 
     -- several steps are one
@@ -255,12 +250,12 @@ module _ {ws pairs : List ℕ} {text : Bytes} {rules table : List ℕ} {k : ℕ}
   pub field-own : OwnLaid ws pairs w inner
   field-own = rw a (own-laid s refl (field-opens (name_count pairs) ws (λ x. x) (tree_at ws pairs) w s.readable.reads f) refl)
 
-  module _ {o₁ : List ℕ} {r : Laying} (l : Lays limit o p (take (at - w.place) (drop w.place ws)) o₁ r) where
-    pub field-over : r ≡ Over → Advanced (mapping rules pairs text) ws pairs w limit o p o₁ (field_advance w Full)
+  module _ {o₁ : List ℕ} {r : Option ℕ} (l : Lays limit o p (take (at - w.place) (drop w.place ws)) o₁ r) where
+    pub field-over : r ≡ None → Advanced (mapping rules pairs text) ws pairs w limit o p o₁ (field_advance w None)
     unfolding field_advance
     field-over e = own-full s field-own l e
 
-    module _ {q : ℕ} (e : r ≡ To q) where
+    module _ {q : ℕ} (e : r ≡ Some q) where
       -- its type, behind them
       field-begun : Going ws pairs text rules table k w limit o p o₁ inner q 0
       field-begun = (going_on (going-starts s) (own-further s field-own l e) refl (let v : 0 ≡ max 0 0 = omega arith in v)).0
@@ -274,8 +269,8 @@ module _ {ws pairs : List ℕ} {text : Bytes} {rules table : List ℕ} {k : ℕ}
       pub field-readable : Readable (tree_at ws pairs at)
       field-readable = record { value = field-left.tree; end = field-left.end; reads = field-left.first }
 
-      module _ {o₂ : List ℕ} {d : Rebuilt} (t : TypeRebuilds (mapping rules pairs text) limit o₁ q (tree_at ws pairs at) o₂ d) where
-        field-further : {next pos deep : ℕ} → d ≡ Done next pos deep → Advanced (mapping rules pairs text) ws pairs w limit o p o₂ (Further (past_field w next) pos deep)
+      module _ {o₂ : List ℕ} {d : Option (ℕ × ℕ × ℕ)} (t : TypeRebuilds (mapping rules pairs text) limit o₁ q (tree_at ws pairs at) o₂ d) where
+        field-further : {next pos deep : ℕ} → d ≡ Some (next, pos, deep) → Advanced (mapping rules pairs text) ws pairs w limit o p o₂ (Further (past_field w next) pos deep)
         field-further {next} {pos} {deep} h =
             let g = going_on field-begun (type-further field-ready field-left t h) refl (let v : deep ≡ max 0 deep = omega arith in v) in
             going-whole g.0 (omega (arith, field-own.further, g.1))
@@ -284,9 +279,9 @@ module _ {ws pairs : List ℕ} {text : Bytes} {rules table : List ℕ} {k : ℕ}
         unfolding field_advance
         field-advanced = go d refl
           where
-            go : (r : Rebuilt) → d ≡ r → Advanced (mapping rules pairs text) ws pairs w limit o p o₂ (field_advance w r)
-            go (Done n q deep) h = field-further h
-            go Full h = going-over field-begun (type-full field-ready field-left t h)
+            go : (r : Option (ℕ × ℕ × ℕ)) → d ≡ r → Advanced (mapping rules pairs text) ws pairs w limit o p o₂ (field_advance w r)
+            go (Some (n, q, deep)) h = field-further h
+            go None h = going-over field-begun (type-full field-ready field-left t h)
 
 -- ---- fields, one after the other
 
@@ -297,12 +292,12 @@ pub record Among (ws pairs : List ℕ) (text : Bytes) (rules table : List ℕ) (
   pub due : FieldNext w
 
 module _ {ws pairs : List ℕ} {text : Bytes} {rules table : List ℕ} {k : ℕ} {w₀ : Walk} {limit : ℕ} {o : List ℕ} {p : ℕ} {o₁ : List ℕ} {w : Walk} {q found : ℕ}
-    (g : Among ws pairs text rules table k w₀ limit o p o₁ w q found) {o₂ : List ℕ} {r : Rebuilt} (h : Advanced (mapping rules pairs text) ws pairs w limit o₁ q o₂ (field_advance w r)) where
-  pub among-full : r ≡ Full → Advanced (mapping rules pairs text) ws pairs w₀ limit o p o₂ NoSpace
+    (g : Among ws pairs text rules table k w₀ limit o p o₁ w q found) {o₂ : List ℕ} {r : Option (ℕ × ℕ × ℕ)} (h : Advanced (mapping rules pairs text) ws pairs w limit o₁ q o₂ (field_advance w r)) where
+  pub among-full : r ≡ None → Advanced (mapping rules pairs text) ws pairs w₀ limit o p o₂ NoSpace
   unfolding field_advance
   among-full e = going-over g.going (subst (λ s. Advanced (mapping rules pairs text) ws pairs w limit o₁ q o₂ (field_advance w s)) e h)
 
-  module _ {n q' d deep : ℕ} {w' : Walk} (e : r ≡ Done n q' d) (x : w' ≡ past_field w n) (z : deep ≡ max found d) where
+  module _ {n q' d deep : ℕ} {w' : Walk} (e : r ≡ Some (n, q', d)) (x : w' ≡ past_field w n) (z : deep ≡ max found d) where
     among-on : Going ws pairs text rules table k w₀ limit o p o₂ w' q' deep × (w.place < w'.place)
     unfolding field_advance
     among-on = rw x (going_on g.going (subst (λ s. Advanced (mapping rules pairs text) ws pairs w limit o₁ q o₂ (field_advance w s)) e h) refl z)
@@ -332,11 +327,11 @@ module _ (ws pairs : List ℕ) (text : Bytes) (c : Readable (declaration_in ws p
     pub words : take w.place (drop 0 ws) ≡ map token_word tokens
     pub inside : w.place ≤ length ws
 
-  module _ {bound : ℕ} {r : Start} (b : bound ≡ name_count pairs) (e : r ≡ started (read_opening present bound ws 0)) where
+  module _ {bound : ℕ} {r : Result Walk Refusal} (b : bound ≡ name_count pairs) (e : r ≡ started (read_opening present bound ws 0)) where
     begins : r ≡ started (read_opening present (name_count pairs) ws 0)
     begins = e ∙ ap (λ n. started (read_opening present n ws 0)) b
 
-    pub opens : {w : Walk} → r ≡ Begun w → Opened w
+    pub opens : {w : Walk} → r ≡ Ok w → Opened w
     opens d =
         let a = begun ws pairs text begins d in
         let h = opening-run ws (name_count pairs) 0 a.opening a.end a.reads in
@@ -351,35 +346,35 @@ module _ (ws pairs : List ℕ) (text : Bytes) (c : Readable (declaration_in ws p
           inside = omega (arith, v.1);
         }
 
-    pub always-begun : {k : Refusal} → r ≡ NotBegun k → ⊥
+    pub always-begun : {k : Refusal} → r ≡ Err k → ⊥
     always-begun d =
         let n = not-begun ws pairs text begins d in
         let h = ap ended (declaration-spelled ws pairs text 0) ∙ ended-map _ (declaration_in ws pairs) ∙ ap ended c.reads in
         impossible (cc (n, h))
 
-  module _ {limit : ℕ} {o : List ℕ} {w : Walk} (k : Opened w) {o₁ : List ℕ} {l : Laying} (h : Lays limit o 0 (take w.place (drop 0 ws)) o₁ l) where
+  module _ {limit : ℕ} {o : List ℕ} {w : Walk} (k : Opened w) {o₁ : List ℕ} {l : Option ℕ} (h : Lays limit o 0 (take w.place (drop 0 ws)) o₁ l) where
     -- the rest can be rebuilt behind the opening
-    pub opening-ready : {rules table : List ℕ} {n q : ℕ} → Good pairs text → Ruled rules pairs text table n → limit ≤ length o → l ≡ To q → WalkReady ws pairs text rules table n w o₁ q limit
+    pub opening-ready : {rules table : List ℕ} {n q : ℕ} → Good pairs text → Ruled rules pairs text table n → limit ≤ length o → l ≡ Some q → WalkReady ws pairs text rules table n w o₁ q limit
     opening-ready g r f e =
         let a = lays-to h e in
         record { good = g; ruled = r; readable = record { value = k.left; end = c.end; reads = k.reads }; inside = k.inside; within = a.0; room = omega (arith, f, a.1.kept) }
 
     module _ (m : Ty ℕ → Ty ℕ) where
-      declared-over : {o' : List ℕ} → PiecesOver m limit o 0 (own_pieces k.tokens ++ k.left) o' → DeclarationRebuilds m limit o (declaration_in ws pairs) o' Full
+      declared-over : {o' : List ℕ} → PiecesOver m limit o 0 (own_pieces k.tokens ++ k.left) o' → DeclarationRebuilds m limit o (declaration_in ws pairs) o' None
       declared-over {o'} f = let g : PiecesOver m limit o 0 (pieces present c.value) o' = rw k.parts f in full c.reads g.over g.kept
 
       -- its own words do not fit
-      pub opening-over : l ≡ Over → DeclarationRebuilds m limit o (declaration_in ws pairs) o₁ Full
+      pub opening-over : l ≡ None → DeclarationRebuilds m limit o (declaration_in ws pairs) o₁ None
       opening-over e = declared-over (over-more k.left (own-over k.tokens k.words h e))
 
       -- the rest was rebuilt behind them
-      pub opening-rest : {q : ℕ} {o₂ : List ℕ} {r : Rebuilt} → l ≡ To q → PiecesRebuild m limit o₁ q (left_in ws pairs w) o₂ r → DeclarationRebuilds m limit o (declaration_in ws pairs) o₂ r
+      pub opening-rest : {q : ℕ} {o₂ : List ℕ} {r : Option (ℕ × ℕ × ℕ)} → l ≡ Some q → PiecesRebuild m limit o₁ q (left_in ws pairs w) o₂ r → DeclarationRebuilds m limit o (declaration_in ws pairs) o₂ r
       opening-rest {q} {o₂} e b = go b
         where
           front : PiecesLaid m limit o 0 (own_pieces k.tokens) o₁ q 0
           front = own-to k.tokens k.words h e
 
-          go : {s : Rebuilt} → PiecesRebuild m limit o₁ q (left_in ws pairs w) o₂ s → DeclarationRebuilds m limit o (declaration_in ws pairs) o₂ s
+          go : {s : Option (ℕ × ℕ × ℕ)} → PiecesRebuild m limit o₁ q (left_in ws pairs w) o₂ s → DeclarationRebuilds m limit o (declaration_in ws pairs) o₂ s
           go (rebuilt {a = ps} {n = n} {q = q'} {d = d} x f v g i) =
               let y : k.left ≡ ps = cc (k.reads, x) in
               let j : c.end ≡ n = cc (k.reads, x) in

@@ -1,5 +1,5 @@
 -- The steps by which a declaration is rebuilt.
-use Rattle.std.specs.Prelude.{ℕ, ◌+◌, ◌≤◌, ◌<◌, ◌≡◌, List, [], map, length}
+use Rattle.std.specs.Prelude.{Some, None, Option, ℕ, ◌+◌, ◌≤◌, ◌<◌, ◌≡◌, List, [], map, length}
 use Rattle.rast.specs.Bytes.{Bytes}
 use Rattle.rast.specs.Tree.{Ty}
 use Rattle.rast.specs.Declaration.{Declaration}
@@ -15,8 +15,6 @@ use Rattle.declaration_walk.specs.declared.Walk.{Walk}
 use Rattle.declaration_walk.specs.Pieces.{Piece, runs, piece_tokens}
 use Rattle.declaration_walk.specs.Walks.{ahead, left_of, past_field}
 use Rattle.declaration_walk.specs.Mapped.{piece_with}
-use Rattle.rebuild_type.specs.declared.Rebuilt.{Rebuilt}
-use Rattle.rebuild_type.specs.declared.Rebuilt.TheVariants.{Done, Full}
 use Rattle.rebuild_type.specs.Laid.{Grown, Rebuilds, Ruled}
 use Rattle.rebuild_declaration.specs.declared.Advance.{Advance}
 use Rattle.rebuild_declaration.specs.declared.Advance.TheVariants.{Further, Finished, NoSpace}
@@ -39,7 +37,7 @@ abbrev pub left_in : List ℕ → List ℕ → Walk → Reading (List (Piece ℕ
 left_in ws pairs w = left_of present (name_count pairs) ws (λ x. x) (tree_at ws pairs) w
 
 -- they were rebuilt, or more words would lie there than the limit
-abbrev pub PiecesRebuild : (Ty ℕ → Ty ℕ) → ℕ → List ℕ → ℕ → Reading (List (Piece ℕ)) → List ℕ → Rebuilt → Type 0
+abbrev pub PiecesRebuild : (Ty ℕ → Ty ℕ) → ℕ → List ℕ → ℕ → Reading (List (Piece ℕ)) → List ℕ → Option (ℕ × ℕ × ℕ) → Type 0
 PiecesRebuild m limit o p x o' r = Rebuilds (λ ps. rebuilt_words m ps) (λ ps. top_pieces m ps) (λ ps. rebuilt_depth m ps) limit o p x o' r
 
 -- what is left to a walk can be rebuilt: the tables hold, the rules are read, and words may be laid down from p on up to the limit
@@ -71,10 +69,10 @@ pub data Advanced (m : Ty ℕ → Ty ℕ) (ws pairs : List ℕ) (w : Walk) (limi
   no_space : {ps : List (Piece ℕ)} {n : ℕ} → left_in ws pairs w ≡ got ps n → PiecesOver m limit o p ps o' → Advanced m ws pairs w limit o p o' NoSpace
 
 -- what a field that was rebuilt, or was not, makes of a walk before it
-unfoldable pub field_advance : Walk → Rebuilt → Advance
-field_advance w (Done n q d) = Further (past_field w n) q d
-field_advance w Full = NoSpace
+unfoldable pub field_advance : Walk → Option (ℕ × ℕ × ℕ) → Advance
+field_advance w (Some (n, q, d)) = Further (past_field w n) q d
+field_advance w None = NoSpace
 
 -- a declaration that was read was rebuilt at the front of a buffer, or more words would lie there than the limit
-abbrev pub DeclarationRebuilds : (Ty ℕ → Ty ℕ) → ℕ → List ℕ → Reading (Declaration ℕ) → List ℕ → Rebuilt → Type 0
+abbrev pub DeclarationRebuilds : (Ty ℕ → Ty ℕ) → ℕ → List ℕ → Reading (Declaration ℕ) → List ℕ → Option (ℕ × ℕ × ℕ) → Type 0
 DeclarationRebuilds m limit o x o' r = Rebuilds (λ d. (laid_declaration m d).words) (λ d. (laid_declaration m d).top) (λ d. (laid_declaration m d).deep) limit o 0 x o' r

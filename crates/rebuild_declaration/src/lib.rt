@@ -9,11 +9,11 @@ ghost use Rattle.rebuild_type.specs.Laid.{Ruled, mapping};
 ghost use Rattle.rebuild_declaration.specs.Steps.{left_in, WalkReady, Advanced, field_advance, PiecesRebuild, DeclarationRebuilds};
 ghost use Rattle.rebuild_declaration.specs.Calls.{declaration_in};
 
-use declaration_walk::{Next, Start, Walk};
-use rebuild_type::{Laying, Rebuilt};
+use declaration_walk::{Next, Walk};
 
 // One step of a walk that rebuilds: some own words or a type were laid down, and how deep the type is; or nothing was left; or more words would lie there
 // than the limit.
+// Kept: an option of the first two cases would be an enum inside an enum (docs/SPEED.md: keep an enum out of an enum; older toolchain, not measured again).
 #[derive(Clone, Copy)]
 pub enum Advance {
     Further {
@@ -43,34 +43,34 @@ fn add_next(
         out.old pos out.new result }
 {
     let place = walk.place;
-    match declaration_walk::next_piece(words, encoding::name_count(pairs), walk) {
+    let Ok(piece) = declaration_walk::next_piece(words, encoding::name_count(pairs), walk) else {
+        return Advance::Finished;
+    };
+    match piece {
         Next::OwnWords(next) => {
             let count = next.place - place;
-            match rebuild_type::add_words(words, place, count, out, pos, limit) {
-                Laying::To(p) => Advance::Further {
-                    walk: next,
-                    pos: p,
-                    depth: 0,
-                },
-                Laying::Over => Advance::NoSpace,
+            let Some(p) = rebuild_type::add_words(words, place, count, out, pos, limit) else {
+                return Advance::NoSpace;
+            };
+            Advance::Further {
+                walk: next,
+                pos: p,
+                depth: 0,
             }
         }
-        Next::TypeDue(_, next) => match rebuild_type::rebuild_type(
-            words, pairs, text, rules, table, k, place, out, pos, limit,
-        ) {
-            Rebuilt::Done {
-                next: end,
-                pos: p,
-                depth,
-            } => Advance::Further {
+        Next::TypeDue(_, next) => {
+            let Some((end, p, depth)) = rebuild_type::rebuild_type(
+                words, pairs, text, rules, table, k, place, out, pos, limit,
+            ) else {
+                return Advance::NoSpace;
+            };
+            Advance::Further {
                 walk: declaration_walk::move_to(next, end),
                 pos: p,
                 depth,
-            },
-            Rebuilt::Full => Advance::NoSpace,
-        },
+            }
+        }
         Next::Ended => Advance::Finished,
-        Next::Halted(_) => Advance::Finished,
     }
 }
 
@@ -86,20 +86,19 @@ fn add_field(
     out: &mut [u32],
     pos: usize,
     limit: usize,
-) -> Rebuilt
+) -> Option<(usize, usize, usize)>
     requires { WalkReady words.now pairs.now text.now rules.now table.now k walk out.old pos limit × FieldNext walk }
     ensures { Advanced (mapping rules.now pairs.now text.now) words.now pairs.now walk limit
         out.old pos out.new (field_advance walk result) }
 {
     let place = walk.place;
     let at = declaration_walk::field_type(walk);
-    let Laying::To(p) = rebuild_type::add_words(words, place, at - place, out, pos, limit) else {
-        return Rebuilt::Full;
-    };
+    let p = rebuild_type::add_words(words, place, at - place, out, pos, limit)?;
     rebuild_type::rebuild_type(words, pairs, text, rules, table, k, at, out, p, limit)
 }
 
 // The fields of a list that are left, one after the other.
+// Kept: no plainer: the walk counts the fields that are left, and a `for` would count them once more.
 fn add_fields(
     words: &[u32],
     pairs: &[u32],
@@ -120,20 +119,14 @@ fn add_fields(
     let mut p = pos;
     let mut deepest = 0;
     loop {
-        match add_field(words, pairs, text, rules, table, k, w, out, p, limit) {
-            Rebuilt::Done {
-                next,
-                pos: q,
-                depth,
-            } => {
-                w = declaration_walk::past_field(w, next);
-                p = q;
-                deepest = rebuild_rules::larger(deepest, depth);
-            }
-            Rebuilt::Full => {
-                return Advance::NoSpace;
-            }
-        }
+        let Some((next, q, depth)) = add_field(
+            words, pairs, text, rules, table, k, w, out, p, limit,
+        ) else {
+            return Advance::NoSpace;
+        };
+        w = declaration_walk::past_field(w, next);
+        p = q;
+        deepest = rebuild_rules::larger(deepest, depth);
         if w.fields == 0 {
             return Advance::Further {
                 walk: w,
@@ -168,6 +161,7 @@ fn add_piece(
 }
 
 // What is left of an accepted declaration to a walk, rebuilt.
+// Kept: no plainer: a walk goes on by steps of several kinds, and not by the items of a known range.
 fn rebuild_rest(
     words: &[u32],
     pairs: &[u32],
@@ -179,7 +173,7 @@ fn rebuild_rest(
     out: &mut [u32],
     pos: usize,
     limit: usize,
-) -> Rebuilt
+) -> Option<(usize, usize, usize)>
     requires { WalkReady words.now pairs.now text.now rules.now table.now k walk out.old pos limit }
     ensures { PiecesRebuild (mapping rules.now pairs.now text.now) limit out.old pos
         (left_in words.now pairs.now walk) out.new result }
@@ -199,14 +193,10 @@ fn rebuild_rest(
                 deepest = rebuild_rules::larger(deepest, depth);
             }
             Advance::Finished => {
-                return Rebuilt::Done {
-                    next: w.place,
-                    pos: p,
-                    depth: deepest,
-                };
+                return Some((w.place, p, deepest));
             }
             Advance::NoSpace => {
-                return Rebuilt::Full;
+                return None;
             }
         }
     }
@@ -222,18 +212,15 @@ pub fn rebuild_declaration(
     k: usize,
     out: &mut [u32],
     limit: usize,
-) -> Rebuilt
+) -> Option<(usize, usize, usize)>
     requires { Good pairs.now text.now × Ruled rules.now pairs.now text.now table.now k × Readable (declaration_in words.now pairs.now)
         × (limit ≤ length out.old) }
     ensures { DeclarationRebuilds (mapping rules.now pairs.now text.now) limit out.old
         (declaration_in words.now pairs.now) out.new result }
 {
-    let Start::Begun(walk) = declaration_walk::start_walk(words, encoding::name_count(pairs), 0)
-    else {
-        return Rebuilt::Full;
+    let Ok(walk) = declaration_walk::start_walk(words, encoding::name_count(pairs), 0) else {
+        return None;
     };
-    match rebuild_type::add_words(words, 0, walk.place, out, 0, limit) {
-        Laying::To(p) => rebuild_rest(words, pairs, text, rules, table, k, walk, out, p, limit),
-        Laying::Over => Rebuilt::Full,
-    }
+    let p = rebuild_type::add_words(words, 0, walk.place, out, 0, limit)?;
+    rebuild_rest(words, pairs, text, rules, table, k, walk, out, p, limit)
 }

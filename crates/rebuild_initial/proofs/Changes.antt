@@ -1,7 +1,7 @@
 -- What changes at initialization, by what the finders answer.
+use Rattle.std.specs.Prelude.{Option, Some, None}
 use Rattle.std.proofs.Common.{◌≡◌, ℕ, ◌+◌, ◌-◌, ◌<◌, ◌≤◌, Bool, true, false, eqb, List, [], ◌∷◌, ◌++◌, length, get_or, take, drop, sym, refl, ap, ◌∙◌, subst, append-nil, arith, length-append, eq-eqb, ne_eqb, eqb-true}
 use mathlib.Core.List.{map-append}
-use mathlib.Core.Option.{Option, some, none}
 use Rattle.rast.specs.Bytes.{Bytes, ◌and◌, ◌or◌}
 use Rattle.rast.specs.Tree.{Path, Global, PMemberSelect, Ty, Tys, Primitive, TIdentifier, TypeFromPath, TypeApp, Borrowed, BorrowedMut, ImplType, DynType, TupleType, FnType, IntersectionType, Array, TSynonym, TMetaData, nil, cons, count}
 use Rattle.rast.specs.DeclarationToString.{Expand}
@@ -24,8 +24,6 @@ use Rattle.rebuild_spec.specs.Laying.{depth, deepest}
 use Rattle.unwrap.specs.Asked.{ExpandsAt}
 use Rattle.unwrap.proofs.TypesIn.{array_of}
 use Rattle.unwrap.proofs.Expanding.{expands-readable}
-use Rattle.known_paths.specs.declared.Found.{Found}
-use Rattle.known_paths.specs.declared.Found.TheVariants.{At, NoPart}
 use Rattle.known_paths.specs.declared.Class.TheVariants.{ArrayClass}
 use Rattle.known_paths.specs.Asked.{found, is_found, Finds}
 use Rattle.known_paths.specs.Classes.{in_class, arity, is_of, first}
@@ -37,8 +35,6 @@ use Rattle.shapes.specs.Shapes.{IsObject, IsPointer, IsObjectOrPointer, IsMultiA
 use Rattle.shapes.specs.Initialization.{own_number, MaybeUninitType, applied_to_uninit, new_underlying}
 use Rattle.shapes.proofs.Pointers.{expanded-tree, multi-array-is, pointer-found}
 use Rattle.rebuild_type.proofs.Growing.{front-taken}
-use Rattle.rebuild_initial.specs.declared.Initial.{Initial}
-use Rattle.rebuild_initial.specs.declared.Initial.TheVariants.{OfArray, Unchanged}
 use Rattle.rebuild_initial.specs.Initialized.{uninit_words, new_array, Pieces, pieces, unchanged, Becomes}
 use Rattle.rebuild_initial.proofs.Parts.{tree-words, array-below, apply-below, deep-some, opened, OneArgument, one_argument}
 
@@ -61,13 +57,13 @@ uninit-depth : (a : Ty ℕ) → 0 < depth a → depth (MaybeUninitType own_numbe
 unfolding MaybeUninitType
 uninit-depth a h = one-depth (PMemberSelect (PMemberSelect (PMemberSelect Global 1) 8) 9) a h
 
-pub pieces_of : (ws pairs : List ℕ) (around : ℕ) (t : Ty ℕ) (end : ℕ) (new : Option (Ty ℕ)) (array u : Ty ℕ) (start element : ℕ) → new ≡ some array → start ≤ element → element ≤ length ws
+pub pieces_of : (ws pairs : List ℕ) (around : ℕ) (t : Ty ℕ) (end : ℕ) (new : Option (Ty ℕ)) (array u : Ty ℕ) (start element : ℕ) → new ≡ Some array → start ≤ element → element ≤ length ws
     → tree_at ws pairs element ≡ got u end → encode array ≡ take (element - start) (drop start ws) ++ (uninit_words ++ encode u) → depth array ≡ 2 + depth u → around + depth u ≤ depth t
-    → Pieces ws pairs around t end new (OfArray start element)
+    → Pieces ws pairs around t end new (Some (start, element))
 pieces_of ws pairs around t end new array u start element e h l k w d a = pieces e h l k w d a
 
 -- more types stand around an element than around what it stands in
-pieces-below : {ws pairs : List ℕ} {s : Ty ℕ} {end : ℕ} {new : Option (Ty ℕ)} {r : Initial} (t : Ty ℕ) → 1 + depth s ≤ depth t → Pieces ws pairs 1 s end new r → Pieces ws pairs 2 t end new r
+pieces-below : {ws pairs : List ℕ} {s : Ty ℕ} {end : ℕ} {new : Option (Ty ℕ)} {r : Option (ℕ × ℕ)} (t : Ty ℕ) → 1 + depth s ≤ depth t → Pieces ws pairs 1 s end new r → Pieces ws pairs 2 t end new r
 pieces-below {ws} {pairs} {s} {end} {new} t q (pieces {array = v} {u = u} {start = i} {element = j} e h l k w d a) = pieces_of ws pairs 2 t end new v u i j e h l k w d (omega (arith, q, a))
 pieces-below t q (unchanged e) = unchanged e
 
@@ -90,7 +86,7 @@ module _ (f : ℕ → Bytes) where
     sized : renamed_size f size ≡ z
 
   -- a type is an array, or it has no element
-  array-cases : (P : Ty ℕ → Type 0) → ((u : Ty ℕ) (z : Option ℕ) → P (Array u z)) → ((s : Ty ℕ) → ((v : Ty Bytes) (z : Option Bytes) → renamed f s ≡ Array v z → ⊥) → unsized s ≡ none → P s) → (s : Ty ℕ) → P s
+  array-cases : (P : Ty ℕ → Type 0) → ((u : Ty ℕ) (z : Option ℕ) → P (Array u z)) → ((s : Ty ℕ) → ((v : Ty Bytes) (z : Option Bytes) → renamed f s ≡ Array v z → ⊥) → unsized s ≡ None → P s) → (s : Ty ℕ) → P s
   unfolding unsized renamed
   array-cases P h k (Primitive p) = k (Primitive p) (λ v z e. impossible (cc)) refl
   array-cases P h k (TIdentifier x) = k (TIdentifier x) (λ v z e. impossible (cc)) refl
@@ -112,28 +108,28 @@ module _ (f : ℕ → Bytes) where
   is-array s {v} {z} =
       array-cases (λ s. renamed f s ≡ Array v z → IsArray s z) (λ u y e. record { element = u; size = y; made = refl; sized = cc }) (λ s k n e. absurd (k v z e)) s
 
-  no_size : (z : Option ℕ) → renamed_size f z ≡ none → z ≡ none
+  no_size : (z : Option ℕ) → renamed_size f z ≡ None → z ≡ None
   unfolding renamed_size
-  no_size none e = refl
-  no_size (some x) e = impossible (cc)
+  no_size None e = refl
+  no_size (Some x) e = impossible (cc)
 
   -- an array with a size stays
-  sized-stays : (u : Ty ℕ) (z : Option ℕ) {x : Bytes} → renamed_size f z ≡ some x → new_underlying own_number (renamed f) (Array u z) ≡ none
+  sized-stays : (u : Ty ℕ) (z : Option ℕ) {x : Bytes} → renamed_size f z ≡ Some x → new_underlying own_number (renamed f) (Array u z) ≡ None
   unfolding renamed_size new_underlying unsized and_then or_else when IsMultiArray applied Expand renamed
-  sized-stays u none e = impossible (cc)
-  sized-stays u (some y) e = refl
+  sized-stays u None e = impossible (cc)
+  sized-stays u (Some y) e = refl
 
-  not-unsized : (s : Ty ℕ) → (kind (renamed f s) ≡ 22 → ⊥) → unsized s ≡ none
+  not-unsized : (s : Ty ℕ) → (kind (renamed f s) ≡ 22 → ⊥) → unsized s ≡ None
   unfolding renamed
-  not-unsized = array-cases (λ s. (kind (renamed f s) ≡ 22 → ⊥) → unsized s ≡ none) (λ u z h. absurd (h refl)) (λ s k n h. n)
+  not-unsized = array-cases (λ s. (kind (renamed f s) ≡ 22 → ⊥) → unsized s ≡ None) (λ u z h. absurd (h refl)) (λ s k n h. n)
 
   -- what becomes of a type that is no array
-  new_none : (s : Ty ℕ) → unsized s ≡ none → IsMultiArray (renamed f s) ≡ false → new_underlying own_number (renamed f) s ≡ none
+  new_none : (s : Ty ℕ) → unsized s ≡ None → IsMultiArray (renamed f s) ≡ false → new_underlying own_number (renamed f) s ≡ None
   unfolding new_underlying and_then or_else when
   new_none s e d = rw (e, d) refl
 
-  new-multi : (s : Ty ℕ) (p : Path ℕ) (a : Ty ℕ) → unsized s ≡ none → IsMultiArray (renamed f s) ≡ true → Expand s ≡ TypeApp (TypeFromPath p) (cons a nil)
-      → new_underlying own_number (renamed f) s ≡ some (TypeApp (TypeFromPath p) (cons (MaybeUninitType own_number a) nil))
+  new-multi : (s : Ty ℕ) (p : Path ℕ) (a : Ty ℕ) → unsized s ≡ None → IsMultiArray (renamed f s) ≡ true → Expand s ≡ TypeApp (TypeFromPath p) (cons a nil)
+      → new_underlying own_number (renamed f) s ≡ Some (TypeApp (TypeFromPath p) (cons (MaybeUninitType own_number a) nil))
   unfolding new_underlying and_then or_else when argument type_in applied_to_uninit
   new-multi s p a e d k = rw (e, d, k) refl
 
@@ -149,12 +145,12 @@ or-either true b C e f g = f refl
 or-either false b C e f g = g e
 
 -- where an argument that was found stands
-found-when : (b : Bool) (x : Option (Place Bytes)) {at : ℕ} → found (when b x) ≡ At at → found x ≡ At at
+found-when : (b : Bool) (x : Option (Place Bytes)) {at : ℕ} → found (when b x) ≡ Some at → found x ≡ Some at
 unfolding when found
 found-when true x e = e
 found-when false x e = impossible (cc)
 
-argument-place : (f : ℕ → Bytes) (q : ℕ) (p : Path ℕ) (a : Ty ℕ) {at : ℕ} → found (argument_at 0 q (renamed f (TypeApp (TypeFromPath p) (cons a nil)))) ≡ At at → q + 2 + words (TypeFromPath p) ≡ at
+argument-place : (f : ℕ → Bytes) (q : ℕ) (p : Path ℕ) (a : Ty ℕ) {at : ℕ} → found (argument_at 0 q (renamed f (TypeApp (TypeFromPath p) (cons a nil)))) ≡ Some at → q + 2 + words (TypeFromPath p) ≡ at
 unfolding found argument_at type_at_index renamed renamed_all
 argument-place f q p a {at} e =
     let i : q + 2 + words (renamed f (TypeFromPath p)) ≡ at = cc in
@@ -188,7 +184,7 @@ module _ (ws pairs : List ℕ) (text : Bytes) where
       omega (arith, w, v, ap words i, words-kept bytes (Expand r.value))
 
   -- what begins with another word has no first argument
-  pub no-application : (start : ℕ) → (get_or ws start 0 ≡ 14 → ⊥) → Finds (first ArrayClass) (type_at ws pairs text) start NoPart
+  pub no-application : (start : ℕ) → (get_or ws start 0 ≡ 14 → ⊥) → Finds (first ArrayClass) (type_at ws pairs text) start None
   no-application start h = record { says = λ t n e. sym (first-other ArrayClass start t λ c. h (sym (type-kind ws pairs text start e) ∙ c)) }
 
   module _ (at : ℕ) (r : Readable (tree_at ws pairs at)) where
@@ -202,19 +198,19 @@ module _ (ws pairs : List ℕ) (text : Bytes) where
     pub size-here : get_or ws at 0 ≡ 22 → at + 1 < length ws
     size-here h = (array_of ws pairs text at (type-read at r.reads) h).0
 
-    pub new-unsized : get_or ws at 0 ≡ 22 → get_or ws (at + 1) 0 ≡ 0 → Becomes (new_underlying own_number (renamed bytes)) 1 ws pairs at (OfArray at (at + 2))
+    pub new-unsized : get_or ws at 0 ≡ 22 → get_or ws (at + 1) 0 ≡ 0 → Becomes (new_underlying own_number (renamed bytes)) 1 ws pairs at (Some (at, at + 2))
     unfolding size_of new_underlying unsized and_then or_else encode tokens token_word depth
     new-unsized h k =
         let m = (array_of ws pairs text at (type-read at r.reads) h).1 in
-        let e : type ≡ Array m.value none = m.made ∙ rw (eq-eqb (get_or ws (at + 1) 0) 0 k) refl in
+        let e : type ≡ Array m.value None = m.made ∙ rw (eq-eqb (get_or ws (at + 1) 0) 0 k) refl in
         let a = is-array bytes tree e in
-        let s : tree ≡ Array a.element none = a.made ∙ ap (Array a.element) (no_size bytes a.size a.sized) in
+        let s : tree ≡ Array a.element None = a.made ∙ ap (Array a.element) (no_size bytes a.size a.sized) in
         go a.element (r.reads ∙ ap (λ t. got t r.end) s)
       where
-        deep : (u : Ty ℕ) → depth (MaybeUninitType own_number u) ≡ 1 + depth u → depth (Array (MaybeUninitType own_number u) none) ≡ 2 + depth u
+        deep : (u : Ty ℕ) → depth (MaybeUninitType own_number u) ≡ 1 + depth u → depth (Array (MaybeUninitType own_number u) None) ≡ 2 + depth u
         deep u d = omega (arith, d)
 
-        go : (u : Ty ℕ) → tree_at ws pairs at ≡ got (Array u none) r.end → Becomes (new_underlying own_number (renamed bytes)) 1 ws pairs at (OfArray at (at + 2))
+        go : (u : Ty ℕ) → tree_at ws pairs at ≡ got (Array u None) r.end → Becomes (new_underlying own_number (renamed bytes)) 1 ws pairs at (Some (at, at + 2))
         go u e =
             let d = array-below ws pairs at e in
             let t = tree-here ws pairs (at + 2) d in
@@ -222,19 +218,19 @@ module _ (ws pairs : List ℕ) (text : Bytes) where
             let z : at + 2 - at ≡ 2 = omega arith in
             let front : take (at + 2 - at) (drop at ws) ≡ 22 ∷ 0 ∷ [] = rw z (front-taken (drop at ws) (22 ∷ 0 ∷ []) (encode u) 2 (length (22 ∷ 0 ∷ encode u)) w.words refl (omega arith)) in
             record {
-              tree = Array u none;
+              tree = Array u None;
               end = r.end;
               reads = e;
-              by = pieces_of ws pairs 1 (Array u none) r.end (new_underlying own_number (renamed bytes) (Array u none)) (Array (MaybeUninitType own_number u) none) u at (at + 2) refl (omega arith) (omega (arith, t)) d
+              by = pieces_of ws pairs 1 (Array u None) r.end (new_underlying own_number (renamed bytes) (Array u None)) (Array (MaybeUninitType own_number u) None) u at (at + 2) refl (omega arith) (omega (arith, t)) d
                   (ap (λ l. 22 ∷ 0 ∷ l) (uninit-words u) ∙ ap (λ l. l ++ (uninit_words ++ encode u)) (sym front))
                   (deep u (uninit-depth u (deep-some ws pairs (at + 2) d))) (omega arith);
             }
 
-    pub new-sized : get_or ws at 0 ≡ 22 → (get_or ws (at + 1) 0 ≡ 0 → ⊥) → Becomes (new_underlying own_number (renamed bytes)) 1 ws pairs at Unchanged
+    pub new-sized : get_or ws at 0 ≡ 22 → (get_or ws (at + 1) 0 ≡ 0 → ⊥) → Becomes (new_underlying own_number (renamed bytes)) 1 ws pairs at None
     unfolding size_of
     new-sized h k =
         let m = (array_of ws pairs text at (type-read at r.reads) h).1 in
-        let e : type ≡ Array m.value (some (bytes (get_or ws (at + 1) 0 - 1))) = m.made ∙ rw (ne_eqb (get_or ws (at + 1) 0) 0 k) refl in
+        let e : type ≡ Array m.value (Some (bytes (get_or ws (at + 1) 0 - 1))) = m.made ∙ rw (ne_eqb (get_or ws (at + 1) 0) 0 k) refl in
         let a = is-array bytes tree e in
         record {
           tree = r.value;
@@ -244,8 +240,8 @@ module _ (ws pairs : List ℕ) (text : Bytes) where
         }
 
     -- no array: what `Expand` gives is asked
-    module _ (h : get_or ws at 0 ≡ 22 → ⊥) (start : ℕ) (x : ExpandsAt (type_at ws pairs text) at start) {m : Found} (d : Finds (first ArrayClass) (type_at ws pairs text) start m) where
-      no-array : unsized tree ≡ none
+    module _ (h : get_or ws at 0 ≡ 22 → ⊥) (start : ℕ) (x : ExpandsAt (type_at ws pairs text) at start) {m : Option ℕ} (d : Finds (first ArrayClass) (type_at ws pairs text) start m) where
+      no-array : unsized tree ≡ None
       no-array = not-unsized bytes tree λ k. h (sym (type-kind ws pairs text at (type-read at r.reads)) ∙ k)
 
       said : m ≡ found (first ArrayClass (place start (Expand type)))
@@ -254,7 +250,7 @@ module _ (ws pairs : List ℕ) (text : Bytes) where
       multi : is_found m ≡ IsMultiArray type
       multi = ap is_found said ∙ first_found ArrayClass (place start (Expand type)) ∙ sym (multi-array-is type)
 
-      pub new-no-part : m ≡ NoPart → Becomes (new_underlying own_number (renamed bytes)) 1 ws pairs at Unchanged
+      pub new-no-part : m ≡ None → Becomes (new_underlying own_number (renamed bytes)) 1 ws pairs at None
       new-no-part e = record {
         tree = r.value;
         end = r.end;
@@ -262,7 +258,7 @@ module _ (ws pairs : List ℕ) (text : Bytes) where
         by = unchanged (new_none bytes tree no-array (sym multi ∙ ap is_found e));
       }
 
-      pub new-part : {element : ℕ} → m ≡ At element → Becomes (new_underlying own_number (renamed bytes)) 1 ws pairs at (OfArray start element)
+      pub new-part : {element : ℕ} → m ≡ Some element → Becomes (new_underlying own_number (renamed bytes)) 1 ws pairs at (Some (start, element))
       unfolding is_of arity first argument_of
       new-part {element} e =
           let o = opened ws pairs bytes at tree r.reads in
@@ -272,14 +268,14 @@ module _ (ws pairs : List ℕ) (text : Bytes) where
           let a = one_argument bytes (λ p ts. in_class ArrayClass p and eqb (count ts) 1) (λ p ts. one-counted (in_class ArrayClass p) ts) (Expand tree) i in
           let s = expanded-place at r start x in
           let q : tree_at ws pairs start ≡ got (Expand tree) r.end = ap (tree_at ws pairs) (sym s) ∙ o.reads in
-          let c : found (first ArrayClass (place start (renamed bytes (TypeApp (TypeFromPath a.path) (cons a.argument nil))))) ≡ At element =
+          let c : found (first ArrayClass (place start (renamed bytes (TypeApp (TypeFromPath a.path) (cons a.argument nil))))) ≡ Some element =
           ap (λ b. found (first ArrayClass (place start b))) (sym (t ∙ ap (renamed bytes) a.made)) ∙ sym said ∙ e in
           go a.path a.argument (q ∙ ap (λ b. got b r.end) a.made)
           (argument-place bytes start a.path a.argument (found-when (is_of ArrayClass _) (argument_at 0 start _) c))
           (new-multi bytes tree a.path a.argument no-array y a.made) a.made
         where
           go : (p : Path ℕ) (a : Ty ℕ) → tree_at ws pairs start ≡ got (TypeApp (TypeFromPath p) (cons a nil)) r.end → start + 2 + words (TypeFromPath p) ≡ element
-              → new_underlying own_number (renamed bytes) tree ≡ some (TypeApp (TypeFromPath p) (cons (MaybeUninitType own_number a) nil)) → Expand tree ≡ TypeApp (TypeFromPath p) (cons a nil) → Becomes (new_underlying own_number (renamed bytes)) 1 ws pairs at (OfArray start element)
+              → new_underlying own_number (renamed bytes) tree ≡ Some (TypeApp (TypeFromPath p) (cons (MaybeUninitType own_number a) nil)) → Expand tree ≡ TypeApp (TypeFromPath p) (cons a nil) → Becomes (new_underlying own_number (renamed bytes)) 1 ws pairs at (Some (start, element))
           go p a q i k m =
               let b = apply-below ws pairs start q in
               let c : tree_at ws pairs element ≡ got a r.end = ap (tree_at ws pairs) (sym i) ∙ b in
@@ -297,7 +293,7 @@ module _ (ws pairs : List ℕ) (text : Bytes) where
 
   -- ---- under the pointer
 
-  module _ (r : Readable (tree_at ws pairs 0)) {m : Found} (d : Finds ObjectOrPointerUnderlying (type_at ws pairs text) 0 m) where
+  module _ (r : Readable (tree_at ws pairs 0)) {m : Option ℕ} (d : Finds ObjectOrPointerUnderlying (type_at ws pairs text) 0 m) where
     abbrev held : Ty ℕ
     held = r.value
 
@@ -310,7 +306,7 @@ module _ (ws pairs : List ℕ) (text : Bytes) where
     pointer : is_found m ≡ IsObjectOrPointer whole
     pointer = ap is_found told ∙ pointer-found (place 0 whole)
 
-    pub no_pointer : m ≡ NoPart → Becomes (new_array bytes) 2 ws pairs 0 Unchanged
+    pub no_pointer : m ≡ None → Becomes (new_array bytes) 2 ws pairs 0 None
     unfolding new_array when
     no_pointer e =
         let z : IsObjectOrPointer whole ≡ false = sym pointer ∙ ap is_found e in
@@ -323,7 +319,7 @@ module _ (ws pairs : List ℕ) (text : Bytes) where
       new : new_array bytes held ≡ new_underlying own_number (renamed bytes) tree
       deep : 1 + depth tree ≤ depth held
 
-    points : {at : ℕ} → m ≡ At at → Pointed at
+    points : {at : ℕ} → m ≡ Some at → Pointed at
     unfolding IsObjectOrPointer IsPointer IsObject ObjectOrPointerUnderlying expanded argument_of
     points {at} e =
         let o = opened ws pairs bytes 0 held r.reads in
@@ -334,15 +330,15 @@ module _ (ws pairs : List ℕ) (text : Bytes) where
         or-either (IsPointer (renamed bytes (Expand held))) (IsObject (renamed bytes (Expand held))) (OneArgument (Expand held)) i
         (λ k. one_argument bytes _ (λ p ts. one-counted _ ts) (Expand held) k) (λ k. one_argument bytes _ (λ p ts. one-counted _ ts) (Expand held) k) in
         let q = (expanded_at 0 whole).at in
-        let c : found (argument_at 0 q (expanded_at 0 whole).tpe) ≡ At at = found-when (IsObjectOrPointer whole) (argument_at 0 q (expanded_at 0 whole).tpe) (sym told ∙ e) in
+        let c : found (argument_at 0 q (expanded_at 0 whole).tpe) ≡ Some at = found-when (IsObjectOrPointer whole) (argument_at 0 q (expanded_at 0 whole).tpe) (sym told ∙ e) in
         let l = argument-place bytes q a.path a.argument (ap (λ b. found (argument_at 0 q b)) (sym (o.tree ∙ ap (renamed bytes) a.made)) ∙ c) in
         let b : tree_at ws pairs at ≡ got a.argument r.end = ap (tree_at ws pairs) (sym l) ∙ apply-below ws pairs q (o.reads ∙ ap (λ b. got b r.end) a.made) in
         record { tree = a.argument; reads = b; new = new-behind bytes held y a.made; deep = argument-deep held a.path a.argument (deep-some ws pairs at b) a.made }
 
-    pub pointed-readable : {at : ℕ} → m ≡ At at → Readable (tree_at ws pairs at)
+    pub pointed-readable : {at : ℕ} → m ≡ Some at → Readable (tree_at ws pairs at)
     pointed-readable e = let p = points e in record { value = p.tree; end = r.end; reads = p.reads }
 
-    pub pointed-becomes : {at : ℕ} {c : Initial} → m ≡ At at → Becomes (new_underlying own_number (renamed bytes)) 1 ws pairs at c → Becomes (new_array bytes) 2 ws pairs 0 c
+    pub pointed-becomes : {at : ℕ} {c : Option (ℕ × ℕ)} → m ≡ Some at → Becomes (new_underlying own_number (renamed bytes)) 1 ws pairs at c → Becomes (new_array bytes) 2 ws pairs 0 c
     pointed-becomes {at} {c} e b =
         let p = points e in
         let i : b.tree ≡ p.tree = cc (p.reads, b.reads) in

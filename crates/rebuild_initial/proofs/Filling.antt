@@ -1,15 +1,13 @@
 -- What the buffer holds: the pieces, one behind the other, or the words as they are.
+use Rattle.std.specs.Prelude.{Option, Ok, Err, Some, None, Result}
 use Rattle.std.proofs.Common.{◌≡◌, ℕ, ◌+◌, ◌-◌, ◌<◌, ◌≤◌, Bool, true, false, eqb, ltb, List, ◌++◌, length, take, drop, sym, refl, ap, ◌∙◌, subst, arith, length-append, le-ltb, eq-eqb}
-use mathlib.Core.Option.{Option, some, none}
 use lib.Seq.{sets}
 use Rattle.rast.specs.Bytes.{Bytes}
 use Rattle.rast.specs.Tree.{Global, PMemberSelect, Ty}
 use Rattle.rast.specs.DeclarationToString.{Expand}
 use Rattle.encoding.specs.declared.Refusal.{Refusal}
 use Rattle.encoding.specs.declared.Refusal.TheVariants.{LeftOver, TooDeep, BufferTooShort}
-use Rattle.encoding.specs.declared.Check.{Check}
-use Rattle.encoding.specs.declared.Check.TheVariants.{Passed, Failed}
-use Rattle.encoding.specs.Refusals.{pick, given, refused, map_answer, unless}
+use Rattle.encoding.specs.Refusals.{pick, map_answer, unless}
 use Rattle.encoding.specs.Reading.{Reading, got, stop, whole}
 use Rattle.encoding.specs.Scans.{map_reading}
 use Rattle.encoding.specs.Tables.{name_bytes, name_count, check_tables}
@@ -34,14 +32,10 @@ use Rattle.known_paths.specs.Steps.{when, and_then}
 use Rattle.shapes.specs.Accepted.{acceptance}
 use Rattle.shapes.specs.Shapes.{IsObject, IsObjectOrPointer}
 use Rattle.shapes.specs.Initialization.{own_number, ObjectType, PtrType, or_this, new_underlying, TypeAtInitialization}
-use Rattle.rebuild_type.specs.declared.RebuildAnswer.{RebuildAnswer}
-use Rattle.rebuild_type.specs.declared.RebuildAnswer.TheVariants.{Length, Refused}
 use Rattle.rebuild_type.specs.Calls.{RebuiltWords, room_of, zeros, laid_down}
 use Rattle.rebuild_type.specs.Attempts.{same_words, Fills}
 use Rattle.shapes.proofs.Answers.{answer-given, answer-refused}
 use Rattle.rebuild_type.proofs.Calls.{down-over, down-deep, down-front, read-fills, copied-fills, run-whole}
-use Rattle.rebuild_initial.specs.declared.Initial.{Initial}
-use Rattle.rebuild_initial.specs.declared.Initial.TheVariants.{OfArray, Unchanged}
 use Rattle.rebuild_initial.specs.Initialized.{whole_initialized, type_within, pointer_words, uninit_words, initial_words, new_array, Named, Pieces, pieces, unchanged, Becomes, FillsWhole, Shallow}
 use Rattle.rebuild_initial.specs.Calls.{laid_init, type_initialized}
 use Rattle.rebuild_initial.proofs.Changes.{one-words, one-depth}
@@ -52,20 +46,20 @@ module _ (bytes : ℕ → Bytes) (t : Ty ℕ) where
   abbrev pointed : Ty ℕ → Ty ℕ
   pointed v = pick (IsObject (renamed bytes t)) (ObjectType own_number v) (PtrType own_number v)
 
-  initial-is : TypeAtInitialization own_number (renamed bytes) t ≡ or_this t (and_then (new_array bytes t) λ v. some (pointed v))
+  initial-is : TypeAtInitialization own_number (renamed bytes) t ≡ or_this t (and_then (new_array bytes t) λ v. Some (pointed v))
   unfolding TypeAtInitialization new_array when and_then
   initial-is = ap (or_this t) (go (IsObjectOrPointer (renamed bytes t)) (argument 0 (Expand t)) (new_underlying own_number (renamed bytes)))
     where
-      go : (b : Bool) (x : Option (Ty ℕ)) (g : Ty ℕ → Option (Ty ℕ)) → when b (and_then x λ s. and_then (g s) λ v. some (pointed v)) ≡ and_then (when b (and_then x g)) λ v. some (pointed v)
-      go true none g = refl
-      go true (some s) g = refl
+      go : (b : Bool) (x : Option (Ty ℕ)) (g : Ty ℕ → Option (Ty ℕ)) → when b (and_then x λ s. and_then (g s) λ v. Some (pointed v)) ≡ and_then (when b (and_then x g)) λ v. Some (pointed v)
+      go true None g = refl
+      go true (Some s) g = refl
       go false x g = refl
 
-  initial-same : new_array bytes t ≡ none → TypeAtInitialization own_number (renamed bytes) t ≡ t
+  initial-same : new_array bytes t ≡ None → TypeAtInitialization own_number (renamed bytes) t ≡ t
   unfolding or_this and_then
   initial-same e = initial-is ∙ rw e refl
 
-  initial-new : {v : Ty ℕ} → new_array bytes t ≡ some v → TypeAtInitialization own_number (renamed bytes) t ≡ pointed v
+  initial-new : {v : Ty ℕ} → new_array bytes t ≡ Some v → TypeAtInitialization own_number (renamed bytes) t ≡ pointed v
   unfolding or_this and_then
   initial-new e = initial-is ∙ rw e refl
 
@@ -125,20 +119,20 @@ module _ (ws pairs : List ℕ) (text : Bytes) where
     pub deeper : depth (TypeAtInitialization own_number (renamed bytes) tree) ≡ 3 + deep
 
   -- the element stands there, up to the end of the words
-  pub element-shallow : {start element : ℕ} {deepest : Bool} → FillsWhole ws pairs deepest → Becomes (new_array bytes) 2 ws pairs 0 (OfArray start element) → Shallow ws pairs element deepest
+  pub element-shallow : {start element : ℕ} {deepest : Bool} → FillsWhole ws pairs deepest → Becomes (new_array bytes) 2 ws pairs 0 (Some (start, element)) → Shallow ws pairs element deepest
   element-shallow {start} {element} {deepest} w b = go b.by
     where
-      go : Pieces ws pairs 2 b.tree b.end (new_array bytes b.tree) (OfArray start element) → Shallow ws pairs element deepest
+      go : Pieces ws pairs 2 b.tree b.end (new_array bytes b.tree) (Some (start, element)) → Shallow ws pairs element deepest
       go (pieces {u = u} e h l k z d a) =
           let i : b.end ≡ length ws = cc (b.reads, w.reads) in
           let t : b.tree ≡ w.tree = cc (b.reads, w.reads) in
           record { tree = u; inside = l; reads = k ∙ ap (got u) i; shallow = λ s. omega (arith, w.shallow s, ap depth t, a) }
 
-  pub changes : {start element : ℕ} {deepest : Bool} → FillsWhole ws pairs deepest → Becomes (new_array bytes) 2 ws pairs 0 (OfArray start element) → Changes start element (length ws) (depth_of (tree_at ws pairs element))
+  pub changes : {start element : ℕ} {deepest : Bool} → FillsWhole ws pairs deepest → Becomes (new_array bytes) 2 ws pairs 0 (Some (start, element)) → Changes start element (length ws) (depth_of (tree_at ws pairs element))
   unfolding depth_of
   changes {start} {element} w b = go b.by
     where
-      go : Pieces ws pairs 2 b.tree b.end (new_array bytes b.tree) (OfArray start element) → Changes start element (length ws) (depth_of (tree_at ws pairs element))
+      go : Pieces ws pairs 2 b.tree b.end (new_array bytes b.tree) (Some (start, element)) → Changes start element (length ws) (depth_of (tree_at ws pairs element))
       go (pieces {array = v} {u = u} e h l c z d _) =
           let i : b.end ≡ length ws = cc (b.reads, w.reads) in
           let a = tree-run ws pairs element l c in
@@ -161,13 +155,13 @@ module _ (ws pairs : List ℕ) (text : Bytes) where
           }
 
   module _ {start element end deep count : ℕ} (c : Changes start element end deep) (o : List ℕ) (n : count ≡ 15 + (end - start)) where
-    pub change-over : {o' : List ℕ} → room_of o < count → o' ≡ zeros o → Fills laid o o' (Refused BufferTooShort)
+    pub change-over : {o' : List ℕ} → room_of o < count → o' ≡ zeros o → Fills laid o o' (Err BufferTooShort)
     change-over h z = read-fills (map-got (laid_init bytes) c.reads) (down-over o (laid_init bytes c.tree) (omega (arith, h, n, c.size)) z)
 
-    pub change-deep : {o' : List ℕ} → count ≤ room_of o → 61 < deep → o' ≡ zeros o → Fills laid o o' (Refused TooDeep)
+    pub change-deep : {o' : List ℕ} → count ≤ room_of o → 61 < deep → o' ≡ zeros o → Fills laid o o' (Err TooDeep)
     change-deep h d z = read-fills (map-got (laid_init bytes) c.reads) (down-deep o (laid_init bytes c.tree) (omega (arith, h, n, c.size)) (omega (arith, d, c.deeper)) z)
 
-    pub change-front : {name : ℕ} {o' : List ℕ} → count ≤ room_of o → deep ≤ 61 → Named bytes (tree_at ws pairs 0) name → o' ≡ sets o 0 (initial_words ws name start element end) → Fills laid o o' (Length count)
+    pub change-front : {name : ℕ} {o' : List ℕ} → count ≤ room_of o → deep ≤ 61 → Named bytes (tree_at ws pairs 0) name → o' ≡ sets o 0 (initial_words ws name start element end) → Fills laid o o' (Ok count)
     change-front {name} {o'} h d k z =
         let i = k.names c.tree c.last c.reads in
         let w : o' ≡ sets o 0 (encode (TypeAtInitialization own_number (renamed bytes) c.tree)) = z ∙ ap (sets o 0) (ap (λ x. initial_words ws x start element end) i ∙ sym c.words) in
@@ -175,10 +169,10 @@ module _ (ws pairs : List ℕ) (text : Bytes) where
 
   -- ---- a type that stays
 
-  pub stays : {o o' : List ℕ} {r : RebuildAnswer} {c : Initial} {deepest : Bool} → FillsWhole ws pairs deepest → Becomes (new_array bytes) 2 ws pairs 0 c → c ≡ Unchanged → (r, o') ≡ laid_down o (given (same_words ws 0)) → Fills laid o o' r
+  pub stays : {o o' : List ℕ} {r : Result ℕ Refusal} {c : Option (ℕ × ℕ)} {deepest : Bool} → FillsWhole ws pairs deepest → Becomes (new_array bytes) 2 ws pairs 0 c → c ≡ None → (r, o') ≡ laid_down o (Ok (same_words ws 0)) → Fills laid o o' r
   stays {o} {o'} {r} {c} w b e k = go (subst (Pieces ws pairs 2 b.tree b.end (new_array bytes b.tree)) e b.by)
     where
-      go : Pieces ws pairs 2 b.tree b.end (new_array bytes b.tree) Unchanged → Fills laid o o' r
+      go : Pieces ws pairs 2 b.tree b.end (new_array bytes b.tree) None → Fills laid o o' r
       go (unchanged d) =
           let t = b.tree in
           let q : TypeAtInitialization own_number (renamed bytes) t ≡ t = initial-same bytes t d in
@@ -215,38 +209,38 @@ accept-mapped : {A B : Type 0} (f : A → B) (size : ℕ) (x : Reading A) → ac
 unfolding whole map_reading
 accept-mapped f size (got a n) = go (eqb n size)
   where
-    go : (b : Bool) → acceptance (pick b (given (f a)) (refused LeftOver)) ≡ acceptance (pick b (given a) (refused LeftOver))
+    go : (b : Bool) → acceptance (pick b (Ok (f a)) (Err LeftOver)) ≡ acceptance (pick b (Ok a) (Err LeftOver))
     go true = refl
     go false = refl
 accept-mapped f size (stop r) = refl
 
-module _ (ws pairs : List ℕ) (text : Bytes) {c : Check} (deep : ℕ) (e : c ≡ acceptance (whole (length ws) (type_within deep ws pairs text))) where
+module _ (ws pairs : List ℕ) (text : Bytes) {c : Result (Unit {0}) Refusal} (deep : ℕ) (e : c ≡ acceptance (whole (length ws) (type_within deep ws pairs text))) where
   tree-accepted : c ≡ acceptance (whole (length ws) (tree_within deep ws pairs))
   tree-accepted =
       e ∙ ap (λ x. acceptance (whole (length ws) x)) (type-renamed (name_bytes pairs text) (λ x. x) (name_count pairs) ws deep 0)
       ∙ accept-mapped (renamed (name_bytes pairs text)) (length ws) (tree_within deep ws pairs)
 
   -- a type that is read with less depth is read, and less deep
-  whole-within : (deepest : Bool) → ((t : Ty ℕ) → tree_within deep ws pairs ≡ got t (length ws) → tree_at ws pairs 0 ≡ got t (length ws)) → (deepest ≡ false → deep ≤ 63) → c ≡ Passed → FillsWhole ws pairs deepest
+  whole-within : (deepest : Bool) → ((t : Ty ℕ) → tree_within deep ws pairs ≡ got t (length ws) → tree_at ws pairs 0 ≡ got t (length ws)) → (deepest ≡ false → deep ≤ 63) → c ≡ Ok tt → FillsWhole ws pairs deepest
   unfolding unless
   whole-within deepest up low d =
       answer-given (whole (length ws) (tree_within deep ws pairs)) tree-accepted d (FillsWhole ws pairs deepest) λ t i.
-      let r = (given-whole Passed (length ws) (tree_within deep ws pairs) i).1 in
+      let r = (given-whole (Ok tt) (length ws) (tree_within deep ws pairs) i).1 in
       record { tree = t; reads = up t r; shallow = λ s. omega (arith, low s, within (name_count pairs) ws deep 0 t (length ws) r) }
 
-module _ (ws pairs : List ℕ) (text : Bytes) {c : Check} where
-  pub lower-whole : c ≡ acceptance (whole (length ws) (type_within 63 ws pairs text)) → c ≡ Passed → FillsWhole ws pairs false
+module _ (ws pairs : List ℕ) (text : Bytes) {c : Result (Unit {0}) Refusal} where
+  pub lower-whole : c ≡ acceptance (whole (length ws) (type_within 63 ws pairs text)) → c ≡ Ok tt → FillsWhole ws pairs false
   lower-whole e = whole-within ws pairs text 63 e false (λ t. deeper-tree ws pairs) (λ s. omega arith)
 
-  pub deepest-whole : c ≡ acceptance (whole (length ws) (type_within 64 ws pairs text)) → c ≡ Passed → FillsWhole ws pairs true
+  pub deepest-whole : c ≡ acceptance (whole (length ws) (type_within 64 ws pairs text)) → c ≡ Ok tt → FillsWhole ws pairs true
   deepest-whole e = whole-within ws pairs text 64 e true (λ t r. r) (λ s. impossible (cc))
 
-  pub not-whole : {o : List ℕ} {r : Refusal} → c ≡ acceptance (whole (length ws) (type_within 64 ws pairs text)) → c ≡ Failed r
-      → ◌≡◌ {A = RebuildAnswer × List ℕ} (Refused r, o) (laid_down o (whole_initialized ws pairs text))
+  pub not-whole : {o : List ℕ} {r : Refusal} → c ≡ acceptance (whole (length ws) (type_within 64 ws pairs text)) → c ≡ Err r
+      → ◌≡◌ {A = Result ℕ Refusal × List ℕ} (Err r, o) (laid_down o (whole_initialized ws pairs text))
   unfolding laid_down whole_initialized map_answer
   not-whole e d = rw (answer-refused (whole (length ws) (tree_at ws pairs 0)) (tree-accepted ws pairs text 64 e) d) refl
 
-module _ (ws pairs : List ℕ) (text : Bytes) {o o' : List ℕ} {r : RebuildAnswer} where
+module _ (ws pairs : List ℕ) (text : Bytes) {o o' : List ℕ} {r : Result ℕ Refusal} where
   pub whole-filled : {deepest : Bool} → FillsWhole ws pairs deepest → Fills (map_reading (laid_init (name_bytes pairs text)) (tree_at ws pairs 0)) o o' r → (r, o') ≡ laid_down o (whole_initialized ws pairs text)
   unfolding map_reading whole_initialized map_answer whole
   whole-filled w f = rw (w.reads, eq-eqb (length ws) (length ws) refl) (f.fills (laid_init (name_bytes pairs text) w.tree) (length ws) (rw w.reads refl))

@@ -1,4 +1,5 @@
 -- The pointer that a type is, by the words that stand there, and its name.
+use Rattle.std.specs.Prelude.{Some, None, Option}
 use Rattle.std.proofs.Common.{◌≡◌, ℕ, ◌+◌, ◌<◌, ◌≤◌, Bool, true, false, eqb, List, get_or, sym, refl, ap, ◌∙◌, arith, eq-eqb, ne_eqb}
 use Rattle.rast.specs.Bytes.{Bytes, ascii, same, ◌and◌}
 use Rattle.rast.specs.Tree.{Ty, Tys, nil, cons, count}
@@ -24,7 +25,6 @@ use Rattle.unwrap.proofs.TypesIn.{apply-of}
 use Rattle.unwrap.proofs.Expanding.{synonym-words, meta-words}
 use Rattle.known_paths.specs.declared.Class.{Class}
 use Rattle.known_paths.specs.declared.Class.TheVariants.{ObjectClass, PtrClass}
-use Rattle.known_paths.specs.declared.Found.TheVariants.{At}
 use Rattle.known_paths.specs.Asked.{InRuntime, found, Finds}
 use Rattle.known_paths.specs.Classes.{in_class, member_in, arity, is_of}
 use Rattle.known_paths.specs.Matches.{applied}
@@ -34,8 +34,6 @@ use Rattle.known_paths.proofs.Worded.{word-other, count-other, base-word-other, 
 use Rattle.shapes.specs.Parts.{expanded, ObjectOrPointerUnderlying}
 use Rattle.shapes.specs.Shapes.{IsObject, IsObjectOrPointer}
 use Rattle.shapes.proofs.Pointers.{expanded-tree, pointer_is}
-use Rattle.rebuild_initial.specs.declared.Pointer.{Pointer}
-use Rattle.rebuild_initial.specs.declared.Pointer.TheVariants.{To, NoPointer}
 use Rattle.rebuild_initial.specs.Initialized.{pointer_name, Member, OfRuntime, under_pointer, Points}
 use Rattle.rebuild_initial.proofs.Changes.{type-read, expanded-place}
 
@@ -64,7 +62,7 @@ module _ (ws pairs : List ℕ) (text : Bytes) (at : ℕ) where
     pub runtime-base : (get_or ws (at + 2) 0 ≡ 13 → ⊥) → OfRuntime ws pairs text at false
     runtime-base h = runtime-none λ class m. base-word-other ws pairs text at class k h
 
-first-index : (p : ℕ) (ts : Tys Bytes) → count ts ≡ 1 → found (type_at_index 0 p ts) ≡ At p
+first-index : (p : ℕ) (ts : Tys Bytes) → count ts ≡ 1 → found (type_at_index 0 p ts) ≡ Some p
 unfolding type_at_index found count
 first-index p nil e = absurd (let z : ⊥ = omega (arith, e) in z)
 first-index p (cons t ts) e = refl
@@ -85,7 +83,7 @@ module _ (ws pairs : List ℕ) (text : Bytes) (at : ℕ) (x : Readable (type_at 
         let c = types-count (type_at ws pairs text) (get_or ws (at + 1) 0) a.middle a.reads₂ ∙ j in
         let w = type-words ws pairs text (at + 2) a.reads in
         let q : at + 2 + words a.left ≡ at + 7 = omega (arith, w, p.end, i.two e) in
-        rw a.made (first-index (at + 2 + words a.left) a.right c ∙ ap At q);
+        rw a.made (first-index (at + 2 + words a.left) a.right c ∙ ap Some q);
   }
     where
       own : InsidePath (name_count pairs) ws there
@@ -136,7 +134,7 @@ module _ (ws pairs : List ℕ) (text : Bytes) (r : Readable (tree_at ws pairs 0)
   pointer-like = (o.of PtrClass pointer-member).says (Expand type) r.end opened
 
   -- the answer to the type that was read
-  part_of : (m : Pointer) → under_pointer m ≡ found (ObjectOrPointerUnderlying (place 0 type)) → Finds ObjectOrPointerUnderlying (type_at ws pairs text) 0 (under_pointer m)
+  part_of : (m : Option (ℕ × ℕ)) → under_pointer m ≡ found (ObjectOrPointerUnderlying (place 0 type)) → Finds ObjectOrPointerUnderlying (type_at ws pairs text) 0 (under_pointer m)
   part_of m e = record {
     says = λ t n d.
         let k = type-read ws pairs text 0 r.reads in
@@ -144,44 +142,45 @@ module _ (ws pairs : List ℕ) (text : Bytes) (r : Readable (tree_at ws pairs 0)
         e ∙ ap (λ u. found (ObjectOrPointerUnderlying (place 0 u))) i;
   }
 
-  pub no-pointer-here : (b and same member (ascii "Object")) ≡ false → (b and same member (ascii "Ptr")) ≡ false → Points ws pairs text NoPointer
+  pub no-pointer-here : (b and same member (ascii "Object")) ≡ false → (b and same member (ascii "Ptr")) ≡ false → Points ws pairs text None
   unfolding ObjectOrPointerUnderlying when found under_pointer
   no-pointer-here h k =
       let z : IsObjectOrPointer type ≡ false = sym (pointer_is type) ∙ rw (sym pointer-like, sym object-is, h, k) refl in
-      record { part = part_of NoPointer (rw z refl); name = λ n p e. impossible (cc) }
+      record { part = part_of None (rw z refl); name = λ n p e. impossible (cc) }
 
-  points_to : (k : ℕ) → b ≡ true → IsObjectOrPointer type ≡ true → k ≡ pick (is_of ObjectClass (Expand type) and eqb at 0) 11 12 → Points ws pairs text (To k (at + 7))
+  points_to : (k : ℕ) → b ≡ true → IsObjectOrPointer type ≡ true → k ≡ pick (is_of ObjectClass (Expand type) and eqb at 0) 11 12 → Points ws pairs text (Some (k, at + 7))
   unfolding ObjectOrPointerUnderlying expanded argument_of when under_pointer IsObject is_of in_class arity
   points_to k e y n =
-      let q : found (argument_at 0 at (Expand type)) ≡ At (at + 7) = o.argument (Expand type) r.end e opened in
+      let q : found (argument_at 0 at (Expand type)) ≡ Some (at + 7) = o.argument (Expand type) r.end e opened in
       record {
-        part = part_of (To k (at + 7)) (rw (y, expanded-tree 0 type, expanded-place ws pairs text 0 r at x) (sym q));
+        part = part_of (Some (k, at + 7)) (rw (y, expanded-tree 0 type, expanded-place ws pairs text 0 r at x) (sym q));
         name = λ m p d. record {
           names = λ t l c.
               let i : r.value ≡ t = cc (r.reads, c) in
-              let j : k ≡ m = cc in
+              let q : ◌≡◌ {A = ℕ × ℕ} (k, at + 7) (m, p) = cc in
+              let j : k ≡ m = ap (λ z. z.0) q in
               sym j ∙ n ∙ ap (λ u. pick u 11 12) (sym (bare-only type at stands) ∙ ap (λ u. is_of ObjectClass (renamed bytes u)) i);
         };
       }
 
   module _ (e : b ≡ true) where
-    pub object-here : {k : ℕ} → same member (ascii "Object") ≡ true → k ≡ pointer_name at → Points ws pairs text (To k (at + 7))
+    pub object-here : {k : ℕ} → same member (ascii "Object") ≡ true → k ≡ pointer_name at → Points ws pairs text (Some (k, at + 7))
     unfolding ◌and◌ pointer_name
     object-here {k} h n =
         let i : is_of ObjectClass (Expand type) ≡ true = sym object-is ∙ rw (e, h) refl in
         points_to k e (sym (pointer_is type) ∙ rw i (or-true (is_of PtrClass (Expand type)))) (n ∙ rw i refl)
 
-    pub pointer-here : same member (ascii "Object") ≡ false → same member (ascii "Ptr") ≡ true → Points ws pairs text (To 12 (at + 7))
+    pub pointer-here : same member (ascii "Object") ≡ false → same member (ascii "Ptr") ≡ true → Points ws pairs text (Some (12, at + 7))
     unfolding ◌and◌
     pointer-here h k =
         let i : is_of ObjectClass (Expand type) ≡ false = sym object-is ∙ rw (e, h) refl in
         let j : is_of PtrClass (Expand type) ≡ true = sym pointer-like ∙ rw (e, k) refl in
         points_to 12 e (sym (pointer_is type) ∙ rw j refl) (rw i refl)
 
-    pub neither-here : same member (ascii "Object") ≡ false → same member (ascii "Ptr") ≡ false → Points ws pairs text NoPointer
+    pub neither-here : same member (ascii "Object") ≡ false → same member (ascii "Ptr") ≡ false → Points ws pairs text None
     unfolding ◌and◌
     neither-here h k = no-pointer-here (rw (e, h) refl) (rw (e, k) refl)
 
-  pub none_here : b ≡ false → Points ws pairs text NoPointer
+  pub none_here : b ≡ false → Points ws pairs text None
   unfolding ◌and◌
   none_here e = no-pointer-here (rw e refl) (rw e refl)

@@ -1,16 +1,16 @@
 -- What the call has written is an encoding that is accepted, and holds the type at initialization.
+use Rattle.std.specs.Prelude.{Option, Some, None, Ok, Err}
 use Prim.Native.Nat.{ℕ, ◌≤◌}
 use mathlib.Core.Path.{◌≡◌, refl, sym, subst}
 use mathlib.Core.Bool.{Bool, true, false}
 use mathlib.Core.List.{List, [], ◌++◌}
-use mathlib.Core.Option.{Option, some, none}
 use native.Mathlib.Omega.{arith}
 use lib.ListN.{length}
 use Rattle.rast.specs.Bytes.{Bytes}
 use Rattle.rast.specs.Tree.{Ty, Primitive, TIdentifier, TypeFromPath, TypeApp, Borrowed, BorrowedMut, ImplType, DynType, TupleType, FnType, IntersectionType, Array, TSynonym, TMetaData, nil, cons}
 use Rattle.rast.specs.DeclarationToString.{Expand}
 use Rattle.encoding.specs.Words.{max_depth, first_pair}
-use Rattle.encoding.specs.Refusals.{pick, Answer, given, refused, map_answer}
+use Rattle.encoding.specs.Refusals.{pick, Answer, map_answer}
 use Rattle.encoding.specs.Tables.{check_tables, name_bytes, name_count}
 use Rattle.encoding.proofs.Answers.{given-whole}
 use Rattle.encoding.proofs.Tables.{impossible}
@@ -42,14 +42,14 @@ module _ (b : ℕ) (fixed : first_pair ≤ b) where
 
   -- of a tree, if there is one
   abbrev Maybe : Option (Ty ℕ) → Type 0
-  Maybe none = Unit {0}
-  Maybe (some t) = Known t
+  Maybe None = Unit {0}
+  Maybe (Some t) = Known t
 
   -- a part, and what is made of it
   then-known : (x : Option (Ty ℕ)) (f : Ty ℕ → Option (Ty ℕ)) → Maybe x → ((t : Ty ℕ) → Known t → Maybe (f t)) → Maybe (and_then x f)
   unfolding and_then
-  then-known none f h k = tt
-  then-known (some t) f h k = k t h
+  then-known None f h k = tt
+  then-known (Some t) f h k = k t h
 
   when-known : (c : Bool) (x : Option (Ty ℕ)) → Maybe x → Maybe (when c x)
   unfolding when
@@ -58,8 +58,8 @@ module _ (b : ℕ) (fixed : first_pair ≤ b) where
 
   else-known : (x y : Option (Ty ℕ)) → Maybe x → Maybe y → Maybe (or_else x y)
   unfolding or_else
-  else-known none y h k = k
-  else-known (some t) y h k = h
+  else-known None y h k = k
+  else-known (Some t) y h k = h
 
   pick-known : (c : Bool) (t u : Ty ℕ) → Known t → Known u → Known (pick c t u)
   pick-known true t u h k = h
@@ -117,8 +117,8 @@ module _ (b : ℕ) (fixed : first_pair ≤ b) where
   unsized-known (TupleType ts) h = tt
   unsized-known (FnType ts t) h = tt
   unsized-known (IntersectionType l r) h = tt
-  unsized-known (Array t none) h = h.1.1
-  unsized-known (Array t (some x)) h = tt
+  unsized-known (Array t None) h = h.1.1
+  unsized-known (Array t (Some x)) h = tt
   unsized-known (TSynonym d c) h = tt
   unsized-known (TMetaData d c o) h = tt
 
@@ -156,39 +156,39 @@ module _ (b : ℕ) (fixed : first_pair ≤ b) where
     new-known : (s : Ty ℕ) → Known s → Maybe (new_underlying own_number spelled s)
     unfolding new_underlying tokens
     new-known s h =
-        else-known (and_then (unsized s) λ u. some (Array (MaybeUninitType own_number u) none)) (when (IsMultiArray (spelled s)) (and_then (argument 0 (Expand s)) λ a. applied_to_uninit own_number a (Expand s)))
+        else-known (and_then (unsized s) λ u. Some (Array (MaybeUninitType own_number u) None)) (when (IsMultiArray (spelled s)) (and_then (argument 0 (Expand s)) λ a. applied_to_uninit own_number a (Expand s)))
         (then-known (unsized s) _ (unsized-known s h) λ u k. (tt, (tt, uninit-known u k)))
         (when-known (IsMultiArray (spelled s)) _ (then-known (argument 0 (Expand s)) _ (argument-known (Expand s) (expand-known s h)) λ a k. applied-known a k (Expand s) (expand-known s h)))
 
     initial-known : (t : Ty ℕ) → Known t → Known (TypeAtInitialization own_number spelled t)
     unfolding TypeAtInitialization or_this
     initial-known t h =
-        this (when (IsObjectOrPointer (spelled t)) (and_then (argument 0 (Expand t)) λ s. and_then (new_underlying own_number spelled s) λ n. some (pick (IsObject (spelled t)) (ObjectType own_number n) (PtrType own_number n))))
+        this (when (IsObjectOrPointer (spelled t)) (and_then (argument 0 (Expand t)) λ s. and_then (new_underlying own_number spelled s) λ n. Some (pick (IsObject (spelled t)) (ObjectType own_number n) (PtrType own_number n))))
         (when-known (IsObjectOrPointer (spelled t)) _
         (then-known (argument 0 (Expand t)) _ (argument-known (Expand t) (expand-known t h)) λ s k.
         then-known (new_underlying own_number spelled s) _ (new-known s k) λ n i.
         pick-known (IsObject (spelled t)) (ObjectType own_number n) (PtrType own_number n) (object-known n i) (ptr-known n i)))
       where
         this : (x : Option (Ty ℕ)) → Maybe x → Known (or_this t x)
-        this none k = h
-        this (some u) k = k
+        this None k = h
+        this (Some u) k = k
 
 -- ---- what was written
 
 -- the tree behind an answer
 record Behind {A B : Type 0} (f : A → B) (x : Answer A) (b : B) : Type 0 where
   value : A
-  held : x ≡ given value
+  held : x ≡ Ok value
   made : b ≡ f value
 
-map-given : {A B : Type 0} (f : A → B) (x : Answer A) {b : B} → map_answer f x ≡ given b → Behind f x b
+map-given : {A B : Type 0} (f : A → B) (x : Answer A) {b : B} → map_answer f x ≡ Ok b → Behind f x b
 unfolding map_answer
-map-given f (given a) e = record { value = a; held = refl; made = cc }
-map-given f (refused r) e = impossible (cc)
+map-given f (Ok a) e = record { value = a; held = refl; made = cc }
+map-given f (Err r) e = impossible (cc)
 
 -- a type within the limits, as it stands at initialization
 pub initial-read-back : (words pairs : List ℕ) (text : Bytes) (out : List ℕ) {b : RebuiltWords}
-    → type_initialized words pairs text ≡ given b → b.top ≤ room_of out → b.deep ≤ max_depth → HoldsInitial words pairs text b.words
+    → type_initialized words pairs text ≡ Ok b → b.top ≤ room_of out → b.deep ≤ max_depth → HoldsInitial words pairs text b.words
 unfolding type_initialized tree_of
 initial-read-back ws pairs text out {b} e l k =
     let r = map-given (laid_init (name_bytes pairs text)) (tree_of ws pairs text) e in

@@ -1,6 +1,6 @@
 -- `TypeAtInitialization` of a tree of name numbers is the source's on the tree of strings.
+use Rattle.std.specs.Prelude.{Option, Some, None}
 use Rattle.std.proofs.Common.{◌≡◌, ℕ, Bool, true, false, ltb, List, [], get_or, sym, refl, ap}
-use mathlib.Core.Option.{Option, some, none}
 use Rattle.rast.specs.Bytes.{Bytes}
 use Rattle.rast.specs.Tree.{Ty, Primitive, TIdentifier, TypeFromPath, TypeApp, Borrowed, BorrowedMut, ImplType, DynType, TupleType, FnType, IntersectionType, Array, TSynonym, TMetaData, nil, cons}
 use Rattle.rast.specs.DeclarationToString.{Expand}
@@ -15,8 +15,8 @@ use Rattle.shapes.specs.Initialization.{or_this, own_number, MaybeUninitType, Ob
 
 -- what is there, made into something else
 abbrev through : {A B : Type 0} → (A → B) → Option A → Option B
-through f none = none
-through f (some a) = some (f a)
+through f None = None
+through f (Some a) = Some (f a)
 
 -- ---- parts of a renamed tree
 
@@ -69,8 +69,8 @@ module _ {N M : Type 0} (f : N → M) where
   unsized-renamed (TupleType ts) = refl
   unsized-renamed (FnType ts t) = refl
   unsized-renamed (IntersectionType l r) = refl
-  unsized-renamed (Array t none) = refl
-  unsized-renamed (Array t (some x)) = refl
+  unsized-renamed (Array t None) = refl
+  unsized-renamed (Array t (Some x)) = refl
   unsized-renamed (TSynonym d b) = refl
   unsized-renamed (TMetaData d c o) = refl
 
@@ -96,7 +96,7 @@ module _ {N M : Type 0} (f : N → M) (fixed : ℕ → N) (fixed' : ℕ → M) (
   applied-renamed a (Primitive p) = refl
   applied-renamed a (TIdentifier x) = refl
   applied-renamed a (TypeFromPath p) = refl
-  applied-renamed a (TypeApp b ts) = ap (λ (v : Ty M). some (TypeApp (renamed f b) (cons v nil))) (sym (uninit-renamed a))
+  applied-renamed a (TypeApp b ts) = ap (λ (v : Ty M). Some (TypeApp (renamed f b) (cons v nil))) (sym (uninit-renamed a))
   applied-renamed a (Borrowed t) = refl
   applied-renamed a (BorrowedMut t) = refl
   applied-renamed a (ImplType t) = refl
@@ -113,28 +113,28 @@ module _ {N M : Type 0} (f : N → M) (fixed : ℕ → N) (fixed' : ℕ → M) (
   new-renamed s = rw (unsized-renamed f s, alike s, expand-renamed f s, argument-renamed f (Expand s)) (go (unsized s) (IsMultiArray (spelled s)) (argument 0 (Expand s)))
     where
       go : (u : Option (Ty N)) (b : Bool) (x : Option (Ty N))
-          → or_else (and_then (through (renamed f) u) λ v. some (Array (MaybeUninitType fixed' v) none)) (when b (and_then (through (renamed f) x) λ a. applied_to_uninit fixed' a (renamed f (Expand s))))
-          ≡ through (renamed f) (or_else (and_then u λ v. some (Array (MaybeUninitType fixed v) none)) (when b (and_then x λ a. applied_to_uninit fixed a (Expand s))))
-      go (some v) b x = ap (λ (t : Ty M). some (Array t none)) (sym (uninit-renamed v))
-      go none true (some a) = applied-renamed a (Expand s)
-      go none true none = refl
-      go none false x = refl
+          → or_else (and_then (through (renamed f) u) λ v. Some (Array (MaybeUninitType fixed' v) None)) (when b (and_then (through (renamed f) x) λ a. applied_to_uninit fixed' a (renamed f (Expand s))))
+          ≡ through (renamed f) (or_else (and_then u λ v. Some (Array (MaybeUninitType fixed v) None)) (when b (and_then x λ a. applied_to_uninit fixed a (Expand s))))
+      go (Some v) b x = ap (λ (t : Ty M). Some (Array t None)) (sym (uninit-renamed v))
+      go None true (Some a) = applied-renamed a (Expand s)
+      go None true None = refl
+      go None false x = refl
 
   pub initial-renamed : (t : Ty N) → renamed f (TypeAtInitialization fixed spelled t) ≡ TypeAtInitialization fixed' spelled' (renamed f t)
   unfolding TypeAtInitialization and_then when or_this
   initial-renamed t = sym (rw (alike t, expand-renamed f t, argument-renamed f (Expand t)) (go (IsObjectOrPointer (spelled t)) (argument 0 (Expand t)) (IsObject (spelled t))))
     where
       pointed : (b : Bool) (x : Option (Ty N)) (y : Option (Ty M)) → y ≡ through (renamed f) x
-          → or_this (renamed f t) (and_then y λ n. some (pick b (ObjectType fixed' n) (PtrType fixed' n))) ≡ renamed f (or_this t (and_then x λ n. some (pick b (ObjectType fixed n) (PtrType fixed n))))
-      pointed true (some n) y e = rw e (sym (object-renamed n))
-      pointed false (some n) y e = rw e (sym (ptr-renamed n))
-      pointed b none y e = rw e refl
+          → or_this (renamed f t) (and_then y λ n. Some (pick b (ObjectType fixed' n) (PtrType fixed' n))) ≡ renamed f (or_this t (and_then x λ n. Some (pick b (ObjectType fixed n) (PtrType fixed n))))
+      pointed true (Some n) y e = rw e (sym (object-renamed n))
+      pointed false (Some n) y e = rw e (sym (ptr-renamed n))
+      pointed b None y e = rw e refl
 
       go : (a : Bool) (x : Option (Ty N)) (b : Bool)
-          → or_this (renamed f t) (when a (and_then (through (renamed f) x) λ s. and_then (new_underlying fixed' spelled' s) λ n. some (pick b (ObjectType fixed' n) (PtrType fixed' n))))
-          ≡ renamed f (or_this t (when a (and_then x λ s. and_then (new_underlying fixed spelled s) λ n. some (pick b (ObjectType fixed n) (PtrType fixed n)))))
-      go true (some s) b = pointed b (new_underlying fixed spelled s) (new_underlying fixed' spelled' (renamed f s)) (new-renamed s)
-      go true none b = refl
+          → or_this (renamed f t) (when a (and_then (through (renamed f) x) λ s. and_then (new_underlying fixed' spelled' s) λ n. Some (pick b (ObjectType fixed' n) (PtrType fixed' n))))
+          ≡ renamed f (or_this t (when a (and_then x λ s. and_then (new_underlying fixed spelled s) λ n. Some (pick b (ObjectType fixed n) (PtrType fixed n)))))
+      go true (Some s) b = pointed b (new_underlying fixed spelled s) (new_underlying fixed' spelled' (renamed f s)) (new-renamed s)
+      go true None b = refl
       go false x b = refl
 
 -- ---- what the call gives

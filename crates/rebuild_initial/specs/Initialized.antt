@@ -1,6 +1,5 @@
 -- The type at initialization where the tables hold, and the pieces that its words are copied from.
-use Rattle.std.specs.Prelude.{◌≡◌, ℕ, ◌+◌, ◌<◌, ◌≤◌, Bool, true, false, List, [], ◌∷◌, ◌++◌, length, ◌==◌, slice_index, slice_range}
-use Rattle.std.proofs.Math.Option.{Option, some, none}
+use Rattle.std.specs.Prelude.{Option, Some, None, ◌≡◌, ℕ, ◌+◌, ◌<◌, ◌≤◌, Bool, true, false, List, [], ◌∷◌, ◌++◌, length, ◌==◌, slice_index, slice_range}
 use Rattle.rast.specs.Bytes.{Bytes, ◌and◌}
 use Rattle.rast.specs.Tree.{Path, Ty}
 use Rattle.rast.specs.DeclarationToString.{Expand}
@@ -15,8 +14,6 @@ use Rattle.tree_words.specs.Numbered.{tree_at}
 use Rattle.rebuild_spec.specs.Laying.{depth}
 use Rattle.unwrap.specs.Asked.{Judges}
 use Rattle.known_paths.specs.declared.Class.{Class}
-use Rattle.known_paths.specs.declared.Found.{Found}
-use Rattle.known_paths.specs.declared.Found.TheVariants.{At, NoPart}
 use Rattle.known_paths.specs.Asked.{found, Finds}
 use Rattle.known_paths.specs.Classes.{in_class, member_in, arity, is_of}
 use Rattle.known_paths.specs.Matches.{argument}
@@ -26,10 +23,6 @@ use Rattle.shapes.specs.Parts.{ObjectOrPointerUnderlying}
 use Rattle.shapes.specs.Shapes.{IsObject, IsObjectOrPointer}
 use Rattle.shapes.specs.Initialization.{own_number, new_underlying}
 use Rattle.rebuild_type.specs.Calls.{RebuiltWords}
-use Rattle.rebuild_initial.specs.declared.Initial.{Initial}
-use Rattle.rebuild_initial.specs.declared.Initial.TheVariants.{OfArray, Unchanged}
-use Rattle.rebuild_initial.specs.declared.Pointer.{Pointer}
-use Rattle.rebuild_initial.specs.declared.Pointer.TheVariants.{To, NoPointer}
 use Rattle.rebuild_initial.specs.Calls.{laid_init}
 
 -- the type that fills the words, as it stands at initialization; the tables hold
@@ -78,29 +71,29 @@ pub record OfRuntime (ws pairs : List ℕ) (text : Bytes) (at : ℕ) (r : Bool) 
   pub inside : r ≡ true → at + 6 < length ws
   pub below : r ≡ true → slice_index ws (at + 6) < name_count pairs
   pub of : (class : Class) → Member class → Judges (is_of class) (type_at ws pairs text at) (r and member_in class (name_bytes pairs text (slice_index ws (at + 6))))
-  pub argument : (t : Ty Bytes) (n : ℕ) → r ≡ true → type_at ws pairs text at ≡ got t n → found (argument_at 0 at t) ≡ At (at + 7)
+  pub argument : (t : Ty Bytes) (n : ℕ) → r ≡ true → type_at ws pairs text at ≡ got t n → found (argument_at 0 at t) ≡ Some (at + 7)
 
 -- where the type under a pointer stands
-unfoldable pub under_pointer : Pointer → Found
-under_pointer (To name at) = At at
-under_pointer NoPointer = NoPart
+unfoldable pub under_pointer : Option (ℕ × ℕ) → Option ℕ
+under_pointer (Some (name, at)) = Some at
+under_pointer None = None
 
 -- the pointer that the type at the front is
-pub record Points (ws pairs : List ℕ) (text : Bytes) (r : Pointer) : Type 0 where
+pub record Points (ws pairs : List ℕ) (text : Bytes) (r : Option (ℕ × ℕ)) : Type 0 where
   pub part : Finds ObjectOrPointerUnderlying (type_at ws pairs text) 0 (under_pointer r)
-  pub name : (k at : ℕ) → r ≡ To k at → Named (name_bytes pairs text) (tree_at ws pairs 0) k
+  pub name : (k at : ℕ) → r ≡ Some (k, at) → Named (name_bytes pairs text) (tree_at ws pairs 0) k
 
 -- ---- the array
 
 -- where the pieces of a new array stand, if there is one: the element ends at `end`, and at least `around` types stand around it in t
-pub data Pieces (ws pairs : List ℕ) (around : ℕ) (t : Ty ℕ) (end : ℕ) (new : Option (Ty ℕ)) : Initial → Type 0 where
-  pieces : {array u : Ty ℕ} {start element : ℕ} → new ≡ some array → start ≤ element → element ≤ length ws → tree_at ws pairs element ≡ got u end
+pub data Pieces (ws pairs : List ℕ) (around : ℕ) (t : Ty ℕ) (end : ℕ) (new : Option (Ty ℕ)) : Option (ℕ × ℕ) → Type 0 where
+  pieces : {array u : Ty ℕ} {start element : ℕ} → new ≡ Some array → start ≤ element → element ≤ length ws → tree_at ws pairs element ≡ got u end
       → encode array ≡ slice_range ws start element ++ (uninit_words ++ encode u) → depth array ≡ 2 + depth u → around + depth u ≤ depth t
-      → Pieces ws pairs around t end new (OfArray start element)
-  unchanged : new ≡ none → Pieces ws pairs around t end new Unchanged
+      → Pieces ws pairs around t end new (Some (start, element))
+  unchanged : new ≡ None → Pieces ws pairs around t end new None
 
 -- what f makes of the tree at a position, by its pieces
-pub record Becomes (f : Ty ℕ → Option (Ty ℕ)) (around : ℕ) (ws pairs : List ℕ) (at : ℕ) (r : Initial) : Type 0 where
+pub record Becomes (f : Ty ℕ → Option (Ty ℕ)) (around : ℕ) (ws pairs : List ℕ) (at : ℕ) (r : Option (ℕ × ℕ)) : Type 0 where
   pub tree : Ty ℕ
   pub end : ℕ
   pub reads : tree_at ws pairs at ≡ got tree end

@@ -1,7 +1,7 @@
 // The type at initialization, into a lent buffer of words: under a pointer, an array's elements become `MaybeUninit`.
 #![tactic(auto)]
 
-ghost use Rattle.std.specs.Prelude.{◌≡◌, ◌+◌, ◌-◌, ◌<◌, ◌≤◌, length, nat_lt};
+ghost use Rattle.std.specs.Prelude.{Ok, Err, Some, None, true, false, ◌≡◌, ◌+◌, ◌-◌, ◌<◌, ◌≤◌, length, nat_lt};
 ghost use Rattle.std.proofs.lemmas.List.Edits.{sets};
 ghost use Rattle.encoding.specs.Words.{max_words, max_depth};
 ghost use Rattle.encoding.specs.Reading.{whole};
@@ -17,18 +17,15 @@ ghost use Rattle.shapes.specs.Accepted.{acceptance};
 ghost use Rattle.shapes.specs.Initialization.{own_number, new_underlying};
 ghost use Rattle.rebuild_type.specs.Calls.{laid_down};
 ghost use Rattle.rebuild_type.specs.Attempts.{Fills};
-ghost use Rattle.rebuild_initial.specs.declared.Initial.TheVariants.{OfArray};
-ghost use Rattle.rebuild_initial.specs.declared.Pointer.TheVariants.{To};
 ghost use Rattle.rebuild_initial.specs.Initialized.{whole_initialized, type_within, initial_words, new_array, pointer_name, Becomes, Named, OfRuntime, Points, Shallow, FillsWhole};
 ghost use Rattle.rebuild_initial.specs.Calls.{laid_init, type_initialized};
 
+use encoding::Refusal;
 use encoding::words::{
     ARRAY, DAFNY_RUNTIME, GLOBAL, MAX_DEPTH, MAX_WORDS, MAYBE_UNINIT, MEM, OBJECT, PTR, STD,
     TYPE_APP, TYPE_FROM_PATH,
 };
-use encoding::{Check, Refusal, Scan};
-use known_paths::{Class, Found};
-use rebuild_type::RebuildAnswer;
+use known_paths::Class;
 
 // The words of `::std::mem::MaybeUninit` of a type, before those of the type.
 const UNINIT: [u32; 8] = [
@@ -45,6 +42,7 @@ const UNINIT: [u32; 8] = [
 // ---- the pointer
 
 // Whether a member of `dafny_runtime` is applied to one type there. It is seen by the words: the member's name is then the seventh, and the type stands behind it.
+// Kept: `starts_with` would lay out the five words that are asked for at each use (docs/SPEED.md, constant tables; older toolchain, not tried).
 fn is_of_runtime(words: &[u32], pairs: &[u32], text: &[u8], at: usize) -> bool
     requires { Good pairs.now text.now × Readable (type_at words.now pairs.now text.now at) }
     ensures { OfRuntime words.now pairs.now text.now at result }
@@ -74,13 +72,6 @@ fn is_of_runtime(words: &[u32], pairs: &[u32], text: &[u8], at: usize) -> bool
     )
 }
 
-// The name of the new pointer and where the type under it stands, if there is one.
-#[derive(Clone, Copy)]
-enum Pointer {
-    To { name: u32, at: usize },
-    NoPointer,
-}
-
 // The number of the name that an `Object` becomes: one behind wrappers becomes a `Ptr`.
 fn object_name(place: usize) -> u32
     ensures { result ≡ pointer_name place }
@@ -92,67 +83,43 @@ fn object_name(place: usize) -> u32
 }
 
 // The pointer that the type at the front is, behind its wrappers.
-fn find_pointer(words: &[u32], pairs: &[u32], text: &[u8]) -> Pointer
+fn find_pointer(words: &[u32], pairs: &[u32], text: &[u8]) -> Option<(u32, usize)>
     requires { Good pairs.now text.now × Readable (tree_at words.now pairs.now 0) }
     ensures { Points words.now pairs.now text.now result }
 {
     let place = unwrap::expand(words, pairs, text, 0);
     if !is_of_runtime(words, pairs, text, place) {
-        return Pointer::NoPointer;
+        return None;
     }
     let member = words[place + 6];
     if encoding::is_name(pairs, text, member, OBJECT, b"Object") {
-        return Pointer::To {
-            name: object_name(place),
-            at: place + 7,
-        };
+        return Some((object_name(place), place + 7));
     }
     if encoding::is_name(pairs, text, member, PTR, b"Ptr") {
-        return Pointer::To {
-            name: PTR,
-            at: place + 7,
-        };
+        return Some((PTR, place + 7));
     }
-    Pointer::NoPointer
+    None
 }
 
 // ---- the array
 
-// Where the array under the pointer and its element stand; or nothing changes. The array's own words are those before its element.
-#[derive(Clone, Copy)]
-enum Initial {
-    OfArray { start: usize, element: usize },
-    Unchanged,
-}
-
 // An array without a size, by its element, else a `MultiArray`, which may be wrapped.
-fn array_at(words: &[u32], pairs: &[u32], text: &[u8], at: usize) -> Initial
+fn array_at(words: &[u32], pairs: &[u32], text: &[u8], at: usize) -> Option<(usize, usize)>
     requires { Good pairs.now text.now × Readable (tree_at words.now pairs.now at) }
     ensures { Becomes (new_underlying own_number (renamed (name_bytes pairs.now text.now))) 1 words.now pairs.now at result }
 {
     if words[at] == ARRAY {
         if words[at + 1] == 0 {
-            return Initial::OfArray {
-                start: at,
-                element: at + 2,
-            };
+            return Some((at, at + 2));
         }
-        return Initial::Unchanged;
+        return None;
     }
     let start = unwrap::expand(words, pairs, text, at);
     if words[start] != TYPE_APP {
-        return Initial::Unchanged;
+        return None;
     }
-    let Found::At(element) = known_paths::first_argument(
-        words,
-        pairs,
-        text,
-        Class::ArrayClass,
-        start,
-    ) else {
-        return Initial::Unchanged;
-    };
-    Initial::OfArray { start, element }
+    let element = known_paths::first_argument(words, pairs, text, Class::ArrayClass, start)?;
+    Some((start, element))
 }
 
 // ---- laying it down
@@ -195,23 +162,23 @@ fn change(
     element: usize,
     deepest: bool,
     out: &mut [u32],
-) -> RebuildAnswer
+) -> Result<usize, Refusal>
     requires { (length words.now ≤ max_words) × FillsWhole words.now pairs.now deepest × Named (name_bytes pairs.now text.now) (tree_at words.now pairs.now 0) name
-        × Becomes (new_array (name_bytes pairs.now text.now)) 2 words.now pairs.now 0 (OfArray start element) }
+        × Becomes (new_array (name_bytes pairs.now text.now)) 2 words.now pairs.now 0 (Some (start, element)) }
     ensures { Fills (map_reading (laid_init (name_bytes pairs.now text.now)) (tree_at words.now pairs.now 0)) out.old out.new result }
 {
     let end = words.len();
     let count = 15 + (end - start);
     if rebuild_type::room_of(out.len(), MAX_WORDS) < count {
         rebuild_type::clear(out);
-        return RebuildAnswer::Refused(Refusal::BufferTooShort);
+        return Err(Refusal::BufferTooShort);
     }
     if is_too_deep(words, pairs, element, deepest) {
         rebuild_type::clear(out);
-        return RebuildAnswer::Refused(Refusal::TooDeep);
+        return Err(Refusal::TooDeep);
     }
     write_array(words, name, start, element, end, out);
-    RebuildAnswer::Length(count)
+    Ok(count)
 }
 
 // ---- the call
@@ -225,15 +192,13 @@ fn initialize_under(
     at: usize,
     deepest: bool,
     out: &mut [u32],
-) -> RebuildAnswer
-    requires { Good pairs.now text.now × (length words.now ≤ max_words) × FillsWhole words.now pairs.now deepest × Points words.now pairs.now text.now (To name at) }
+) -> Result<usize, Refusal>
+    requires { Good pairs.now text.now × (length words.now ≤ max_words) × FillsWhole words.now pairs.now deepest × Points words.now pairs.now text.now (Some (name, at)) }
     ensures { Fills (map_reading (laid_init (name_bytes pairs.now text.now)) (tree_at words.now pairs.now 0)) out.old out.new result }
 {
     match array_at(words, pairs, text, at) {
-        Initial::OfArray { start, element } => {
-            change(words, pairs, text, name, start, element, deepest, out)
-        }
-        Initial::Unchanged => rebuild_type::copy_unaltered(words, out),
+        Some((start, element)) => { change(words, pairs, text, name, start, element, deepest, out) }
+        None => rebuild_type::copy_unaltered(words, out),
     }
 }
 
@@ -244,41 +209,40 @@ fn initialize(
     text: &[u8],
     deepest: bool,
     out: &mut [u32],
-) -> RebuildAnswer
+) -> Result<usize, Refusal>
     requires { Good pairs.now text.now × (length words.now ≤ max_words) × FillsWhole words.now pairs.now deepest }
     ensures { Fills (map_reading (laid_init (name_bytes pairs.now text.now)) (tree_at words.now pairs.now 0)) out.old out.new result }
 {
     match find_pointer(words, pairs, text) {
-        Pointer::To { name, at } => { initialize_under(words, pairs, text, name, at, deepest, out) }
-        Pointer::NoPointer => rebuild_type::copy_unaltered(words, out),
+        Some((name, at)) => { initialize_under(words, pairs, text, name, at, deepest, out) }
+        None => rebuild_type::copy_unaltered(words, out),
     }
 }
 
 // Whether a type fills the words that is less deep than it may be, by `inside` types.
-fn accept_within(words: &[u32], pairs: &[u32], text: &[u8], inside: usize) -> Check
+fn accept_within(words: &[u32], pairs: &[u32], text: &[u8], inside: usize) -> Result<(), Refusal>
     requires { Good pairs.now text.now × (length words.now ≤ max_words) × (inside < max_depth) }
     ensures { result ≡ acceptance (whole (length words.now) (type_within (max_depth - inside) words.now pairs.now text.now)) }
 {
-    match accept_type::accept_type(words, pairs, text, 0, inside) {
-        Scan::At(next) => {
-            if next != words.len() {
-                return Check::Failed(Refusal::LeftOver);
-            }
-            Check::Passed
-        }
-        Scan::Refused(r) => Check::Failed(r),
+    let next = accept_type::accept_type(words, pairs, text, 0, inside)?;
+    if next != words.len() {
+        return Err(Refusal::LeftOver);
     }
+    Ok(())
 }
 
 // The tables hold, and the type may be as deep as any, if there is one.
-fn initialize_deepest(words: &[u32], pairs: &[u32], text: &[u8], out: &mut [u32]) -> RebuildAnswer
+fn initialize_deepest(
+    words: &[u32],
+    pairs: &[u32],
+    text: &[u8],
+    out: &mut [u32],
+) -> Result<usize, Refusal>
     requires { Good pairs.now text.now × (length words.now ≤ max_words) }
     ensures { (result, out.new) ≡ laid_down out.old (whole_initialized words.now pairs.now text.now) }
 {
-    match accept_within(words, pairs, text, 0) {
-        Check::Passed => initialize(words, pairs, text, true, out),
-        Check::Failed(r) => RebuildAnswer::Refused(r),
-    }
+    accept_within(words, pairs, text, 0)?;
+    initialize(words, pairs, text, true, out)
 }
 
 // The tables hold. A type that is less deep than it may be is not too deep with one `MaybeUninit` more, so most types are gone through once.
@@ -287,13 +251,13 @@ fn accept_and_initialize(
     pairs: &[u32],
     text: &[u8],
     out: &mut [u32],
-) -> RebuildAnswer
+) -> Result<usize, Refusal>
     requires { Good pairs.now text.now × (length words.now ≤ max_words) }
     ensures { (result, out.new) ≡ laid_down out.old (whole_initialized words.now pairs.now text.now) }
 {
     match accept_within(words, pairs, text, 1) {
-        Check::Passed => initialize(words, pairs, text, false, out),
-        Check::Failed(_) => initialize_deepest(words, pairs, text, out),
+        Ok(()) => initialize(words, pairs, text, false, out),
+        Err(_) => initialize_deepest(words, pairs, text, out),
     }
 }
 
@@ -303,11 +267,9 @@ pub fn type_at_initialization(
     pairs: &[u32],
     text: &[u8],
     out: &mut [u32],
-) -> RebuildAnswer
+) -> Result<usize, Refusal>
     ensures { (result, out.new) ≡ laid_down out.old (type_initialized words.now pairs.now text.now) }
 {
-    match encoding::check_tables(words, pairs, text) {
-        Check::Passed => accept_and_initialize(words, pairs, text, out),
-        Check::Failed(r) => RebuildAnswer::Refused(r),
-    }
+    encoding::check_tables(words, pairs, text)?;
+    accept_and_initialize(words, pairs, text, out)
 }

@@ -1,4 +1,6 @@
 -- Laws of the links between rules whose froms begin with the same word.
+use Rattle.std.specs.Option.{is_some}
+use Rattle.std.specs.Prelude.{Some, None, Option}
 use Prim.Native.Nat.{ℕ, zero, suc, ◌+◌, ◌-◌, ◌*◌, ◌≤◌, ◌<◌}
 use mathlib.Core.Path.{◌≡◌, refl, ap, sym, ◌∙◌, subst}
 use mathlib.Core.Bool.{Bool, true, false}
@@ -13,9 +15,7 @@ use lib.Seq.{get_or-set_same, get_or-set_other}
 use Rattle.rast.specs.Bytes.{Bytes}
 use Rattle.encoding.specs.Refusals.{pick}
 use Rattle.encoding.proofs.Tables.{impossible}
-use Rattle.rebuild_rules.specs.declared.FoundRule.{FoundRule}
-use Rattle.rebuild_rules.specs.declared.FoundRule.TheVariants.{At, Nothing}
-use Rattle.rebuild_rules.specs.Table.{slot, linked, slot_of, next_rule, first_of, is_found_rule, first_along, from_words, is_from, found_from, among_from, stands, some_stands, EntriesFit, Links, AlongLinks, Unlinked, TableEntries}
+use Rattle.rebuild_rules.specs.Table.{slot, linked, slot_of, next_rule, first_of, first_along, from_words, is_from, found_from, among_from, stands, some_stands, FoundAlong, nowhere, here, behind, EntriesFit, Links, AlongLinks, Unlinked, TableEntries}
 use Rattle.rebuild_rules.proofs.Steps.{From, first_entry, from-missed, stands-missed}
 
 -- ---- slots
@@ -46,7 +46,7 @@ along-suc : (test : ℕ → Bool) (k i : ℕ) → first_along test k (i + 1) ≡
 unfolding first_along
 along-suc test k i = rw (add-one i) refl
 
-along-here : (test : ℕ → Bool) (k i : ℕ) → i < k → test i ≡ true → first_along test k (suc i) ≡ At i
+along-here : (test : ℕ → Bool) (k i : ℕ) → i < k → test i ≡ true → first_along test k (suc i) ≡ Some i
 unfolding first_along first_of
 along-here test k i h e = let z : k - i ≡ suc (k - (i + 1)) = omega arith in rw (z, e) refl
 
@@ -125,39 +125,45 @@ module _ (rules table : List ℕ) where
         let r = slot-range w in let z : k ≡ k - 0 = omega arith in
         skipped test (slot w) miss 0 k (omega arith) ∙ ap (first_along test k) (ap (next_rule rules table (slot w) 0) z ∙ sym (l.first (slot w) r.0 r.1))
 
--- ---- a loop along the links
+-- ---- a search along the links
 
--- it has come to the link `next`, and what is found from there on is what is asked for
-pub record Search {R : Type 0} (show : FoundRule → R) (rules table : List ℕ) (k s : ℕ) (test : ℕ → Bool) (goal : R) (next : ℕ) : Type 0 where
-  pub along : AlongLinks rules table k s next
-  pub finds : show (first_along test k next) ≡ goal
+next-suc : {n : ℕ} → 0 < n → n ≡ suc (n - 1)
+next-suc h = omega arith
 
-module _ {R : Type 0} {show : FoundRule → R} {rules table : List ℕ} {k s : ℕ} {test : ℕ → Bool} {goal : R} {next : ℕ} (v : Search show rules table k s test goal next) where
-  -- no rule is left
-  pub search-none : next ≡ 0 → show Nothing ≡ goal
-  unfolding first_along
-  search-none e = rw e at v.finds
+module _ {passes : ℕ → Bool → Type 0} {table : List ℕ} where
+  pub found-none : {next : ℕ} → next ≡ 0 → FoundAlong passes table next None
+  found-none e = rw e nowhere
 
-  -- or one is; it passes, or the search goes on with the link behind it
-  module _ (h : 0 < next) where
-    next-suc : next ≡ suc (next - 1)
-    next-suc = omega arith
+  module _ {next : ℕ} (h : 0 < next) {b : Bool} (p : passes (next - 1) b) where
+    pub found-here : b ≡ true → FoundAlong passes table next (Some (next - 1))
+    found-here e = subst (λ n. FoundAlong passes table n (Some (next - 1))) (sym (next-suc h)) (here (rw e at p))
 
-    pub search-within : next - 1 < k
-    search-within = v.along.within (next - 1) next-suc
+    pub found-behind : b ≡ false → {link : ℕ} {r : Option ℕ} → link ≡ get_or table (4 * (next - 1) + 3) 0 → FoundAlong passes table link r → FoundAlong passes table next r
+    found-behind e {r = r} d f = subst (λ n. FoundAlong passes table n r) (sym (next-suc h)) (behind (rw e at p) (rw d at f))
 
-    pub search-here : test (next - 1) ≡ true → show (At (next - 1)) ≡ goal
-    search-here e = ap show (sym (along-here test k (next - 1) search-within e) ∙ ap (first_along test k) (sym next-suc)) ∙ v.finds
+module _ {rules table : List ℕ} {k : ℕ} (l : Links rules table 0 k) {s next : ℕ} (along : AlongLinks rules table k s next) (h : 0 < next) where
+  pub along-within : next - 1 < k
+  along-within = along.within (next - 1) (next-suc h)
 
-    module _ (l : Links rules table 0 k) {behind : ℕ} (e : behind ≡ get_or table (4 * (next - 1) + 3) 0) where
-      pub search-less : togo k behind < togo k next
-      search-less = rw e (subst (λ n. togo k (get_or table (4 * (next - 1) + 3) 0) < togo k n) (sym next-suc) (togo-less rules table k l (next - 1) search-within))
+  module _ {link : ℕ} (e : link ≡ get_or table (4 * (next - 1) + 3) 0) where
+    pub along-less : togo k link < togo k next
+    along-less = rw e (subst (λ n. togo k (get_or table (4 * (next - 1) + 3) 0) < togo k n) (sym (next-suc h)) (togo-less rules table k l (next - 1) along-within))
 
-      pub search-on : ((j : ℕ) → j < k → (slot_of rules table j ≡ s → ⊥) → test j ≡ false) → test (next - 1) ≡ false → Search show rules table k s test goal behind
-      search-on miss d = let t = v.along.slots (next - 1) next-suc in record {
-        along = rw (e, ← t) (along-more rules table k l (next - 1) search-within);
-        finds = rw e (ap show (sym (along-on rules table k l test s miss (next - 1) search-within t d) ∙ ap (first_along test k) (sym next-suc)) ∙ v.finds);
-      }
+    pub along-then : AlongLinks rules table k (slot_of rules table (next - 1)) link
+    along-then = rw e (along-more rules table k l (next - 1) along-within)
+
+-- it finds the first rule that passes, since rules of other slots do not
+pub found-first : {rules table : List ℕ} {k s : ℕ} (l : Links rules table 0 k) (test : ℕ → Bool) {passes : ℕ → Bool → Type 0} → ((i : ℕ) (b : Bool) → i < k → passes i b → b ≡ test i)
+    → ((j : ℕ) → j < k → (slot_of rules table j ≡ s → ⊥) → test j ≡ false)
+    → {link : ℕ} {r : Option ℕ} → AlongLinks rules table k s link → FoundAlong passes table link r → r ≡ first_along test k link
+unfolding first_along
+found-first l test is miss a nowhere = refl
+found-first {k = k} l test is miss a (here {i} p) = sym (along-here test k i (a.within i refl) (sym (is i true (a.within i refl) p)))
+found-first {rules = rules} {table = table} {k = k} {s = s} l test is miss a (behind {i} {r} p f) =
+    let h : i < k = a.within i refl in
+    let t = a.slots i refl in
+    let more : AlongLinks rules table k s (get_or table (4 * i + 3) 0) = rw t at (along-more rules table k l i h) in
+    found-first {rules = rules} {table = table} {k = k} {s = s} l test is miss more f ∙ sym (along-on rules table k l test s miss i h t (sym (is i false h p)))
 
 -- ---- linking
 
@@ -269,16 +275,16 @@ module _ (name : ℕ → Bytes) (rules table : List ℕ) {k : ℕ} (f : EntriesF
   found-along out start count m h e = rw e (sym (along-all rules table k l (is_from name rules table (take count (drop start out))) (get_or out start 0) (from-missed name rules table f out start count m h)))
 
   pub some_along : (ws : List ℕ) (at : ℕ) → at < length ws → link ≡ get_or table (slot (get_or ws at 0)) 0
-      → is_found_rule (first_along (stands name rules table (drop at ws)) k link) ≡ some_stands name rules table 0 k (drop at ws)
+      → is_some (first_along (stands name rules table (drop at ws)) k link) ≡ some_stands name rules table 0 k (drop at ws)
   unfolding some_stands
-  some_along ws at m e = rw e (ap is_found_rule (sym (along-all rules table k l (stands name rules table (drop at ws)) (get_or ws at 0) (stands-missed name rules table f ws at m))))
+  some_along ws at m e = rw e (ap is_some (sym (along-all rules table k l (stands name rules table (drop at ws)) (get_or ws at 0) (stands-missed name rules table f ws at m))))
 
   pub among-along : (i : ℕ) {p n : ℕ} → i < k → From rules table i p n → p ≡ get_or table (4 * i + 0) 0 → link ≡ get_or table (4 * i + 3) 0
-      → is_found_rule (first_along (is_from name rules table (take n (drop p rules))) k link) ≡ among_from name rules table (i + 1) (k - (i + 1)) (from_words rules table i)
+      → is_some (first_along (is_from name rules table (take n (drop p rules))) k link) ≡ among_from name rules table (i + 1) (k - (i + 1)) (from_words rules table i)
   unfolding among_from found_from slot_of
   among-along i {p} {n} h g d e =
       rw (g.words, e)
-      (ap is_found_rule
+      (ap is_some
       (sym
       (skipped rules table k l (is_from name rules table (take n (drop p rules))) (slot_of rules table i) (rw (← first_entry table i, ← d) (from-missed name rules table f rules p n g.inside g.some))
       (i + 1) (k - (i + 1)) (omega arith)

@@ -1,4 +1,5 @@
 -- Laws of reading a list of rules into a table.
+use Rattle.std.specs.Prelude.{Ok, Err, Result}
 use Prim.Native.Nat.{ℕ, suc, ◌+◌, ◌-◌, ◌≤◌, ◌<◌}
 use mathlib.Core.Path.{◌≡◌, refl, ap, sym, ◌∙◌, subst}
 use mathlib.Core.Bool.{Bool, true, false}
@@ -11,10 +12,7 @@ use Rattle.rast.specs.Bytes.{Bytes, ◌or◌}
 use Rattle.rast.specs.Tree.{Ty, nil, cons}
 use Rattle.encoding.specs.declared.Refusal.{Refusal}
 use Rattle.encoding.specs.declared.Refusal.TheVariants.{Overlong, BadPair, LeftOver, RepeatedRule}
-use Rattle.encoding.specs.declared.Check.TheVariants.{Passed, Failed}
-use Rattle.encoding.specs.declared.Scan.{Scan}
-use Rattle.encoding.specs.declared.Scan.TheVariants.{At, Refused}
-use Rattle.encoding.specs.Refusals.{pick, given, refused}
+use Rattle.encoding.specs.Refusals.{pick}
 use Rattle.encoding.specs.Reading.{Reading, got, stop, ◌>>=◌, read_below, whole}
 use Rattle.encoding.specs.Tables.{overlong, good_pairs, check_tables, name_bytes}
 use Rattle.encoding.specs.Tested.{Good}
@@ -34,9 +32,6 @@ use Rattle.rebuild_spec.specs.Laying.{depth, deepest}
 use Rattle.rebuild_spec.proofs.Nodes.{depth-node, depth-words}
 use Rattle.rebuild_spec.specs.Rules.{Rule, read_rule, read_rules, repeated, distinct, check_all, rules_of}
 use Rattle.rebuild_rules.specs.declared.Deep.{Deep}
-use Rattle.rebuild_rules.specs.declared.RuleScan.{RuleScan}
-use Rattle.rebuild_rules.specs.declared.RuleScan.TheVariants.{OneRule, NoRule}
-use Rattle.rebuild_rules.specs.declared.RulesAnswer.TheVariants.{Rules, NoRules}
 use Rattle.rebuild_rules.specs.Table.{entered, repeated_from, EntriesFit, Links, Unlinked, TableEntries, RuleAt, Tabled}
 use Rattle.rebuild_rules.specs.Scans.{Deepens, SpansTo, depth_of, RuleRead, rule, none, Listed, listed, unlisted, RulesRead, read, unread}
 use Rattle.rebuild_rules.proofs.Tables.{tabled-kept, tabled-more, same-tabled, rule-entered, still-unlinked, tabled-fits, repeated-trees}
@@ -44,10 +39,10 @@ use Rattle.rebuild_rules.proofs.Steps.{counted}
 
 -- ---- from the acceptance of a type to its tree
 
-pub accepted-tree : (ws pairs : List ℕ) (text : Bytes) (at : ℕ) {r : Scan} {n : ℕ} → r ≡ ended (type_at ws pairs text at) → r ≡ At n → (t : Ty ℕ) × (tree_at ws pairs at ≡ got t n)
+pub accepted-tree : (ws pairs : List ℕ) (text : Bytes) (at : ℕ) {r : Result ℕ Refusal} {n : ℕ} → r ≡ ended (type_at ws pairs text at) → r ≡ Ok n → (t : Ty ℕ) × (tree_at ws pairs at ≡ got t n)
 accepted-tree ws pairs text at e d = let u = numbered ws pairs text at (scan-got (type_at ws pairs text at) e d).reads in (u.tree, u.reads)
 
-pub accepted-no-tree : (ws pairs : List ℕ) (text : Bytes) (at : ℕ) {r : Scan} {k : Refusal} → r ≡ ended (type_at ws pairs text at) → r ≡ Refused k → tree_at ws pairs at ≡ stop k
+pub accepted-no-tree : (ws pairs : List ℕ) (text : Bytes) (at : ℕ) {r : Result ℕ Refusal} {k : Refusal} → r ≡ ended (type_at ws pairs text at) → r ≡ Err k → tree_at ws pairs at ≡ stop k
 unfolding map_reading
 accepted-no-tree ws pairs text at {r} {k} e d = go (tree_at ws pairs at) (sym (spelled ws pairs text at) ∙ scan-stop (type_at ws pairs text at) e d)
   where
@@ -126,7 +121,7 @@ module _ (rules pairs : List ℕ) (n at : ℕ) where
     within = omega arith;
   }
 
-  pub filling-stops : {table table' : List ℕ} {place i : ℕ} {k : Refusal} → i < n → Filling table place i → item place ≡ stop k → Listed rules pairs n at table' (Refused k)
+  pub filling-stops : {table table' : List ℕ} {place i : ℕ} {k : Refusal} → i < n → Filling table place i → item place ≡ stop k → Listed rules pairs n at table' (Err k)
   unfolding read_list map_reading
   filling-stops {place = place} {i = i} {k = k} h f e = let d : read_list item n at ≡ stop k = f.rest ∙ rw (counted i n h, e) refl in unlisted d
 
@@ -138,7 +133,7 @@ module _ (rules pairs : List ℕ) (n at : ℕ) where
       go (got rs q) = ap (λ l. got l q) (sym (append_assoc done (r ∷ []) rs))
       go (stop k) = refl
 
-  pub filling-more : {table : List ℕ} {place i m q : ℕ} → i < n → n ≤ 32 → Filling table place i → RuleRead rules pairs place (OneRule m q) → Filling (entered table i place m q) q (i + 1)
+  pub filling-more : {table : List ℕ} {place i m q : ℕ} → i < n → n ≤ 32 → Filling table place i → RuleRead rules pairs place (Ok (m, q)) → Filling (entered table i place m q) q (i + 1)
   filling-more {table} {place} {i} {m} {q} h few f (rule {from = from} {to = to} a b) =
       let w = tree-run rules pairs place f.inside a in
       let hm : m ≤ length rules = omega (arith, w.1, w.0.ends, encode-words from) in
@@ -158,7 +153,7 @@ module _ (rules pairs : List ℕ) (n at : ℕ) where
         within = omega arith;
       }
 
-  pub filling-ends : {table : List ℕ} {place i : ℕ} → n ≤ i → Filling table place i → Listed rules pairs n at table (At place)
+  pub filling-ends : {table : List ℕ} {place i : ℕ} → n ≤ i → Filling table place i → Listed rules pairs n at table (Ok place)
   unfolding read_list map_reading
   filling-ends {table} {place} {i} h f =
       let z : n - i ≡ 0 = omega arith in
@@ -168,83 +163,83 @@ module _ (rules pairs : List ℕ) (n at : ℕ) where
 
 -- ---- the whole list
 
-pub listed-got : {rules pairs table : List ℕ} {n at m : ℕ} {r : Scan} → Listed rules pairs n at table r → r ≡ At m
+pub listed-got : {rules pairs table : List ℕ} {n at m : ℕ} {r : Result ℕ Refusal} → Listed rules pairs n at table r → r ≡ Ok m
     → (rs : List Rule) × (read_list (read_rule (tree_at rules pairs)) n at ≡ got rs m) × Tabled rules pairs table 0 rs × (length rs ≡ n) × Unlinked table
 listed-got {rules} {pairs} {table} {n} {at} {m} l e = go (subst (Listed rules pairs n at table) e l)
   where
-    go : Listed rules pairs n at table (At m) → (rs : List Rule) × (read_list (read_rule (tree_at rules pairs)) n at ≡ got rs m) × Tabled rules pairs table 0 rs × (length rs ≡ n) × Unlinked table
+    go : Listed rules pairs n at table (Ok m) → (rs : List Rule) × (read_list (read_rule (tree_at rules pairs)) n at ≡ got rs m) × Tabled rules pairs table 0 rs × (length rs ≡ n) × Unlinked table
     go (listed {rs = rs} a b c d) = (rs, a, b, c, d)
 
-pub listed-stop : {rules pairs table : List ℕ} {n at : ℕ} {r : Scan} {k : Refusal} → Listed rules pairs n at table r → r ≡ Refused k → read_list (read_rule (tree_at rules pairs)) n at ≡ stop k
+pub listed-stop : {rules pairs table : List ℕ} {n at : ℕ} {r : Result ℕ Refusal} {k : Refusal} → Listed rules pairs n at table r → r ≡ Err k → read_list (read_rule (tree_at rules pairs)) n at ≡ stop k
 listed-stop {rules} {pairs} {table} {n} {at} {k = k} l e = go (subst (Listed rules pairs n at table) e l)
   where
-    go : Listed rules pairs n at table (Refused k) → read_list (read_rule (tree_at rules pairs)) n at ≡ stop k
+    go : Listed rules pairs n at table (Err k) → read_list (read_rule (tree_at rules pairs)) n at ≡ stop k
     go (unlisted a) = a
 
 module _ (rules pairs : List ℕ) (text : Bytes) {k p : ℕ} (b : read_below 33 rules 0 ≡ got k p) where
-  pub rules-stop : {q : Refusal} → read_list (read_rule (tree_at rules pairs)) k p ≡ stop q → rules_of rules pairs text ≡ refused q
+  pub rules-stop : {q : Refusal} → read_list (read_rule (tree_at rules pairs)) k p ≡ stop q → rules_of rules pairs text ≡ Err q
   unfolding rules_of read_rules whole distinct
   rules-stop e = rw (b, e) refl
 
-  pub rules-over : {rs : List Rule} {m : ℕ} → read_list (read_rule (tree_at rules pairs)) k p ≡ got rs m → (m ≡ length rules → ⊥) → rules_of rules pairs text ≡ refused LeftOver
+  pub rules-over : {rs : List Rule} {m : ℕ} → read_list (read_rule (tree_at rules pairs)) k p ≡ got rs m → (m ≡ length rules → ⊥) → rules_of rules pairs text ≡ Err LeftOver
   unfolding rules_of read_rules whole distinct
   rules-over {m = m} e d = rw (b, e, ne_eqb m (length rules) d) refl
 
   rules-whole : {rs : List Rule} {m : ℕ} → read_list (read_rule (tree_at rules pairs)) k p ≡ got rs m → m ≡ length rules
-      → rules_of rules pairs text ≡ pick (repeated (same_by (name_bytes pairs text)) rs) (refused RepeatedRule) (given rs)
+      → rules_of rules pairs text ≡ pick (repeated (same_by (name_bytes pairs text)) rs) (Err RepeatedRule) (Ok rs)
   unfolding rules_of read_rules whole distinct
   rules-whole {m = m} e d = rw (b, e, eq-eqb m (length rules) d) refl
 
   pub rules-repeated : {rs : List Rule} {m : ℕ} (table : List ℕ) → read_list (read_rule (tree_at rules pairs)) k p ≡ got rs m → m ≡ length rules → Tabled rules pairs table 0 rs → length rs ≡ k
-      → repeated_from (name_bytes pairs text) rules table 0 k ≡ true → rules_of rules pairs text ≡ refused RepeatedRule
+      → repeated_from (name_bytes pairs text) rules table 0 k ≡ true → rules_of rules pairs text ≡ Err RepeatedRule
   rules-repeated {rs = rs} table e d t c r =
       let s : repeated (same_by (name_bytes pairs text)) rs ≡ true = sym (repeated-trees (name_bytes pairs text) rules pairs table 0 rs t) ∙ rw c r in
       rules-whole e d ∙ rw s refl
 
   pub rules-distinct : {rs : List Rule} {m : ℕ} (table : List ℕ) → read_list (read_rule (tree_at rules pairs)) k p ≡ got rs m → m ≡ length rules → Tabled rules pairs table 0 rs → length rs ≡ k
-      → repeated_from (name_bytes pairs text) rules table 0 k ≡ false → rules_of rules pairs text ≡ given rs
+      → repeated_from (name_bytes pairs text) rules table 0 k ≡ false → rules_of rules pairs text ≡ Ok rs
   rules-distinct {rs = rs} table e d t c r =
       let s : repeated (same_by (name_bytes pairs text)) rs ≡ false = sym (repeated-trees (name_bytes pairs text) rules pairs table 0 rs t) ∙ rw c r in
       rules-whole e d ∙ rw s refl
 
-pub first_stops : (rules pairs : List ℕ) (text : Bytes) {q : Refusal} → read_below 33 rules 0 ≡ stop q → rules_of rules pairs text ≡ refused q
+pub first_stops : (rules pairs : List ℕ) (text : Bytes) {q : Refusal} → read_below 33 rules 0 ≡ stop q → rules_of rules pairs text ≡ Err q
 unfolding rules_of read_rules whole distinct
 first_stops rules pairs text e = rw e refl
 
 -- ---- the answers of the scan of one rule
 
-pub rule-read : (rules pairs : List ℕ) (at : ℕ) {m n : ℕ} → (t : Ty ℕ) × (tree_at rules pairs at ≡ got t m) → (t : Ty ℕ) × (tree_at rules pairs m ≡ got t n) → RuleRead rules pairs at (OneRule m n)
+pub rule-read : (rules pairs : List ℕ) (at : ℕ) {m n : ℕ} → (t : Ty ℕ) × (tree_at rules pairs at ≡ got t m) → (t : Ty ℕ) × (tree_at rules pairs m ≡ got t n) → RuleRead rules pairs at (Ok (m, n))
 rule-read rules pairs at f t = rule f.1 t.1
 
-pub rule-stops : {rules pairs : List ℕ} {at : ℕ} {k : Refusal} → read_rule (tree_at rules pairs) at ≡ stop k → RuleRead rules pairs at (NoRule k)
+pub rule-stops : {rules pairs : List ℕ} {at : ℕ} {k : Refusal} → read_rule (tree_at rules pairs) at ≡ stop k → RuleRead rules pairs at (Err k)
 rule-stops e = none e
 
 -- a rule that was read lies within the words
-pub rule-inside : (rules pairs : List ℕ) (at : ℕ) {m n : ℕ} → at ≤ length rules → RuleRead rules pairs at (OneRule m n) → (m ≤ length rules) × (n ≤ length rules)
+pub rule-inside : (rules pairs : List ℕ) (at : ℕ) {m n : ℕ} → at ≤ length rules → RuleRead rules pairs at (Ok (m, n)) → (m ≤ length rules) × (n ≤ length rules)
 rule-inside rules pairs at {m} h (rule {from = f} {to = t} e d) =
     let a = tree-run rules pairs at h e in
     let i : m ≤ length rules = omega (arith, a.1, a.0.ends, encode-words f) in
     let b = tree-run rules pairs m i d in
     (i, omega (arith, b.1, b.0.ends, encode-words t))
 
-pub rule_found : {rules pairs : List ℕ} {at m n : ℕ} {r : RuleScan} → RuleRead rules pairs at r → r ≡ OneRule m n → RuleRead rules pairs at (OneRule m n)
+pub rule_found : {rules pairs : List ℕ} {at m n : ℕ} {r : Result (ℕ × ℕ) Refusal} → RuleRead rules pairs at r → r ≡ Ok (m, n) → RuleRead rules pairs at (Ok (m, n))
 rule_found {rules} {pairs} {at} k e = subst (RuleRead rules pairs at) e k
 
-pub rule-stop : {rules pairs : List ℕ} {at : ℕ} {r : RuleScan} {k : Refusal} → RuleRead rules pairs at r → r ≡ NoRule k → read_rule (tree_at rules pairs) at ≡ stop k
+pub rule-stop : {rules pairs : List ℕ} {at : ℕ} {r : Result (ℕ × ℕ) Refusal} {k : Refusal} → RuleRead rules pairs at r → r ≡ Err k → read_rule (tree_at rules pairs) at ≡ stop k
 rule-stop {rules} {pairs} {at} {k = k} l e = go (subst (RuleRead rules pairs at) e l)
   where
-    go : RuleRead rules pairs at (NoRule k) → read_rule (tree_at rules pairs) at ≡ stop k
+    go : RuleRead rules pairs at (Err k) → read_rule (tree_at rules pairs) at ≡ stop k
     go (none a) = a
 
 -- ---- the answers of the scan of a list
 
-pub rules-none : {rules pairs table : List ℕ} {text : Bytes} {k : Refusal} → rules_of rules pairs text ≡ refused k → RulesRead rules pairs text table (NoRules k)
+pub rules-none : {rules pairs table : List ℕ} {text : Bytes} {k : Refusal} → rules_of rules pairs text ≡ Err k → RulesRead rules pairs text table (Err k)
 rules-none e = unread e
 
-pub rules-some : {rules pairs table : List ℕ} {text : Bytes} {rs : List Rule} {n : ℕ} → rules_of rules pairs text ≡ given rs → Tabled rules pairs table 0 rs → length rs ≡ n → EntriesFit rules table n → Links rules table 0 n
-    → RulesRead rules pairs text table (Rules n)
+pub rules-some : {rules pairs table : List ℕ} {text : Bytes} {rs : List Rule} {n : ℕ} → rules_of rules pairs text ≡ Ok rs → Tabled rules pairs table 0 rs → length rs ≡ n → EntriesFit rules table n → Links rules table 0 n
+    → RulesRead rules pairs text table (Ok n)
 rules-some {rules} {pairs} {table} {text} {rs} {n} e t c f l =
-    subst (λ k. RulesRead rules pairs text table (Rules k)) c (read e t (subst (EntriesFit rules table) (sym c) f) (subst (Links rules table 0) (sym c) l))
+    subst (λ k. RulesRead rules pairs text table (Ok k)) c (read e t (subst (EntriesFit rules table) (sym c) f) (subst (Links rules table 0) (sym c) l))
 
 -- linking changes no entries
 pub linked-tabled : (rules pairs : List ℕ) {table table' : List ℕ} (rs : List Rule) {n : ℕ} → Tabled rules pairs table 0 rs → length rs ≡ n → n ≤ 32 → length table ≡ 160 → TableEntries table table'
@@ -255,11 +250,11 @@ linked-tabled rules pairs {table} {table'} rs {n} t c h l e =
 
 -- ---- the tests before reading
 
-pub check-overlong : (words rules pairs : List ℕ) (text : Bytes) → 8192 < length rules → check_all words rules pairs text ≡ Failed Overlong
+pub check-overlong : (words rules pairs : List ℕ) (text : Bytes) → 8192 < length rules → check_all words rules pairs text ≡ Err Overlong
 unfolding check_all
 check-overlong words rules pairs text h = rw (lt-ltb 8192 (length rules) h) (go (overlong words pairs text))
   where
-    go : (t : Bool) → pick (t or true) (Failed Overlong) (pick (good_pairs pairs 0 (length text)) Passed (Failed BadPair)) ≡ Failed Overlong
+    go : (t : Bool) → pick {A = Result (Unit {0}) Refusal} (t or true) (Err Overlong) (pick (good_pairs pairs 0 (length text)) (Ok tt) (Err BadPair)) ≡ Err Overlong
     go true = refl
     go false = refl
 
@@ -267,11 +262,11 @@ pub check-tables : (words rules pairs : List ℕ) (text : Bytes) → length rule
 unfolding check_all check_tables
 check-tables words rules pairs text h = rw (le-ltb 8192 (length rules) h) (go (overlong words pairs text))
   where
-    go : (t : Bool) → pick (t or false) (Failed Overlong) (pick (good_pairs pairs 0 (length text)) Passed (Failed BadPair)) ≡ pick t (Failed Overlong) (pick (good_pairs pairs 0 (length text)) Passed (Failed BadPair))
+    go : (t : Bool) → pick {A = Result (Unit {0}) Refusal} (t or false) (Err Overlong) (pick (good_pairs pairs 0 (length text)) (Ok tt) (Err BadPair)) ≡ pick t (Err Overlong) (pick (good_pairs pairs 0 (length text)) (Ok tt) (Err BadPair))
     go true = refl
     go false = refl
 
-pub all-passed : (words rules pairs : List ℕ) (text : Bytes) → check_all words rules pairs text ≡ Passed → Good pairs text × (length words ≤ 8192) × (length rules ≤ 8192)
+pub all-passed : (words rules pairs : List ℕ) (text : Bytes) → check_all words rules pairs text ≡ Ok tt → Good pairs text × (length words ≤ 8192) × (length rules ≤ 8192)
 all-passed words rules pairs text e = go (dec_lt 8192 (length rules))
   where
     go : Dec (8192 < length rules) → Good pairs text × (length words ≤ 8192) × (length rules ≤ 8192)

@@ -1,4 +1,5 @@
 -- Laws of the search through rules by their words, one rule after the other.
+use Rattle.std.specs.Prelude.{Some}
 use Prim.Native.Nat.{ℕ, zero, suc, ◌+◌, ◌-◌, ◌*◌, ◌≤◌, ◌<◌}
 use mathlib.Core.Path.{◌≡◌, refl, ap, sym, ◌∙◌}
 use mathlib.Core.Bool.{Bool, true, false}
@@ -15,7 +16,6 @@ use Rattle.encoding.proofs.Tables.{impossible}
 use Rattle.same_type.specs.declared.Due.TheVariants.{Kind}
 use Rattle.same_type.specs.Runs.{same_runs, agrees}
 use Rattle.same_type.proofs.Steps.{runs-uneven}
-use Rattle.rebuild_rules.specs.declared.FoundRule.TheVariants.{At}
 use Rattle.rebuild_rules.specs.Table.{slot, slot_of, from_words, first_of, is_from, found_from, among_from, repeated_from, stands, some_stands, none_stands, EntriesFit}
 
 -- the from of rule i are n words of the rules from p on
@@ -123,15 +123,15 @@ module _ (name : ℕ → Bytes) (rules table : List ℕ) where
   repeated-never i k h = rw (past i k h) refl
 
 -- a rule that is found is one of those that were tried
-first-less : (test : ℕ → Bool) (i n : ℕ) {j : ℕ} → first_of test i n ≡ At j → j < i + n
+first-less : (test : ℕ → Bool) (i n : ℕ) {j : ℕ} → first_of test i n ≡ Some j → j < i + n
 unfolding first_of
 first-less test i zero e = impossible (cc)
 first-less test i (suc n) {j} e = go (test i) e (first-less test (i + 1) n)
   where
-    go : (t : Bool) → pick t (At i) (first_of test (i + 1) n) ≡ At j → (first_of test (i + 1) n ≡ At j → j < i + 1 + n) → j < i + suc n
+    go : (t : Bool) → pick t (Some i) (first_of test (i + 1) n) ≡ Some j → (first_of test (i + 1) n ≡ Some j → j < i + 1 + n) → j < i + suc n
     go true e k = let z : i ≡ j = cc in omega (arith, z)
     go false e k = omega (arith, k e)
 
-pub found-less : (name : ℕ → Bytes) (rules table : List ℕ) (i n : ℕ) (b : List ℕ) {j : ℕ} → found_from name rules table i n b ≡ At j → j < i + n
+pub found-less : (name : ℕ → Bytes) (rules table : List ℕ) (i n : ℕ) (b : List ℕ) {j : ℕ} → found_from name rules table i n b ≡ Some j → j < i + n
 unfolding found_from
 found-less name rules table i n b e = first-less (is_from name rules table b) i n e

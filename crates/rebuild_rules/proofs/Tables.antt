@@ -1,4 +1,6 @@
 -- A table of rules and the rules' trees: entries, and what the search by words says of the trees.
+use Rattle.std.specs.Option.{is_some}
+use Rattle.std.specs.Prelude.{Some, None, Option}
 use Prim.Native.Nat.{ℕ, zero, suc, ◌+◌, ◌-◌, ◌*◌, ◌≤◌, ◌<◌}
 use mathlib.Core.Path.{◌≡◌, refl, ap, ◌∙◌}
 use mathlib.Core.Bool.{Bool, true, false}
@@ -21,9 +23,7 @@ use Rattle.rebuild_spec.specs.Rules.{Rule, among_froms, repeated}
 use Rattle.same_type.specs.declared.Due.TheVariants.{Kind}
 use Rattle.same_type.specs.Runs.{same_runs}
 use Rattle.same_type.proofs.Trees.{same-encoded}
-use Rattle.rebuild_rules.specs.declared.FoundRule.{FoundRule}
-use Rattle.rebuild_rules.specs.declared.FoundRule.TheVariants.{At, Nothing}
-use Rattle.rebuild_rules.specs.Table.{entered, from_words, to_words, first_of, is_found_rule, is_from, found_from, among_from, repeated_from, EntriesFit, Unlinked, TableEntries, RuleAt, Tabled}
+use Rattle.rebuild_rules.specs.Table.{entered, from_words, to_words, first_of, is_from, found_from, among_from, repeated_from, EntriesFit, Unlinked, TableEntries, RuleAt, Tabled}
 
 -- ---- entries
 
@@ -147,8 +147,7 @@ tabled-fits rules pairs table rs n c h l k =
 
 -- ---- by words as by trees
 
-pub found-or : (t : Bool) (i : ℕ) (f : FoundRule) → is_found_rule (pick t (At i) f) ≡ (t or is_found_rule f)
-unfolding is_found_rule
+pub found-or : (t : Bool) (i : ℕ) (f : Option ℕ) → is_some (pick t (Some i) f) ≡ (t or is_some f)
 found-or true i f = refl
 found-or false i f = refl
 
@@ -166,7 +165,7 @@ module _ (name : ℕ → Bytes) (rules pairs table : List ℕ) where
   from-same i t {r} k = ap (same_runs name Kind (encode t)) (from-encoded rules pairs table i k) ∙ same-encoded name t r.0
 
   among-trees : (i : ℕ) (t : Ty ℕ) (rs : List Rule) → Tabled rules pairs table i rs → among_from name rules table i (length rs) (encode t) ≡ among_froms (same_by name) t rs
-  unfolding among_from found_from first_of is_from is_found_rule among_froms
+  unfolding among_from found_from first_of is_from among_froms
   among-trees i t [] k = refl
   among-trees i t (r ∷ rs) k = found-or (is_from name rules table (encode t) i) i (found_from name rules table (i + 1) (length rs) (encode t)) ∙ rw (from-same i t k.0, among-trees (i + 1) t rs k.1) refl
 
@@ -177,20 +176,20 @@ module _ (name : ℕ → Bytes) (rules pairs table : List ℕ) where
       rw (from-encoded rules pairs table i k.0, among-trees (i + 1) r.0 rs k.1, repeated-trees (i + 1) rs k.1) refl
 
   -- what the tree t gives way to, from the rule that is found
-  pub data GivesWay (n : ℕ) (t u : Ty ℕ) : FoundRule → Type 0 where
-    ways : {j : ℕ} {r : Rule} → j < n → RuleAt rules pairs table j r → u ≡ r.1 → GivesWay n t u (At j)
-    stays : u ≡ t → GivesWay n t u Nothing
+  pub data GivesWay (n : ℕ) (t u : Ty ℕ) : Option ℕ → Type 0 where
+    ways : {j : ℕ} {r : Rule} → j < n → RuleAt rules pairs table j r → u ≡ r.1 → GivesWay n t u (Some j)
+    stays : u ≡ t → GivesWay n t u None
 
   pub found-trees : (i : ℕ) (t : Ty ℕ) (rs : List Rule) → Tabled rules pairs table i rs → GivesWay (i + length rs) t (ruled (same_by name) rs t) (found_from name rules table i (length rs) (encode t))
   unfolding found_from first_of is_from ruled
   found-trees i t [] k = stays refl
   found-trees i t (r ∷ rs) k = rw (from-same i t k.0) (go (same_by name t r.0) (found-trees (i + 1) t rs k.1))
     where
-      wider : {m n : ℕ} {u : Ty ℕ} {f : FoundRule} → m ≤ n → GivesWay m t u f → GivesWay n t u f
+      wider : {m n : ℕ} {u : Ty ℕ} {f : Option ℕ} → m ≤ n → GivesWay m t u f → GivesWay n t u f
       wider {m} {n} h (ways {j = j} l a e) = let g : j < n = omega arith in ways g a e
       wider h (stays e) = stays e
 
       go : (b : Bool) → GivesWay (i + 1 + length rs) t (ruled (same_by name) rs t) (found_from name rules table (i + 1) (length rs) (encode t))
-          → GivesWay (i + suc (length rs)) t (elim b as (λ x. Ty ℕ) [ true ↦ r.1 | false ↦ ruled (same_by name) rs t ]) (pick b (At i) (found_from name rules table (i + 1) (length rs) (encode t)))
+          → GivesWay (i + suc (length rs)) t (elim b as (λ x. Ty ℕ) [ true ↦ r.1 | false ↦ ruled (same_by name) rs t ]) (pick b (Some i) (found_from name rules table (i + 1) (length rs) (encode t)))
       go true g = let h : i < i + suc (length rs) = omega arith in ways h k.0 refl
       go false g = wider (omega arith) g

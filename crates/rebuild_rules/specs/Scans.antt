@@ -1,21 +1,14 @@
 -- What the code's answers on the way say of the readings that they stand for.
-use Rattle.std.specs.Prelude.{ℕ, ◌≤◌, ◌≡◌, List, length}
+use Rattle.std.specs.Prelude.{Ok, Err, Result, ℕ, ◌≤◌, ◌≡◌, List, length}
 use Rattle.rast.specs.Bytes.{Bytes}
 use Rattle.rast.specs.Tree.{Ty, Tys}
 use Rattle.encoding.specs.declared.Refusal.{Refusal}
-use Rattle.encoding.specs.declared.Scan.{Scan}
-use Rattle.encoding.specs.declared.Scan.TheVariants.{At, Refused}
-use Rattle.encoding.specs.Refusals.{given, refused}
 use Rattle.encoding.specs.Reading.{Reading, got, stop}
 use Rattle.encoding.specs.Declarations.{read_list}
 use Rattle.tree_words.specs.Numbered.{tree_at}
 use Rattle.rebuild_spec.specs.Laying.{depth, deepest}
 use Rattle.rebuild_spec.specs.Rules.{Rule, read_rule, rules_of}
 use Rattle.rebuild_rules.specs.declared.Deep.{Deep}
-use Rattle.rebuild_rules.specs.declared.RuleScan.{RuleScan}
-use Rattle.rebuild_rules.specs.declared.RuleScan.TheVariants.{OneRule, NoRule}
-use Rattle.rebuild_rules.specs.declared.RulesAnswer.{RulesAnswer}
-use Rattle.rebuild_rules.specs.declared.RulesAnswer.TheVariants.{Rules, NoRules}
 use Rattle.rebuild_rules.specs.Table.{EntriesFit, Links, Unlinked, Tabled}
 
 -- where the types that were read end, and how deep the deepest is
@@ -36,16 +29,16 @@ depth_of (got t n) = depth t
 depth_of (stop k) = 0
 
 -- one rule
-pub data RuleRead (rules pairs : List ℕ) (at : ℕ) : RuleScan → Type 0 where
-  rule : {from to : Ty ℕ} {m n : ℕ} → tree_at rules pairs at ≡ got from m → tree_at rules pairs m ≡ got to n → RuleRead rules pairs at (OneRule m n)
-  none : {k : Refusal} → read_rule (tree_at rules pairs) at ≡ stop k → RuleRead rules pairs at (NoRule k)
+pub data RuleRead (rules pairs : List ℕ) (at : ℕ) : Result (ℕ × ℕ) Refusal → Type 0 where
+  rule : {from to : Ty ℕ} {m n : ℕ} → tree_at rules pairs at ≡ got from m → tree_at rules pairs m ≡ got to n → RuleRead rules pairs at (Ok (m, n))
+  none : {k : Refusal} → read_rule (tree_at rules pairs) at ≡ stop k → RuleRead rules pairs at (Err k)
 
 -- some rules, entered in a table
-pub data Listed (rules pairs : List ℕ) (n at : ℕ) (table : List ℕ) : Scan → Type 0 where
-  listed : {rs : List Rule} {m : ℕ} → read_list (read_rule (tree_at rules pairs)) n at ≡ got rs m → Tabled rules pairs table 0 rs → length rs ≡ n → Unlinked table → Listed rules pairs n at table (At m)
-  unlisted : {k : Refusal} → read_list (read_rule (tree_at rules pairs)) n at ≡ stop k → Listed rules pairs n at table (Refused k)
+pub data Listed (rules pairs : List ℕ) (n at : ℕ) (table : List ℕ) : Result ℕ Refusal → Type 0 where
+  listed : {rs : List Rule} {m : ℕ} → read_list (read_rule (tree_at rules pairs)) n at ≡ got rs m → Tabled rules pairs table 0 rs → length rs ≡ n → Unlinked table → Listed rules pairs n at table (Ok m)
+  unlisted : {k : Refusal} → read_list (read_rule (tree_at rules pairs)) n at ≡ stop k → Listed rules pairs n at table (Err k)
 
 -- the rules of a list
-pub data RulesRead (rules pairs : List ℕ) (text : Bytes) (table : List ℕ) : RulesAnswer → Type 0 where
-  read : {rs : List Rule} → rules_of rules pairs text ≡ given rs → Tabled rules pairs table 0 rs → EntriesFit rules table (length rs) → Links rules table 0 (length rs) → RulesRead rules pairs text table (Rules (length rs))
-  unread : {k : Refusal} → rules_of rules pairs text ≡ refused k → RulesRead rules pairs text table (NoRules k)
+pub data RulesRead (rules pairs : List ℕ) (text : Bytes) (table : List ℕ) : Result ℕ Refusal → Type 0 where
+  read : {rs : List Rule} → rules_of rules pairs text ≡ Ok rs → Tabled rules pairs table 0 rs → EntriesFit rules table (length rs) → Links rules table 0 (length rs) → RulesRead rules pairs text table (Ok (length rs))
+  unread : {k : Refusal} → rules_of rules pairs text ≡ Err k → RulesRead rules pairs text table (Err k)

@@ -1,6 +1,7 @@
 -- Rules found by a table: of rule i the entries from 4 i on say where its from begins, and where its to begins and ends. Rules whose froms begin with the same word
 -- are linked: the entry of that word, from 128 on, says which rule comes first, the last entry of a rule which comes after it. Rule i is said by i + 1, none by 0.
-use Rattle.std.specs.Prelude.{ℕ, zero, suc, ◌+◌, ◌-◌, ◌*◌, ◌≤◌, ◌<◌, ◌≡◌, Bool, true, false, List, [], ◌∷◌, eqb, ltb, length, get_or, set, take, drop}
+use Rattle.std.specs.Prelude.{Some, None, Option, ℕ, zero, suc, ◌+◌, ◌-◌, ◌*◌, ◌≤◌, ◌<◌, ◌≡◌, Bool, true, false, List, [], ◌∷◌, eqb, ltb, length, get_or, set, take, drop}
+use Rattle.std.specs.Option.{is_some}
 use Rattle.rast.specs.Bytes.{Bytes, ◌or◌}
 use Rattle.encoding.specs.Words.{max_rules}
 use Rattle.encoding.specs.Refusals.{pick}
@@ -11,8 +12,6 @@ use Rattle.tree_words.specs.Runs.{Run}
 use Rattle.rebuild_spec.specs.Rules.{Rule}
 use Rattle.same_type.specs.declared.Due.TheVariants.{Kind}
 use Rattle.same_type.specs.Runs.{same_runs}
-use Rattle.rebuild_rules.specs.declared.FoundRule.{FoundRule}
-use Rattle.rebuild_rules.specs.declared.FoundRule.TheVariants.{At, Nothing}
 
 -- the table with one rule more
 unfoldable pub entered : List ℕ → ℕ → ℕ → ℕ → ℕ → List ℕ
@@ -42,18 +41,14 @@ unfoldable pub next_rule : List ℕ → List ℕ → ℕ → ℕ → ℕ → ℕ
 next_rule rules table s i zero = 0
 next_rule rules table s i (suc n) = pick (eqb (slot_of rules table i) s) (i + 1) (next_rule rules table s (i + 1) n)
 
--- the first of n rules from the i-th on that passes a test, and whether there is one
-unfoldable pub first_of : (ℕ → Bool) → ℕ → ℕ → FoundRule
-first_of test i zero = Nothing
-first_of test i (suc n) = pick (test i) (At i) (first_of test (i + 1) n)
-
-unfoldable pub is_found_rule : FoundRule → Bool
-is_found_rule (At i) = true
-is_found_rule Nothing = false
+-- the first of n rules from the i-th on that passes a test
+unfoldable pub first_of : (ℕ → Bool) → ℕ → ℕ → Option ℕ
+first_of test i zero = None
+first_of test i (suc n) = pick (test i) (Some i) (first_of test (i + 1) n)
 
 -- the first of k rules that passes it, from a link on
-unfoldable pub first_along : (ℕ → Bool) → ℕ → ℕ → FoundRule
-first_along test k zero = Nothing
+unfoldable pub first_along : (ℕ → Bool) → ℕ → ℕ → Option ℕ
+first_along test k zero = None
 first_along test k (suc i) = first_of test i (k - i)
 
 module _ (name : ℕ → Bytes) (rules table : List ℕ) where
@@ -61,11 +56,11 @@ module _ (name : ℕ → Bytes) (rules table : List ℕ) where
   unfoldable pub is_from : List ℕ → ℕ → Bool
   is_from b i = same_runs name Kind b (from_words rules table i)
 
-  unfoldable pub found_from : ℕ → ℕ → List ℕ → FoundRule
+  unfoldable pub found_from : ℕ → ℕ → List ℕ → Option ℕ
   found_from i n b = first_of (is_from b) i n
 
   unfoldable pub among_from : ℕ → ℕ → List ℕ → Bool
-  among_from i n b = is_found_rule (found_from i n b)
+  among_from i n b = is_some (found_from i n b)
 
   -- whether two of n rules from the i-th on have the same from
   unfoldable pub repeated_from : ℕ → ℕ → Bool
@@ -77,7 +72,7 @@ module _ (name : ℕ → Bytes) (rules table : List ℕ) where
   stands ws i = same_runs name Kind (take (length (from_words rules table i)) ws) (from_words rules table i)
 
   unfoldable pub some_stands : ℕ → ℕ → List ℕ → Bool
-  some_stands i n ws = is_found_rule (first_of (stands ws) i n)
+  some_stands i n ws = is_some (first_of (stands ws) i n)
 
   unfoldable pub none_stands : ℕ → List ℕ → Bool
   none_stands k [] = true
@@ -125,3 +120,9 @@ pub record RuleAt (rules pairs table : List ℕ) (i : ℕ) (r : Rule) : Type 0 w
 abbrev pub Tabled : List ℕ → List ℕ → List ℕ → ℕ → List Rule → Type 0
 Tabled rules pairs table i [] = Unit {0}
 Tabled rules pairs table i (r ∷ rs) = RuleAt rules pairs table i r × Tabled rules pairs table (i + 1) rs
+
+-- a search along the links, from one on: a rule that passes is found, one that does not leads to the link behind it
+pub data FoundAlong (passes : ℕ → Bool → Type 0) (table : List ℕ) : ℕ → Option ℕ → Type 0 where
+  nowhere : FoundAlong passes table 0 None
+  here : {i : ℕ} → passes i true → FoundAlong passes table (suc i) (Some i)
+  behind : {i : ℕ} {r : Option ℕ} → passes i false → FoundAlong passes table (get_or table (4 * i + 3) 0) r → FoundAlong passes table (suc i) r

@@ -1,7 +1,7 @@
 // Lists of rules: reading them into a table, and finding the rule whose from a type equals.
 #![tactic(auto)]
 
-ghost use Rattle.std.specs.Prelude.{◌≡◌, max, ◌+◌, ◌-◌, ◌*◌, ◌≤◌, ◌<◌, length, get_or, take, drop};
+ghost use Rattle.std.specs.Prelude.{◌≡◌, ℕ, max, ◌+◌, ◌-◌, ◌*◌, ◌≤◌, ◌<◌, length, get_or, take, drop};
 ghost use Rattle.encoding.specs.Words.{max_words, max_rules};
 ghost use Rattle.encoding.specs.Tables.{name_bytes};
 ghost use Rattle.encoding.specs.Tested.{Good};
@@ -9,18 +9,18 @@ ghost use Rattle.encoding.specs.Types.{read_types};
 ghost use Rattle.tree_words.specs.Numbered.{tree_at};
 ghost use Rattle.rebuild_spec.specs.Rules.{check_all};
 ghost use Rattle.accepted_types.specs.Accepted.{Readable};
-ghost use Rattle.rebuild_rules.specs.Table.{entered, slot, slot_of, linked, is_found_rule, first_along, is_from, stands, some_stands, none_stands, from_words, found_from, among_from, repeated_from, EntriesFit, Links, AlongLinks, Unlinked, TableEntries};
+ghost use Rattle.rebuild_rules.specs.Table.{entered, slot, slot_of, linked, first_along, is_from, stands, some_stands, none_stands, from_words, found_from, among_from, repeated_from, FoundAlong, EntriesFit, Links, AlongLinks, Unlinked, TableEntries};
 ghost use Rattle.rebuild_rules.specs.Scans.{Deepens, SpansTo, depth_of, RuleRead, Listed, RulesRead};
 
+use encoding::Refusal;
 use encoding::words::{MAX_RULES, MAX_WORDS};
-use encoding::{Check, Refusal, Scan, WordScan};
 
 // The limits, those on the rules' words with those on the tree's; then the pairs.
-pub fn check_all(words: &[u32], rules: &[u32], pairs: &[u32], text: &[u8]) -> Check
+pub fn check_all(words: &[u32], rules: &[u32], pairs: &[u32], text: &[u8]) -> Result<(), Refusal>
     ensures { result ≡ check_all words.now rules.now pairs.now text.now }
 {
     if MAX_WORDS < rules.len() {
-        return Check::Failed(Refusal::Overlong);
+        return Err(Refusal::Overlong);
     }
     encoding::check_tables(words, pairs, text)
 }
@@ -35,10 +35,7 @@ pub struct Deep {
 pub fn larger(a: usize, b: usize) -> usize
     ensures { result ≡ max a b }
 {
-    if a < b {
-        return b;
-    }
-    a
+    a.max(b)
 }
 
 // How deep the deepest of `n` accepted types is.
@@ -49,13 +46,11 @@ fn deepest(words: &[u32], pairs: &[u32], at: usize, n: usize) -> Deep
 {
     let mut place = at;
     let mut depth = 0;
-    let mut left = n;
-    while 0 < left {
+    for _ in 0..n {
         let behind = encoding::pass_head(words, place, 1);
         let below = depth_below(words, pairs, behind.next, behind.due);
-        depth = larger(depth, below.depth + 1);
+        depth = depth.max(below.depth + 1);
         place = below.next;
-        left -= 1;
     }
     Deep { next: place, depth }
 }
@@ -84,24 +79,18 @@ pub fn depth_in(words: &[u32], pairs: &[u32], at: usize, count: usize) -> usize
     type_there.depth
 }
 
-// A rule that was read: where its to begins and ends.
-#[derive(Clone, Copy)]
-enum RuleScan {
-    OneRule { middle: usize, end: usize },
-    NoRule(Refusal),
-}
-
-fn scan_rule(rules: &[u32], pairs: &[u32], text: &[u8], at: usize) -> RuleScan
+fn scan_rule(
+    rules: &[u32],
+    pairs: &[u32],
+    text: &[u8],
+    at: usize,
+) -> Result<(usize, usize), Refusal>
     requires { Good pairs.now text.now × (length rules.now ≤ max_words) }
     ensures { RuleRead rules.now pairs.now at result }
 {
-    match accept_type::scan_type(rules, pairs, text, at) {
-        Scan::At(middle) => match accept_type::scan_type(rules, pairs, text, middle) {
-            Scan::At(end) => RuleScan::OneRule { middle, end },
-            Scan::Refused(r) => RuleScan::NoRule(r),
-        },
-        Scan::Refused(r) => RuleScan::NoRule(r),
-    }
+    let middle = accept_type::scan_type(rules, pairs, text, at)?;
+    let end = accept_type::scan_type(rules, pairs, text, middle)?;
+    Ok((middle, end))
 }
 
 // Rule `i` of the table: where its from begins, and where its to begins and ends.
@@ -122,25 +111,17 @@ fn scan_list(
     n: usize,
     at: usize,
     table: &mut [u16; 160],
-) -> Scan
+) -> Result<usize, Refusal>
     requires { Good pairs.now text.now × (length rules.now ≤ max_words) × (n ≤ max_rules) × (at ≤ length rules.now) × Unlinked table.old }
     ensures { Listed rules.now pairs.now n at table.new result }
 {
     let mut place = at;
-    let mut i = 0;
-    while i < n {
-        match scan_rule(rules, pairs, text, place) {
-            RuleScan::OneRule { middle, end } => {
-                enter_rule(table, i, place, middle, end);
-                place = end;
-            }
-            RuleScan::NoRule(r) => {
-                return Scan::Refused(r);
-            }
-        }
-        i += 1;
+    for i in 0..n {
+        let (middle, end) = scan_rule(rules, pairs, text, place)?;
+        enter_rule(table, i, place, middle, end);
+        place = end;
     }
-    Scan::At(place)
+    Ok(place)
 }
 
 // Where the table says which rule comes first for a word. Words that no type begins with share an entry.
@@ -169,9 +150,7 @@ fn link_rules(rules: &[u32], table: &mut [u16; 160], k: usize)
     requires { EntriesFit rules.now table.old k × Unlinked table.old }
     ensures { TableEntries table.old table.new × Links rules.now table.new 0 k }
 {
-    let mut i = k;
-    while 0 < i {
-        i -= 1;
+    for i in (0..k).rev() {
         link_rule(rules, table, i);
     }
 }
@@ -185,26 +164,19 @@ pub const END: usize = 2;
 
 const LINK: usize = 3;
 
-// A parameter is known to fit its type, an element of a lent array is not.
-fn wide(value: u16) -> usize
-    ensures { result ≡ value }
-{
-    value as usize
-}
-
 // An entry of rule `i`.
 pub fn entry(table: &[u16; 160], i: usize, kind: usize) -> usize
     requires { (i < max_rules) × (kind < 4) }
     ensures { result ≡ get_or table.now (4 * i + kind) 0 }
 {
-    wide(table[4 * i + kind])
+    table[4 * i + kind] as usize
 }
 
 // The rule that comes first for a word.
 pub fn first_link(table: &[u16; 160], word: u32) -> usize
     ensures { result ≡ get_or table.now (slot word) 0 }
 {
-    wide(table[slot_of(word)])
+    table[slot_of(word)] as usize
 }
 
 // Whether the from of rule `i` is the same type as `count` words of `out`. Lengths are compared before words.
@@ -229,11 +201,28 @@ fn is_from(
     same_type::same_words(pairs, text, out, start, rules, from, count)
 }
 
-// A rule, or none.
-#[derive(Clone, Copy)]
-pub enum FoundRule {
-    At(usize),
-    Nothing,
+// The first rule, from a link on, that passes a test.
+fn first_along<F: Fn(usize) -> bool>(
+    rules: &[u32],
+    table: &[u16; 160],
+    k: usize,
+    link: usize,
+    passes: F,
+) -> Option<usize>
+    requires linked { (k ≤ max_rules) × Links rules.now table.now 0 k }
+    requires along { (s : ℕ) × AlongLinks rules.now table.now k s link }
+    requires callable { (i : ℕ) → i < k → F.pre passes i }
+    ensures { FoundAlong (F.post passes) table.now link result }
+{
+    let mut next = link;
+    while 0 < next {
+        let i = next - 1;
+        if passes(i) {
+            return Some(i);
+        }
+        next = entry(table, i, LINK);
+    }
+    None
 }
 
 // The first rule, from a link on, whose from is the same type as `count` words of `out`.
@@ -247,20 +236,14 @@ fn find_along(
     out: &[u32],
     start: usize,
     count: usize,
-) -> FoundRule
+) -> Option<usize>
     requires { Good pairs.now text.now × EntriesFit rules.now table.now k × Links rules.now table.now 0 k × (0 < count) × (start + count ≤ length out.now)
         × AlongLinks rules.now table.now k (slot (get_or out.now start 0)) link }
     ensures { result ≡ first_along (is_from (name_bytes pairs.now text.now) rules.now table.now (take count (drop start out.now))) k link }
 {
-    let mut next = link;
-    while 0 < next {
-        let i = next - 1;
-        if is_from(rules, pairs, text, table, k, i, out, start, count) {
-            return FoundRule::At(i);
-        }
-        next = entry(table, i, LINK);
-    }
-    FoundRule::Nothing
+    first_along(rules, table, k, link, |i| {
+        is_from(rules, pairs, text, table, k, i, out, start, count)
+    })
 }
 
 // The first of `k` rules whose from is the same type as `count` words of `out`, which begin with a word whose first rule is that of `link`.
@@ -274,7 +257,7 @@ pub fn find_rule(
     out: &[u32],
     start: usize,
     count: usize,
-) -> FoundRule
+) -> Option<usize>
     requires { Good pairs.now text.now × EntriesFit rules.now table.now k × Links rules.now table.now 0 k × (0 < count) × (start + count ≤ length out.now)
         × (link ≡ get_or table.now (slot (get_or out.now start 0)) 0) }
     ensures { result ≡ found_from (name_bytes pairs.now text.now) rules.now table.now 0 k
@@ -321,15 +304,11 @@ fn some_stands(
     requires { Good pairs.now text.now × EntriesFit rules.now table.now k × Links rules.now table.now 0 k × (at < length words.now) }
     ensures { result ≡ some_stands (name_bytes pairs.now text.now) rules.now table.now 0 k (drop at words.now) }
 {
-    let mut next = first_link(table, words[at]);
-    while 0 < next {
-        let i = next - 1;
-        if stands_at(rules, pairs, text, table, k, i, words, at) {
-            return true;
-        }
-        next = entry(table, i, LINK);
-    }
-    false
+    let link = first_link(table, words[at]);
+    let found = first_along(rules, table, k, link, |i| {
+        stands_at(rules, pairs, text, table, k, i, words, at)
+    });
+    found.is_some()
 }
 
 // Whether none of `k` froms stands anywhere in `words`: then no type in them gives way.
@@ -344,23 +323,12 @@ pub fn none_stands(
     requires { Good pairs.now text.now × EntriesFit rules.now table.now k × Links rules.now table.now 0 k }
     ensures { result ≡ none_stands (name_bytes pairs.now text.now) rules.now table.now k words.now }
 {
-    let mut at = 0;
-    while at < words.len() {
+    for at in 0..words.len() {
         if some_stands(rules, pairs, text, table, k, words, at) {
             return false;
         }
-        at += 1;
     }
     true
-}
-
-fn is_found_rule(found: FoundRule) -> bool
-    ensures { result ≡ is_found_rule found }
-{
-    match found {
-        FoundRule::At(_) => true,
-        FoundRule::Nothing => false,
-    }
 }
 
 // Whether the from of rule `i` is that of a rule behind it.
@@ -379,7 +347,7 @@ fn is_among(
     let start = entry(table, i, FROM);
     let count = entry(table, i, TO) - start;
     let link = entry(table, i, LINK);
-    is_found_rule(find_along(rules, pairs, text, table, k, link, rules, start, count))
+    find_along(rules, pairs, text, table, k, link, rules, start, count).is_some()
 }
 
 // Whether two of `k` rules have the same from.
@@ -387,48 +355,36 @@ fn are_repeated(rules: &[u32], pairs: &[u32], text: &[u8], table: &[u16; 160], k
     requires { Good pairs.now text.now × EntriesFit rules.now table.now k × Links rules.now table.now 0 k }
     ensures { result ≡ repeated_from (name_bytes pairs.now text.now) rules.now table.now 0 k }
 {
-    let mut i = 0;
-    while i < k {
+    for i in 0..k {
         if is_among(rules, pairs, text, table, k, i) {
             return true;
         }
-        i += 1;
     }
     false
-}
-
-// How many rules a list has, or the refusal.
-#[derive(Clone, Copy)]
-pub enum RulesAnswer {
-    Rules(usize),
-    NoRules(Refusal),
 }
 
 // How many numbers of rules a list may have.
 const COUNTS: usize = MAX_RULES as usize + 1;
 
 // The rules of a list, entered in the table.
-pub fn read_rules(rules: &[u32], pairs: &[u32], text: &[u8], table: &mut [u16; 160]) -> RulesAnswer
+pub fn read_rules(
+    rules: &[u32],
+    pairs: &[u32],
+    text: &[u8],
+    table: &mut [u16; 160],
+) -> Result<usize, Refusal>
     requires { Good pairs.now text.now × (length rules.now ≤ max_words) × Unlinked table.old }
     ensures { RulesRead rules.now pairs.now text.now table.new result }
 {
-    match encoding::scan_below(rules, COUNTS, 0) {
-        WordScan::Word { value, next } => {
-            let k = value as usize;
-            match scan_list(rules, pairs, text, k, next, table) {
-                Scan::At(end) => {
-                    if end != rules.len() {
-                        return RulesAnswer::NoRules(Refusal::LeftOver);
-                    }
-                    link_rules(rules, table, k);
-                    if are_repeated(rules, pairs, text, table, k) {
-                        return RulesAnswer::NoRules(Refusal::RepeatedRule);
-                    }
-                    RulesAnswer::Rules(k)
-                }
-                Scan::Refused(r) => RulesAnswer::NoRules(r),
-            }
-        }
-        WordScan::NoWord(r) => RulesAnswer::NoRules(r),
+    let (value, next) = encoding::scan_below(rules, COUNTS, 0)?;
+    let k = value as usize;
+    let end = scan_list(rules, pairs, text, k, next, table)?;
+    if end != rules.len() {
+        return Err(Refusal::LeftOver);
     }
+    link_rules(rules, table, k);
+    if are_repeated(rules, pairs, text, table, k) {
+        return Err(Refusal::RepeatedRule);
+    }
+    Ok(k)
 }

@@ -1,9 +1,9 @@
 -- The comparison of types decides whether they are equal: no two types are written alike.
+use Rattle.std.specs.Prelude.{Option, Some, None}
 use Prim.Native.Nat.{ℕ}
 use mathlib.Core.Path.{◌≡◌, refl, ap, sym, ◌∙◌}
 use mathlib.Core.Bool.{Bool, true, false}
 use mathlib.Core.List.{List, [], ◌∷◌, ◌++◌, map, append_assoc}
-use mathlib.Core.Option.{Option, some, none}
 use native.Mathlib.Omega.{arith}
 use borrow.Author.Tests.{eqb-true, eq-eqb}
 use lib.Dec.{eqb, ltb}
@@ -20,10 +20,10 @@ use Rattle.rebuild_spec.specs.Same.{same_size, same_token, same_tokens, same_typ
 
 size-eq : (r s : Option Bytes) → same_size r s ≡ true → r ≡ s
 unfolding same_size
-size-eq none none e = refl
-size-eq none (some y) e = impossible (cc)
-size-eq (some x) none e = impossible (cc)
-size-eq (some x) (some y) e = ap some (same-eq x y e)
+size-eq None None e = refl
+size-eq None (Some y) e = impossible (cc)
+size-eq (Some x) None e = impossible (cc)
+size-eq (Some x) (Some y) e = ap Some (same-eq x y e)
 
 token-eq : (x y : Token Bytes) → same_token x y ≡ true → x ≡ y
 unfolding same_token
@@ -50,8 +50,8 @@ unfolding same_tokens same_token same_size ◌and◌
 tokens-self [] = refl
 tokens-self (word k ∷ xs) = rw (eq-eqb k k refl) (tokens-self xs)
 tokens-self (name x ∷ xs) = rw (same_self x) (tokens-self xs)
-tokens-self (size none ∷ xs) = tokens-self xs
-tokens-self (size (some x) ∷ xs) = rw (same_self x) (tokens-self xs)
+tokens-self (size None ∷ xs) = tokens-self xs
+tokens-self (size (Some x) ∷ xs) = rw (same_self x) (tokens-self xs)
 
 -- ---- own words
 

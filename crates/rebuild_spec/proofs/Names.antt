@@ -1,4 +1,5 @@
 -- The names of a rebuilt tree are those of the tree or of a rule's to, so they are in the table.
+use Rattle.std.specs.Prelude.{Err, Ok}
 use Prim.Native.Nat.{ℕ, zero, suc}
 use mathlib.Core.Path.{◌≡◌}
 use mathlib.Core.Bool.{Bool, true, false}
@@ -7,8 +8,7 @@ use lib.ListN.{length}
 use Rattle.rast.specs.Bytes.{Bytes}
 use Rattle.rast.specs.Tree.{Ty, Tys, Primitive, TIdentifier, TypeFromPath, TypeApp, Borrowed, BorrowedMut, ImplType, DynType, TupleType, FnType, IntersectionType, Array, TSynonym, TMetaData, nil, cons}
 use Rattle.encoding.specs.declared.Refusal.TheVariants.{RepeatedRule}
-use Rattle.encoding.specs.declared.Check.TheVariants.{Passed}
-use Rattle.encoding.specs.Refusals.{pick, Answer, given, refused, unless}
+use Rattle.encoding.specs.Refusals.{pick, Answer, unless}
 use Rattle.encoding.specs.Reading.{Reading, got, whole, read_below}
 use Rattle.encoding.specs.Tables.{name_bytes, name_count}
 use Rattle.encoding.specs.Declarations.{read_list}
@@ -79,23 +79,23 @@ module _ (b : ℕ) where
       rw m.made (i, listed-names type h k m.middle m.right n m.reads₂)
 
 -- the rules of a list have names in the table
-rules-names : (rules pairs : List ℕ) (text : Bytes) {rs : List Rule} → rules_of rules pairs text ≡ given rs → Each (ToBelow (name_count pairs)) rs
+rules-names : (rules pairs : List ℕ) (text : Bytes) {rs : List Rule} → rules_of rules pairs text ≡ Ok rs → Each (ToBelow (name_count pairs)) rs
 unfolding rules_of read_rules unless distinct
 rules-names rules pairs text {rs} e =
-    let g = given-whole Passed (length rules) (read_rules rules pairs) (told (whole (length rules) (read_rules rules pairs)) e) in
+    let g = given-whole (Ok tt) (length rules) (read_rules rules pairs) (told (whole (length rules) (read_rules rules pairs)) e) in
     let d = bind-got (read_below 33 rules 0) _ g.1 in
     listed-names (name_count pairs) (tree_at rules pairs) (λ p t n i. type-names (name_count pairs) rules 64 p t n i) d.value d.end rs (length rules) d.rest
   where
-    told : (x : Answer (List Rule)) → distinct (same_by (name_bytes pairs text)) x ≡ given rs → unless Passed x ≡ given rs
-    told (given us) e = go (repeated (same_by (name_bytes pairs text)) us) e
+    told : (x : Answer (List Rule)) → distinct (same_by (name_bytes pairs text)) x ≡ Ok rs → unless (Ok tt) x ≡ Ok rs
+    told (Ok us) e = go (repeated (same_by (name_bytes pairs text)) us) e
       where
-        go : (c : Bool) → pick c (refused RepeatedRule) (given us) ≡ given rs → unless Passed (given us) ≡ given rs
+        go : (c : Bool) → pick c (Err RepeatedRule) (Ok us) ≡ Ok rs → unless (Ok tt) (Ok us) ≡ Ok rs
         go true e = impossible (cc)
         go false e = e
-    told (refused r) e = impossible (cc)
+    told (Err r) e = impossible (cc)
 
 -- what rules make of a tree whose names are in the table
-pub mapped-names : (rules pairs : List ℕ) (text : Bytes) {rs : List Rule} → rules_of rules pairs text ≡ given rs → (t : Ty ℕ) → NamesBelow (name_count pairs) (tokens t) → NamesBelow (name_count pairs) (tokens (Replace (mapping_of pairs text rs) t))
+pub mapped-names : (rules pairs : List ℕ) (text : Bytes) {rs : List Rule} → rules_of rules pairs text ≡ Ok rs → (t : Ty ℕ) → NamesBelow (name_count pairs) (tokens t) → NamesBelow (name_count pairs) (tokens (Replace (mapping_of pairs text rs) t))
 unfolding mapping_of
 mapped-names rules pairs text {rs} e t h =
     replace-names (name_count pairs) (ruled (same_by (name_bytes pairs text)) rs) (ruled-names (name_count pairs) (same_by (name_bytes pairs text)) rs (rules-names rules pairs text e)) t h

@@ -1,12 +1,11 @@
 -- Document 01's "rule sheet" is here a list of rules: k, then k times two types, from and to.
-use Rattle.std.specs.Prelude.{ℕ, ◌+◌, Bool, false, List, [], ◌∷◌, ltb, length}
+use Rattle.encoding.specs.declared.Refusal.{Refusal}
+use Rattle.std.specs.Prelude.{Ok, Err, Result, ℕ, ◌+◌, Bool, false, List, [], ◌∷◌, ltb, length}
 use Rattle.rast.specs.Bytes.{Bytes, ◌or◌}
 use Rattle.rast.specs.Tree.{Ty}
 use Rattle.encoding.specs.Words.{max_words, max_rules}
 use Rattle.encoding.specs.declared.Refusal.TheVariants.{Overlong, BadPair, RepeatedRule}
-use Rattle.encoding.specs.declared.Check.{Check}
-use Rattle.encoding.specs.declared.Check.TheVariants.{Passed, Failed}
-use Rattle.encoding.specs.Refusals.{pick, Answer, given, refused}
+use Rattle.encoding.specs.Refusals.{pick, Answer}
 use Rattle.encoding.specs.Reading.{Reading, got, ◌>>=◌, read_below, whole}
 use Rattle.encoding.specs.Tables.{overlong, good_pairs, name_bytes}
 use Rattle.encoding.specs.Declarations.{read_list}
@@ -36,15 +35,15 @@ repeated eq [] = false
 repeated eq (r ∷ rs) = among_froms eq r.0 rs or repeated eq rs
 
 -- the limits, those on the rules' words with those on the tree's; then the pairs
-unfoldable pub check_all : List ℕ → List ℕ → List ℕ → Bytes → Check
+unfoldable pub check_all : List ℕ → List ℕ → List ℕ → Bytes → Result (Unit {0}) Refusal
 check_all words rules pairs text =
-    pick (overlong words pairs text or ltb max_words (length rules)) (Failed Overlong)
-    (pick (good_pairs pairs 0 (length text)) Passed (Failed BadPair))
+    pick (overlong words pairs text or ltb max_words (length rules)) (Err Overlong)
+    (pick (good_pairs pairs 0 (length text)) (Ok tt) (Err BadPair))
 
 -- rules of which two have equal froms are refused
 unfoldable pub distinct : (Ty ℕ → Ty ℕ → Bool) → Answer (List Rule) → Answer (List Rule)
-distinct eq (given rs) = pick (repeated eq rs) (refused RepeatedRule) (given rs)
-distinct eq (refused r) = refused r
+distinct eq (Ok rs) = pick (repeated eq rs) (Err RepeatedRule) (Ok rs)
+distinct eq (Err r) = Err r
 
 -- the rules of a list, or the refusal
 unfoldable pub rules_of : List ℕ → List ℕ → Bytes → Answer (List Rule)

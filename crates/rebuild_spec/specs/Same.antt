@@ -1,6 +1,5 @@
 -- `==` on types: two types are equal when they are written alike, names compared by their bytes (proofs/Equality.antt: it is equality).
-use Rattle.std.specs.Prelude.{ℕ, Bool, true, false, List, [], ◌∷◌, eqb}
-use Rattle.std.proofs.Math.Option.{Option, some, none}
+use Rattle.std.specs.Prelude.{Option, Some, None, ℕ, Bool, true, false, List, [], ◌∷◌, eqb}
 use Rattle.rast.specs.Bytes.{Bytes, ◌and◌, same}
 use Rattle.rast.specs.Tree.{Ty}
 use Rattle.tree_words.specs.Renamed.{renamed}
@@ -8,10 +7,10 @@ use Rattle.tree_words.specs.Encode.{Token, word, name, size, tokens}
 
 -- an array's size: none only with none
 unfoldable pub same_size : Option Bytes → Option Bytes → Bool
-same_size none none = true
-same_size none (some y) = false
-same_size (some x) none = false
-same_size (some x) (some y) = same x y
+same_size None None = true
+same_size None (Some y) = false
+same_size (Some x) None = false
+same_size (Some x) (Some y) = same x y
 
 -- one word
 unfoldable pub same_token : Token Bytes → Token Bytes → Bool

@@ -1,23 +1,31 @@
 -- Laws of words laid down in a buffer.
+use Rattle.std.specs.Prelude.{Some, None, Option}
 use Prim.Native.Nat.{ℕ, ◌+◌, ◌-◌, ◌*◌, ◌≤◌, ◌<◌}
 use mathlib.Core.Path.{◌≡◌, refl, ap, sym, ◌∙◌, subst}
 use mathlib.Core.List.{List, [], ◌∷◌, ◌++◌, append_assoc, append-nil}
 use native.Mathlib.Omega.{arith}
 use native.Mathlib.Numerals.{add-one}
 use lib.ListN.{length, take, drop, get_or, set, length-append, length-drop, get_or-append}
-use lib.Seq.{sets, sets-eq, length-sets, take-suc, take_at, drop_at, take-take, take-add, length-take-le, get_or-take, get_or-drop}
+use borrow.Rule.Slice.PartMut.{mid_of, put_mid}
+use lib.Seq.{drop-drop, sets, sets-eq, length-sets, take-suc, take_at, drop_at, take-take, take-add, length-take-le, get_or-take, get_or-drop}
 use Rattle.buffer.proofs.Laws.{part_length, sets-append}
 use Rattle.rebuild_rules.specs.Table.{to_words, EntriesFit}
 use Rattle.rebuild_rules.specs.Scans.{SpansTo, depth_of}
 use Rattle.encoding.specs.Reading.{got}
 use Rattle.tree_words.specs.Numbered.{tree_at}
-use Rattle.rebuild_type.specs.declared.Laying.{Laying}
-use Rattle.rebuild_type.specs.declared.Laying.TheVariants.{To, Over}
-use Rattle.rebuild_type.specs.declared.Settling.TheVariants.{Settled, Overfull}
-use Rattle.rebuild_type.specs.declared.Rebuilt.TheVariants.{Done, Full}
 use Rattle.rebuild_type.specs.Laid.{Grown, Lays, laid, over, GivesTo, given, too_long, rebuilt, full, WordRebuilds}
 
 -- ---- copying
+
+-- a part of one list, put in place of a part of another
+pub put-sets : (o s : List ℕ) (p start count : ℕ) {b : List ℕ} → start + count ≤ length s → p + count ≤ length o → b ≡ mid_of start (start + count - start) s → put_mid p (p + count - p) o b ≡ sets o p (take count (drop start s))
+put-sets o s p start count {b} h k e =
+    let x : start + count - start ≡ count = omega arith in
+    let y : p + count - p ≡ count = omega arith in
+    let f : b ≡ take count (drop start s) = rw x at e in
+    let n : length b ≡ count = ap length f ∙ part_length s start count h in
+    let z : put_mid p count o b ≡ sets o p b = ap (λ l. take p o ++ (b ++ l)) (drop-drop count p o ∙ ap (λ i. drop (p + i) o) (sym n)) ∙ sym (append_assoc (take p o) b (drop (p + length b) o)) ∙ sym (sets-eq b o p (omega (arith, n))) in
+    rw y (z ∙ ap (sets o p) f)
 
 pub copy_more : (o s : List ℕ) (p start i : ℕ) → start + i < length s
     → set (sets o p (take i (drop start s))) (p + i) (get_or s (start + i) 0) ≡ sets o p (take (i + 1) (drop start s))
@@ -101,27 +109,27 @@ grown-over {o} {o'} {o''} {b} {c} {p} l m = record {
 
 -- ---- answers
 
-pub lays-to : {limit p q : ℕ} {o b o' : List ℕ} {r : Laying} → Lays limit o p b o' r → r ≡ To q → (q ≤ limit) × Grown o p b o' q
+pub lays-to : {limit p q : ℕ} {o b o' : List ℕ} {r : Option ℕ} → Lays limit o p b o' r → r ≡ Some q → (q ≤ limit) × Grown o p b o' q
 lays-to {limit} {p} {q} {o} {b} {o'} e d = go (subst (Lays limit o p b o') d e)
   where
-    go : Lays limit o p b o' (To q) → (q ≤ limit) × Grown o p b o' q
+    go : Lays limit o p b o' (Some q) → (q ≤ limit) × Grown o p b o' q
     go (laid h l) = (h, l)
 
-pub lays-over : {limit p : ℕ} {o b o' : List ℕ} {r : Laying} → Lays limit o p b o' r → r ≡ Over → (limit < p + length b) × (length o' ≡ length o)
+pub lays-over : {limit p : ℕ} {o b o' : List ℕ} {r : Option ℕ} → Lays limit o p b o' r → r ≡ None → (limit < p + length b) × (length o' ≡ length o)
 lays-over {limit} {p} {o} {b} {o'} e d = go (subst (Lays limit o p b o') d e)
   where
-    go : Lays limit o p b o' Over → (limit < p + length b) × (length o' ≡ length o)
+    go : Lays limit o p b o' None → (limit < p + length b) × (length o' ≡ length o)
     go (over h k) = (h, k)
 
 -- a part of the words was laid down, or it was too long
 pub part-laid : {limit q : ℕ} {o' : List ℕ} (o src : List ℕ) (p start count : ℕ) → start + count ≤ length src → p + count ≤ limit → limit ≤ length o → o' ≡ sets o p (take count (drop start src)) → q ≡ p + count
-    → Lays limit o p (take count (drop start src)) o' (To q)
+    → Lays limit o p (take count (drop start src)) o' (Some q)
 part-laid {limit} {q} o src p start count h k l e d =
     let n = part_length src start count h in
     let m : q ≤ limit = omega arith in
     laid m (grown-sets o (take count (drop start src)) p q (omega (arith, n)) e (omega (arith, n, d)))
 
-pub part-over : {limit : ℕ} {o' : List ℕ} (o src : List ℕ) (p start count : ℕ) → start + count ≤ length src → p ≤ limit → limit - p < count → o' ≡ o → Lays limit o p (take count (drop start src)) o' Over
+pub part-over : {limit : ℕ} {o' : List ℕ} (o src : List ℕ) (p start count : ℕ) → start + count ≤ length src → p ≤ limit → limit - p < count → o' ≡ o → Lays limit o p (take count (drop start src)) o' None
 part-over {limit} {o'} o src p start count h k l e =
     let n = part_length src start count h in
     let m : limit < p + length (take count (drop start src)) = omega (arith, n) in
@@ -129,12 +137,12 @@ part-over {limit} {o'} o src p start count h k l e =
 
 -- one word was laid down, or there was no room for it
 module _ {limit : ℕ} (o : List ℕ) (w p at : ℕ) where
-  pub word-laid : p < limit → limit ≤ length o → WordRebuilds limit o p (got w (at + 1)) (set o p w) (Done (at + 1) (p + 1) 0)
+  pub word-laid : p < limit → limit ≤ length o → WordRebuilds limit o p (got w (at + 1)) (set o p w) (Some (at + 1, p + 1, 0))
   word-laid h l =
       let k : p + 1 ≤ limit = omega arith in
       rebuilt refl k k (grown-sets o (w ∷ []) p (p + 1) (omega arith) refl refl) refl
 
-  pub word_over : limit ≤ p → WordRebuilds limit o p (got w (at + 1)) o Full
+  pub word_over : limit ≤ p → WordRebuilds limit o p (got w (at + 1)) o None
   word_over h = let k : limit < p + 1 = omega arith in full refl k refl
 
 -- ---- the to of a rule in place of a finished type
@@ -151,11 +159,11 @@ module _ {rules table : List ℕ} {i to end : ℕ} (d : to ≡ get_or table (4 *
     pub to-spans : (pairs : List ℕ) → SpansTo (tree_at rules pairs (get_or table (4 * i + 1) 0)) (get_or table (4 * i + 2) 0) → SpansTo (tree_at rules pairs to) (to + (end - to))
     to-spans pairs t = let z : to + (end - to) ≡ end = omega (arith, to-ends) in rw (z, d, e) t
 
-  module _ {pairs : List ℕ} {limit start : ℕ} {o o' : List ℕ} {r : Laying} (l : Lays limit o start (take (end - to) (drop to rules)) o' r) where
-    pub gives_to : {q n : ℕ} → r ≡ To q → n ≡ depth_of (tree_at rules pairs to) → GivesTo rules pairs table i limit o start o' (Settled q n)
+  module _ {pairs : List ℕ} {limit start : ℕ} {o o' : List ℕ} {r : Option ℕ} (l : Lays limit o start (take (end - to) (drop to rules)) o' r) where
+    pub gives_to : {q n : ℕ} → r ≡ Some q → n ≡ depth_of (tree_at rules pairs to) → GivesTo rules pairs table i limit o start o' (Some (q, n))
     unfolding to_words
     gives_to k m = let t = lays-to (rw (d, e) at l) k in given t.0 t.1 (rw d at m)
 
-    pub gives-over : r ≡ Over → GivesTo rules pairs table i limit o start o' Overfull
+    pub gives-over : r ≡ None → GivesTo rules pairs table i limit o start o' None
     unfolding to_words
     gives-over k = let t = lays-over (rw (d, e) at l) k in too_long t.0 t.1

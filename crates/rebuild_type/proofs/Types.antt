@@ -1,4 +1,5 @@
 -- Rebuilding on words is replacement in trees: a head's own words, the types below it, and then the rules.
+use Rattle.std.specs.Prelude.{Some, None, Option}
 use Prim.Native.Nat.{ℕ, ◌+◌, ◌-◌, ◌≤◌, ◌<◌, max, ◌*◌}
 use mathlib.Core.Path.{◌≡◌, refl, ap, sym, ◌∙◌, subst}
 use mathlib.Core.List.{List, [], ◌∷◌, ◌++◌, append_assoc, append-nil}
@@ -29,23 +30,18 @@ use Rattle.rebuild_spec.specs.Replace.{Replace, Replaces, ruled}
 use Rattle.rebuild_spec.specs.Laying.{depth, deepest, peak, peaks}
 use Rattle.rebuild_spec.specs.Rules.{Rule, rules_of, mapping_of}
 use Rattle.rebuild_spec.proofs.Nodes.{replaces-count, replace-node, peak-node, depth-node, peak-least, depth-words}
-use Rattle.rebuild_rules.specs.declared.FoundRule.{FoundRule}
 use Rattle.rebuild_rules.specs.Table.{to_words, found_from, RuleAt}
 use Rattle.rebuild_rules.specs.Scans.{SpansTo, depth_of}
 use Rattle.rebuild_rules.proofs.Tables.{rule-at, to-encoded, GivesWay, ways, stays as keeps, found-trees}
-use Rattle.rebuild_type.specs.declared.Settling.{Settling}
-use Rattle.rebuild_type.specs.declared.Settling.TheVariants.{Settled, Overfull}
-use Rattle.rebuild_type.specs.declared.Rebuilt.{Rebuilt}
-use Rattle.rebuild_type.specs.declared.Rebuilt.TheVariants.{Done, Full}
 use Rattle.rebuild_type.specs.Laid.{Grown, GivesTo, given as givenTo, too_long, Settles, stays, gives, Rebuilds, rebuilt, full, rule_list, mapping, Ruled, TypeRebuilds, TypesRebuild, WordRebuilds, PartsRebuild, parts, no_parts}
 use Rattle.rebuild_type.proofs.Growing.{grown-then, grown-words, grown-first, grown-over, grown-nothing}
 
 -- ---- a finished type stays or gives way
 
 -- what the rules make of the finished type u, which lies between `start` and `end`
-pub data Ends (u : Ty ℕ) (limit : ℕ) (o : List ℕ) (start : ℕ) (o' : List ℕ) : Settling → Type 0 where
-  settled : {q d : ℕ} → q ≤ limit → Grown o start (encode u) o' q → d ≡ depth u → Ends u limit o start o' (Settled q d)
-  overfull : limit < start + length (encode u) → length o' ≡ length o → Ends u limit o start o' Overfull
+pub data Ends (u : Ty ℕ) (limit : ℕ) (o : List ℕ) (start : ℕ) (o' : List ℕ) : Option (ℕ × ℕ) → Type 0 where
+  settled : {q d : ℕ} → q ≤ limit → Grown o start (encode u) o' q → d ≡ depth u → Ends u limit o start o' (Some (q, d))
+  overfull : limit < start + length (encode u) → length o' ≡ length o → Ends u limit o start o' None
 
 module _ (rules pairs : List ℕ) (text : Bytes) (table : List ℕ) (k : ℕ) (t : Ruled rules pairs text table k) where
   found-tree : (u : Ty ℕ) → GivesWay (name_bytes pairs text) rules pairs table k u (mapping rules pairs text u) (found_from (name_bytes pairs text) rules table 0 k (encode u))
@@ -63,20 +59,20 @@ module _ (rules pairs : List ℕ) (text : Bytes) (table : List ℕ) (k : ℕ) (t
       record { tree = a.0.1; reads = a.1.reads }
 
   -- the finished type u was laid down in o₀ from `start` on, and o is what the buffer holds then
-  pub settle-ends : (u : Ty ℕ) {limit start end deep : ℕ} {o₀ o o' : List ℕ} {r : Settling} → end ≤ limit → Grown o₀ start (encode u) o end → deep ≡ depth u
+  pub settle-ends : (u : Ty ℕ) {limit start end deep : ℕ} {o₀ o o' : List ℕ} {r : Option (ℕ × ℕ)} → end ≤ limit → Grown o₀ start (encode u) o end → deep ≡ depth u
       → Settles rules pairs table (found_from (name_bytes pairs text) rules table 0 k (take (end - start) (drop start o))) limit o start end deep o' r
       → Ends (mapping rules pairs text u) limit o₀ start o' r
   unfolding depth_of
   settle-ends u {limit} {start} {end} {deep} {o₀} {o} {o'} {r} h g d s =
       go (found-tree u) (subst (λ b. Settles rules pairs table (found_from (name_bytes pairs text) rules table 0 k b) limit o start end deep o' r) (grown-words g) s)
     where
-      go : {f : FoundRule} {s : Settling} → GivesWay (name_bytes pairs text) rules pairs table k u (mapping rules pairs text u) f → Settles rules pairs table f limit o start end deep o' s → Ends (mapping rules pairs text u) limit o₀ start o' s
+      go : {f : Option ℕ} {s : Option (ℕ × ℕ)} → GivesWay (name_bytes pairs text) rules pairs table k u (mapping rules pairs text u) f → Settles rules pairs table f limit o start end deep o' s → Ends (mapping rules pairs text u) limit o₀ start o' s
       go (keeps e) (stays c b) = settled h (rw (e, b) g) (d ∙ ap depth (sym e))
       go (keeps e) (gives c m) = impossible (cc)
       go (ways l a e) (stays c b) = impossible (cc)
       go (ways {j = j} l a e) (gives {i = i} {r = s} c m) = let z : j ≡ i = cc in given-ends a e (subst (λ x. GivesTo rules pairs table x limit o start o' s) (sym z) m)
         where
-          given-ends : {j : ℕ} {r : Rule} {s : Settling} → RuleAt rules pairs table j r → mapping rules pairs text u ≡ r.1 → GivesTo rules pairs table j limit o start o' s → Ends (mapping rules pairs text u) limit o₀ start o' s
+          given-ends : {j : ℕ} {r : Rule} {s : Option (ℕ × ℕ)} → RuleAt rules pairs table j r → mapping rules pairs text u ≡ r.1 → GivesTo rules pairs table j limit o start o' s → Ends (mapping rules pairs text u) limit o₀ start o' s
           given-ends {j} a e (givenTo n m d) = settled n (rw e (grown-over g (rw (to-encoded rules pairs table j a) at m))) (d ∙ ap depth_of a.reads ∙ ap depth (sym e))
           given-ends {j} a e (too_long n m) =
               let b : to_words rules table j ≡ encode (mapping rules pairs text u) = to-encoded rules pairs table j a ∙ ap encode (sym e) in
@@ -92,18 +88,18 @@ pub record Came {A : Type 0} (code : A → List ℕ) (top deep : A → ℕ) (lim
   pub grown : Grown o p (code value) o' q
   pub deeps : d ≡ deep value
 
-pub came : {A : Type 0} {code : A → List ℕ} {top deep : A → ℕ} {limit : ℕ} {o : List ℕ} {p : ℕ} {x : Reading A} {o' : List ℕ} {r : Rebuilt} {n q d : ℕ}
-    → Rebuilds code top deep limit o p x o' r → r ≡ Done n q d → Came code top deep limit o p x o' n q d
+pub came : {A : Type 0} {code : A → List ℕ} {top deep : A → ℕ} {limit : ℕ} {o : List ℕ} {p : ℕ} {x : Reading A} {o' : List ℕ} {r : Option (ℕ × ℕ × ℕ)} {n q d : ℕ}
+    → Rebuilds code top deep limit o p x o' r → r ≡ Some (n, q, d) → Came code top deep limit o p x o' n q d
 came {code = code} {top} {deep} {limit} {o} {p} {x} {o'} {n = n} {q = q} {d = d} k e = go (subst (Rebuilds code top deep limit o p x o') e k)
   where
-    go : Rebuilds code top deep limit o p x o' (Done n q d) → Came code top deep limit o p x o' n q d
+    go : Rebuilds code top deep limit o p x o' (Some (n, q, d)) → Came code top deep limit o p x o' n q d
     go (rebuilt {a = a} e f w g c) = record { value = a; reads = e; fits = f; within = w; grown = g; deeps = c }
 
-pub filled : {A : Type 0} {code : A → List ℕ} {top deep : A → ℕ} {limit : ℕ} {o : List ℕ} {p : ℕ} {x : Reading A} {o' : List ℕ} {r : Rebuilt} {a : A} {n : ℕ}
-    → Rebuilds code top deep limit o p x o' r → r ≡ Full → x ≡ got a n → (limit < p + top a) × (length o' ≡ length o)
+pub filled : {A : Type 0} {code : A → List ℕ} {top deep : A → ℕ} {limit : ℕ} {o : List ℕ} {p : ℕ} {x : Reading A} {o' : List ℕ} {r : Option (ℕ × ℕ × ℕ)} {a : A} {n : ℕ}
+    → Rebuilds code top deep limit o p x o' r → r ≡ None → x ≡ got a n → (limit < p + top a) × (length o' ≡ length o)
 filled {code = code} {top} {deep} {limit} {o} {p} {x} {o'} {a = a} k e d = go (subst (Rebuilds code top deep limit o p x o') e k)
   where
-    go : Rebuilds code top deep limit o p x o' Full → (limit < p + top a) × (length o' ≡ length o)
+    go : Rebuilds code top deep limit o p x o' None → (limit < p + top a) × (length o' ≡ length o)
     go (full {a = b} c h l) = let i : b ≡ a = cc in (rw (ap top i) at h, l)
 
 -- ---- a type, by its head
@@ -154,12 +150,12 @@ module _ (ws pairs : List ℕ) (at : ℕ) (m : Ty ℕ → Ty ℕ) {t : Ty ℕ} {
   built-deep = depth-node (replace-node m inner.node).node
 
   -- the own words do not fit
-  own-over : {limit p : ℕ} {o o' : List ℕ} → limit < p + length own → length o' ≡ length o → TypeRebuilds m limit o p (tree_at ws pairs at) o' Full
+  own-over : {limit p : ℕ} {o o' : List ℕ} → limit < p + length own → length o' ≡ length o → TypeRebuilds m limit o p (tree_at ws pairs at) o' None
   own-over {limit} {p} h k = let g : limit < p + peak m t = omega (arith, h, own-length, peak-split) in full e g k
 
   -- the types below do not fit
-  below-full : {k limit p p₁ : ℕ} {o o₁ o₂ : List ℕ} {r : Rebuilt} → k ≡ types_below ws at → Grown o p own o₁ p₁ → TypesRebuild m limit o₁ p₁ (read_types (tree_at ws pairs) k q) o₂ r → r ≡ Full
-      → TypeRebuilds m limit o p (tree_at ws pairs at) o₂ Full
+  below-full : {k limit p p₁ : ℕ} {o o₁ o₂ : List ℕ} {r : Option (ℕ × ℕ × ℕ)} → k ≡ types_below ws at → Grown o p own o₁ p₁ → TypesRebuild m limit o₁ p₁ (read_types (tree_at ws pairs) k q) o₂ r → r ≡ None
+      → TypeRebuilds m limit o p (tree_at ws pairs at) o₂ None
   below-full {limit = limit} {p} {p₁} c g k d =
       let b = filled k d (types-below c) in
       let s : limit < p + peak m t = omega (arith, b.0, g.next, own-length, peak-split) in
@@ -176,7 +172,7 @@ module _ (ws pairs : List ℕ) (at : ℕ) (m : Ty ℕ → Ty ℕ) {t : Ty ℕ} {
     pub some : p < q'
     pub first : get_or o₂ p 0 ≡ get_or ws at 0
 
-  finished : {k limit p p₁ n' q' d : ℕ} {o o₁ o₂ : List ℕ} {r : Rebuilt} → k ≡ types_below ws at → Grown o p own o₁ p₁ → TypesRebuild m limit o₁ p₁ (read_types (tree_at ws pairs) k q) o₂ r → r ≡ Done n' q' d
+  finished : {k limit p p₁ n' q' d : ℕ} {o o₁ o₂ : List ℕ} {r : Option (ℕ × ℕ × ℕ)} → k ≡ types_below ws at → Grown o p own o₁ p₁ → TypesRebuild m limit o₁ p₁ (read_types (tree_at ws pairs) k q) o₂ r → r ≡ Some (n', q', d)
       → Finished limit p o o₂ n' q' d
   finished {limit = limit} {p} {p₁} {n'} {q'} {d} {o} {o₁} {o₂} h g k c =
       let b = came k c in
@@ -199,37 +195,37 @@ module _ (ws pairs : List ℕ) (at : ℕ) (m : Ty ℕ → Ty ℕ) {t : Ty ℕ} {
   abbrev gives-built : Replace m t ≡ m built
   gives-built = (replace-node m inner.node).gives
 
-  pub type-done : {limit p n' q' d : ℕ} {o o₂ o₃ : List ℕ} {r : Settling} {q'' d'' : ℕ} → Finished limit p o o₂ n' q' d → Ends (m built) limit o p o₃ r → r ≡ Settled q'' d''
-      → TypeRebuilds m limit o p (tree_at ws pairs at) o₃ (Done n' q'' d'')
+  pub type-done : {limit p n' q' d : ℕ} {o o₂ o₃ : List ℕ} {r : Option (ℕ × ℕ)} {q'' d'' : ℕ} → Finished limit p o o₂ n' q' d → Ends (m built) limit o p o₃ r → r ≡ Some (q'', d'')
+      → TypeRebuilds m limit o p (tree_at ws pairs at) o₃ (Some (n', q'', d''))
   type-done {limit} {p} {n'} {o = o} {o₃ = o₃} {q'' = q''} {d'' = d''} k a c = go (subst (Ends (m built) limit o p o₃) c a)
     where
-      go : Ends (m built) limit o p o₃ (Settled q'' d'') → TypeRebuilds m limit o p (tree_at ws pairs at) o₃ (Done n' q'' d'')
+      go : Ends (m built) limit o p o₃ (Some (q'', d'')) → TypeRebuilds m limit o p (tree_at ws pairs at) o₃ (Some (n', q'', d''))
       go (settled w g l) =
           let s : p + peak m t ≤ limit = omega (arith, k.top, peak-split, w, g.next, encode-words (m built), ap words gives-built) in
           let c : d'' ≡ depth (Replace m t) = rw gives-built l in
           rebuilt (e ∙ ap (got t) (sym k.end)) s w (rw gives-built g) c
 
-  pub type-over : {limit p : ℕ} {o o₃ : List ℕ} {r : Settling} → Ends (m built) limit o p o₃ r → r ≡ Overfull → TypeRebuilds m limit o p (tree_at ws pairs at) o₃ Full
+  pub type-over : {limit p : ℕ} {o o₃ : List ℕ} {r : Option (ℕ × ℕ)} → Ends (m built) limit o p o₃ r → r ≡ None → TypeRebuilds m limit o p (tree_at ws pairs at) o₃ None
   type-over {limit} {p} {o} {o₃} a c = go (subst (Ends (m built) limit o p o₃) c a)
     where
-      go : Ends (m built) limit o p o₃ Overfull → TypeRebuilds m limit o p (tree_at ws pairs at) o₃ Full
+      go : Ends (m built) limit o p o₃ None → TypeRebuilds m limit o p (tree_at ws pairs at) o₃ None
       go (overfull w l) = let s : limit < p + peak m t = omega (arith, peak-split, w, encode-words (m built), ap words gives-built) in full e s l
 
 -- ---- its parts, before the rules
 
 module _ (ws pairs : List ℕ) (at : ℕ) (m : Ty ℕ → Ty ℕ) {t : Ty ℕ} {n : ℕ} (e : tree_at ws pairs at ≡ got t n) {limit p : ℕ} {o o₂ : List ℕ} where
-  pub parts-over : {q : ℕ} → q ≡ own_end ws at → limit < p + length (take (q - at) (drop at ws)) → length o₂ ≡ length o → PartsRebuild m ws pairs at limit o p o₂ Full
+  pub parts-over : {q : ℕ} → q ≡ own_end ws at → limit < p + length (take (q - at) (drop at ws)) → length o₂ ≡ length o → PartsRebuild m ws pairs at limit o p o₂ None
   parts-over f h l = no_parts (rw f at h) l
 
-  pub parts_then : {q k p₁ : ℕ} {o₁ : List ℕ} {r : Rebuilt} → q ≡ own_end ws at → k ≡ types_below ws at → Grown o p (take (q - at) (drop at ws)) o₁ p₁
+  pub parts_then : {q k p₁ : ℕ} {o₁ : List ℕ} {r : Option (ℕ × ℕ × ℕ)} → q ≡ own_end ws at → k ≡ types_below ws at → Grown o p (take (q - at) (drop at ws)) o₁ p₁
       → TypesRebuild m limit o₁ p₁ (read_types (tree_at ws pairs) k q) o₂ r → PartsRebuild m ws pairs at limit o p o₂ r
   parts_then f h g k = parts (rw f at g) (rw (f, h) at k)
 
-  pub parts-full : {r : Rebuilt} → PartsRebuild m ws pairs at limit o p o₂ r → r ≡ Full → TypeRebuilds m limit o p (tree_at ws pairs at) o₂ Full
+  pub parts-full : {r : Option (ℕ × ℕ × ℕ)} → PartsRebuild m ws pairs at limit o p o₂ r → r ≡ None → TypeRebuilds m limit o p (tree_at ws pairs at) o₂ None
   parts-full (parts g k) d = below-full ws pairs at m e refl refl g k d
   parts-full (no_parts h l) d = own-over ws pairs at m e refl h l
 
-  pub parts-finished : {r : Rebuilt} {n' q' d : ℕ} → PartsRebuild m ws pairs at limit o p o₂ r → r ≡ Done n' q' d → Finished ws pairs at m e refl limit p o o₂ n' q' d
+  pub parts-finished : {r : Option (ℕ × ℕ × ℕ)} {n' q' d : ℕ} → PartsRebuild m ws pairs at limit o p o₂ r → r ≡ Some (n', q', d) → Finished ws pairs at m e refl limit p o o₂ n' q' d
   parts-finished (parts g k) d = finished ws pairs at m e refl refl g k d
   parts-finished (no_parts h l) d = impossible (cc)
 
@@ -272,7 +268,7 @@ module _ (ws pairs : List ℕ) (m : Ty ℕ → Ty ℕ) (at k limit : ℕ) (o : L
   }
 
   pub rebuilding-ends : {o' : List ℕ} {place q found left : ℕ} → left ≡ 0 → Rebuilding ws pairs m (read_types (tree_at ws pairs) k at) limit o p o' place q found left
-      → TypesRebuild m limit o p (read_types (tree_at ws pairs) k at) o' (Done place q found)
+      → TypesRebuild m limit o p (read_types (tree_at ws pairs) k at) o' (Some (place, q, found))
   unfolding read_types Replaces encode_all tokens_all peaks deepest
   rebuilding-ends {o'} {place} {q} {found} {left} z r =
       let e : got nil place ≡ got r.rest r.end = rw z at r.reads in
@@ -292,7 +288,7 @@ module _ (ws pairs : List ℕ) (m : Ty ℕ → Ty ℕ) (at k limit : ℕ) (o : L
     pub type_reads : Readable (tree_at ws pairs place)
     type_reads = record { value = next-type.type; end = next-type.middle; reads = next-type.first }
 
-    pub types-full : {o₂ : List ℕ} {s : Rebuilt} → TypeRebuilds m limit o₁ q (tree_at ws pairs place) o₂ s → s ≡ Full → TypesRebuild m limit o p (read_types (tree_at ws pairs) k at) o₂ Full
+    pub types-full : {o₂ : List ℕ} {s : Option (ℕ × ℕ × ℕ)} → TypeRebuilds m limit o₁ q (tree_at ws pairs place) o₂ s → s ≡ None → TypesRebuild m limit o p (read_types (tree_at ws pairs) k at) o₂ None
     unfolding peaks
     types-full w c =
         let f = filled w c next-type.first in
@@ -300,7 +296,7 @@ module _ (ws pairs : List ℕ) (m : Ty ℕ → Ty ℕ) (at k limit : ℕ) (o : L
         let g : limit < p + peaks m r.types = omega (arith, f.0, t, r.grown.next) in
         full r.whole g (f.1 ∙ r.grown.kept)
 
-    pub types_more : {o₂ : List ℕ} {s : Rebuilt} {n' q' d deep : ℕ} → TypeRebuilds m limit o₁ q (tree_at ws pairs place) o₂ s → s ≡ Done n' q' d → deep ≡ max found d
+    pub types_more : {o₂ : List ℕ} {s : Option (ℕ × ℕ × ℕ)} {n' q' d deep : ℕ} → TypeRebuilds m limit o₁ q (tree_at ws pairs place) o₂ s → s ≡ Some (n', q', d) → deep ≡ max found d
         → Rebuilding ws pairs m (read_types (tree_at ws pairs) k at) limit o p o₂ n' q' deep (left - 1)
     unfolding Replaces peaks deepest
     types_more {o₂} {s} {n'} {q'} {d} {deep} w c z =
@@ -332,7 +328,7 @@ module _ (ws pairs : List ℕ) (m : Ty ℕ → Ty ℕ) (at k limit : ℕ) (o : L
           inside = omega (arith, j, v.1, v.0.ends, encode-words t);
         }
 
-    pub types-past : {o₂ : List ℕ} {s : Rebuilt} {n' q' d : ℕ} → TypeRebuilds m limit o₁ q (tree_at ws pairs place) o₂ s → s ≡ Done n' q' d → place < n'
+    pub types-past : {o₂ : List ℕ} {s : Option (ℕ × ℕ × ℕ)} {n' q' d : ℕ} → TypeRebuilds m limit o₁ q (tree_at ws pairs place) o₂ s → s ≡ Some (n', q', d) → place < n'
     types-past {n' = n'} w c =
         let b = came w c in
         let j : n' ≡ next-type.middle = (let x = next-type.first in let y = b.reads in cc) in
@@ -352,14 +348,14 @@ module _ (ws pairs : List ℕ) (at : ℕ) (m : Ty ℕ → Ty ℕ) {t : Ty ℕ} {
       let z : own_end ws at - at ≡ 1 = omega (arith, ends) in
       rw z (part-more ws at 1 (omega (arith, inside.0, inside.1)) (omega arith))
 
-  pub plain-parts : {limit p : ℕ} {o o₂ : List ℕ} {r : Rebuilt} → limit ≤ length o → WordRebuilds limit o p (got (get_or ws at 0) (at + 1)) o₂ r → PartsRebuild m ws pairs at limit o p o₂ r
+  pub plain-parts : {limit p : ℕ} {o o₂ : List ℕ} {r : Option (ℕ × ℕ × ℕ)} → limit ≤ length o → WordRebuilds limit o p (got (get_or ws at 0) (at + 1)) o₂ r → PartsRebuild m ws pairs at limit o p o₂ r
   plain-parts {limit} {p} {o} {o₂} l (rebuilt {a = a} {n = j} {q = q} {d = d} x f w g c) =
       let i : a ≡ get_or ws at 0 = cc in
       let y : own_end ws at ≡ j = (let u = ends in cc) in
       let b : Grown o p (take (own_end ws at - at) (drop at ws)) o₂ q = rw (word, sym i) g in
       let k = rebuilding-ends ws pairs m (own_end ws at) (types_below ws at) limit o₂ q (plain-below ws at (omega (arith, h)))
       (rebuilding-starts ws pairs m (own_end ws at) (types_below ws at) limit o₂ q inside.1 w (omega (arith, l, g.kept)) (below-reads ws pairs at m e refl refl)) in
-      let v : TypesRebuild m limit o₂ q (read_types (tree_at ws pairs) (types_below ws at) (own_end ws at)) o₂ (Done j q d) = rw (sym y, c) k in
+      let v : TypesRebuild m limit o₂ q (read_types (tree_at ws pairs) (types_below ws at) (own_end ws at)) o₂ (Some (j, q, d)) = rw (sym y, c) k in
       parts b v
   plain-parts l (full x f k) = no_parts (rw word f) k
 
@@ -368,7 +364,7 @@ unfolding encode_all tokens_all
 encode_one t = encode-cons t nil ∙ append-nil (encode t)
 
 -- one type, as a list of one
-pub one-rebuilt : (ws pairs : List ℕ) (m : Ty ℕ → Ty ℕ) (at : ℕ) {limit p : ℕ} {o o' : List ℕ} {r : Rebuilt} → Readable (tree_at ws pairs at)
+pub one-rebuilt : (ws pairs : List ℕ) (m : Ty ℕ → Ty ℕ) (at : ℕ) {limit p : ℕ} {o o' : List ℕ} {r : Option (ℕ × ℕ × ℕ)} → Readable (tree_at ws pairs at)
     → TypesRebuild m limit o p (read_types (tree_at ws pairs) 1 at) o' r → TypeRebuilds m limit o p (tree_at ws pairs at) o' r
 unfolding read_types Replaces peaks deepest
 one-rebuilt ws pairs m at {limit} {p} {o} {o'} v w = go w
@@ -382,7 +378,7 @@ one-rebuilt ws pairs m at {limit} {p} {o} {o'} v w = go w
     code : encode_all (Replaces m (cons t nil)) ≡ encode (Replace m t)
     code = encode_one (Replace m t)
 
-    go : {r : Rebuilt} → TypesRebuild m limit o p (read_types (tree_at ws pairs) 1 at) o' r → TypeRebuilds m limit o p (tree_at ws pairs at) o' r
+    go : {r : Option (ℕ × ℕ × ℕ)} → TypesRebuild m limit o p (read_types (tree_at ws pairs) 1 at) o' r → TypeRebuilds m limit o p (tree_at ws pairs at) o' r
     go (rebuilt {a = ts} {n} {q} {d} x top within grown deep) =
         let i : ts ≡ cons t nil = (let y = whole in cc) in
         let j : n ≡ v.end = (let y = whole in cc) in

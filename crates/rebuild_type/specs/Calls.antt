@@ -1,18 +1,17 @@
 -- What the calls that rebuild give: the answer, and what the buffer holds afterwards.
-use Rattle.std.specs.Prelude.{ℕ, min, List, ◌++◌, ltb, length, drop, replicate}
+use Rattle.encoding.specs.declared.Refusal.{Refusal}
+use Rattle.std.specs.Prelude.{Ok, Err, Result, ℕ, min, List, ◌++◌, ltb, length, drop, replicate}
 use Rattle.rast.specs.Bytes.{Bytes}
 use Rattle.rast.specs.Tree.{Ty}
 use Rattle.encoding.specs.Words.{max_words, max_depth}
 use Rattle.encoding.specs.declared.Refusal.TheVariants.{TooDeep, BufferTooShort}
-use Rattle.encoding.specs.Refusals.{pick, Answer, given, refused, unless}
+use Rattle.encoding.specs.Refusals.{pick, Answer, unless}
 use Rattle.encoding.specs.Reading.{whole}
 use Rattle.tree_words.specs.Encode.{encode}
 use Rattle.tree_words.specs.Numbered.{tree_at}
 use Rattle.rebuild_spec.specs.Replace.{Replace}
 use Rattle.rebuild_spec.specs.Laying.{depth, peak}
 use Rattle.rebuild_spec.specs.Rules.{Rule, check_all, rules_of, mapping_of}
-use Rattle.rebuild_type.specs.declared.RebuildAnswer.{RebuildAnswer}
-use Rattle.rebuild_type.specs.declared.RebuildAnswer.TheVariants.{Length, Refused}
 
 -- a rebuilt tree: its words, the most words that lay there while they were laid down, and its depth
 pub record RebuiltWords : Type 0 where
@@ -29,12 +28,12 @@ zeros o = replicate (length o) 0
 
 -- Document 01: 8 exactly when at some moment more words would lie there than the buffer or 8,192, otherwise 5 when the finished tree is deeper than 64; after either the
 -- buffer is all zero. A result fills the front of the buffer, and every other refusal leaves it as it was.
-unfoldable pub laid_down : List ℕ → Answer RebuiltWords → RebuildAnswer × List ℕ
-laid_down o (given b) =
-    pick (ltb (room_of o) b.top) (Refused BufferTooShort, zeros o)
-    (pick (ltb max_depth b.deep) (Refused TooDeep, zeros o)
-    (Length (length b.words), b.words ++ drop (length b.words) o))
-laid_down o (refused r) = (Refused r, o)
+unfoldable pub laid_down : List ℕ → Answer RebuiltWords → Result ℕ Refusal × List ℕ
+laid_down o (Ok b) =
+    pick (ltb (room_of o) b.top) (Err BufferTooShort, zeros o)
+    (pick (ltb max_depth b.deep) (Err TooDeep, zeros o)
+    (Ok (length b.words), b.words ++ drop (length b.words) o))
+laid_down o (Err r) = (Err r, o)
 
 -- a tree rebuilt by a mapping
 abbrev pub laid_type : (Ty ℕ → Ty ℕ) → Ty ℕ → RebuiltWords
@@ -42,9 +41,9 @@ laid_type m t = record { words = encode (Replace m t); top = peak m t; deep = de
 
 -- a tree and rules, or the refusal that comes first
 unfoldable pub ruled_by : {A : Type 0} → (List Rule → A → RebuiltWords) → Answer A → Answer (List Rule) → Answer RebuiltWords
-ruled_by f (given a) (given rs) = given (f rs a)
-ruled_by f (given a) (refused r) = refused r
-ruled_by f (refused r) x = refused r
+ruled_by f (Ok a) (Ok rs) = Ok (f rs a)
+ruled_by f (Ok a) (Err r) = Err r
+ruled_by f (Err r) x = Err r
 
 -- the type that an encoding holds, rebuilt by the rules of a list
 unfoldable pub type_rebuilt : List ℕ → List ℕ → Bytes → List ℕ → Answer RebuiltWords

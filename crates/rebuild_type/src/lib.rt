@@ -1,11 +1,10 @@
 // Rebuilding a type by rules: words are laid down in a buffer, and a finished type that equals a rule's from gives way to its to.
 #![tactic(auto)]
 
-ghost use Rattle.std.specs.Prelude.{◌≡◌, min, ◌+◌, ◌-◌, ◌*◌, ◌^◌, ◌≤◌, ◌<◌, length, get_or, take, drop};
+ghost use Rattle.std.specs.Prelude.{Ok, ◌≡◌, min, ◌+◌, ◌-◌, ◌*◌, ◌^◌, ◌≤◌, ◌<◌, length, get_or, take, drop};
 ghost use Rattle.std.proofs.lemmas.List.Edits.{sets};
 ghost use Rattle.encoding.specs.Words.{max_words};
 ghost use Rattle.encoding.specs.Reading.{got};
-ghost use Rattle.encoding.specs.Refusals.{given};
 ghost use Rattle.encoding.specs.Tables.{name_bytes};
 ghost use Rattle.encoding.specs.Tested.{Good};
 ghost use Rattle.encoding.specs.Types.{read_types};
@@ -19,7 +18,6 @@ ghost use Rattle.rebuild_type.specs.Attempts.{same_words};
 
 use encoding::Refusal;
 use encoding::words::{MAX_DEPTH, PLAIN_KINDS};
-use rebuild_rules::FoundRule;
 
 // ---- laying words down
 
@@ -28,14 +26,10 @@ pub fn copy_words(src: &[u32], start: usize, count: usize, out: &mut [u32], pos:
     requires { (start + count ≤ length src.now) × (pos + count ≤ length out.old) }
     ensures { out.new ≡ sets out.old pos (take count (drop start src.now)) }
 {
-    let mut i = 0;
-    while i < count {
-        out[pos + i] = src[start + i];
-        i += 1;
-    }
+    out[pos..pos + count].copy_from_slice(&src[start..start + count]);
 }
 
-// The same: most heads have one or two own words, and for these a loop costs more than they do.
+// The same: most heads have one or two own words, which are stored without a call (by docs/DECISIONS.md a loop cost more; the copy of slices was not measured).
 fn copy_few(src: &[u32], start: usize, count: usize, out: &mut [u32], pos: usize)
     requires { (start + count ≤ length src.now) × (pos + count ≤ length out.old) }
     ensures { out.new ≡ sets out.old pos (take count (drop start src.now)) }
@@ -56,18 +50,7 @@ fn copy_few(src: &[u32], start: usize, count: usize, out: &mut [u32], pos: usize
 pub fn clear(out: &mut [u32])
     ensures { out.new ≡ zeros out.old }
 {
-    let mut i = 0;
-    while i < out.len() {
-        out[i] = 0;
-        i += 1;
-    }
-}
-
-// Where words that were laid down end, or they would pass the limit.
-#[derive(Clone, Copy)]
-pub enum Laying {
-    To(usize),
-    Over,
+    out.fill(0);
 }
 
 pub fn add_words(
@@ -77,35 +60,25 @@ pub fn add_words(
     out: &mut [u32],
     pos: usize,
     limit: usize,
-) -> Laying
+) -> Option<usize>
     requires { (start + count ≤ length src.now) × (pos ≤ limit) × (limit ≤ length out.old) }
     ensures { Lays limit out.old pos (take count (drop start src.now)) out.new result }
 {
     if limit - pos < count {
-        return Laying::Over;
+        return None;
     }
     copy_few(src, start, count, out, pos);
-    Laying::To(pos + count)
+    Some(pos + count)
 }
 
 // As many words as may lie in a buffer of `size` words, and no more than `most`.
 pub fn room_of(size: usize, most: usize) -> usize
     ensures { result ≡ min size most }
 {
-    if size < most {
-        return size;
-    }
-    most
+    size.min(most)
 }
 
 // ---- types
-
-// Where a finished type ends after the rules were tried, and how deep it is; or it would pass the limit.
-#[derive(Clone, Copy)]
-enum Settling {
-    Settled { pos: usize, depth: usize },
-    Overfull,
-}
 
 // What lies from `start` on gives way to the to of rule `i`.
 fn give_way(
@@ -117,20 +90,16 @@ fn give_way(
     out: &mut [u32],
     start: usize,
     limit: usize,
-) -> Settling
+) -> Option<(usize, usize)>
     requires { EntriesFit rules.now table.now k × (i < k) × SpansTo (tree_at rules.now pairs.now (get_or table.now (4 * i + 1) 0)) (get_or table.now (4 * i + 2) 0)
         × (start ≤ limit) × (limit ≤ length out.old) }
     ensures { GivesTo rules.now pairs.now table.now i limit out.old start out.new result }
 {
     let to = rebuild_rules::entry(table, i, rebuild_rules::TO);
     let count = rebuild_rules::entry(table, i, rebuild_rules::END) - to;
-    match add_words(rules, to, count, out, start, limit) {
-        Laying::To(pos) => {
-            let depth = rebuild_rules::depth_in(rules, pairs, to, count);
-            Settling::Settled { pos, depth }
-        }
-        Laying::Over => Settling::Overfull,
-    }
+    let pos = add_words(rules, to, count, out, start, limit)?;
+    let depth = rebuild_rules::depth_in(rules, pairs, to, count);
+    Some((pos, depth))
 }
 
 // The finished type between `start` and `end` gives way to the to of a rule whose from it equals. `link` is the first rule for its first word.
@@ -146,7 +115,7 @@ fn settle(
     end: usize,
     depth: usize,
     limit: usize,
-) -> Settling
+) -> Option<(usize, usize)>
     requires { Good pairs.now text.now × Ruled rules.now pairs.now text.now table.now k × (start < end) × (end ≤ limit) × (limit ≤ length out.old)
         × (link ≡ get_or table.now (slot (get_or out.old start 0)) 0) }
     ensures { Settles rules.now pairs.now table.now
@@ -154,20 +123,9 @@ fn settle(
         limit out.old start end depth out.new result }
 {
     match rebuild_rules::find_rule(rules, pairs, text, table, k, link, out, start, end - start) {
-        FoundRule::At(i) => give_way(rules, pairs, table, k, i, out, start, limit),
-        FoundRule::Nothing => Settling::Settled { pos: end, depth },
+        Some(i) => give_way(rules, pairs, table, k, i, out, start, limit),
+        None => Some((end, depth)),
     }
-}
-
-// Where rebuilding has come to in the words and in the buffer, and how deep what was rebuilt is; or more words would lie there than the limit.
-#[derive(Clone, Copy)]
-pub enum Rebuilt {
-    Done {
-        next: usize,
-        pos: usize,
-        depth: usize,
-    },
-    Full,
 }
 
 // The accepted type at `at`, rebuilt: its own words, the types below it, and then the rules. Its first word stays, so the first rule for it is looked up before it
@@ -184,56 +142,46 @@ fn rebuild_next(
     out: &mut [u32],
     pos: usize,
     limit: usize,
-) -> Rebuilt
+) -> Option<(usize, usize, usize)>
     requires { Good pairs.now text.now × Ruled rules.now pairs.now text.now table.now k × Readable (tree_at words.now pairs.now at)
         × (pos ≤ limit) × (limit ≤ length out.old) }
     ensures { TypeRebuilds (mapping rules.now pairs.now text.now) limit out.old pos
         (tree_at words.now pairs.now at) out.new result }
 {
     let link = rebuild_rules::first_link(table, words[at]);
-    match rebuild_parts(words, pairs, text, rules, table, k, at, out, pos, limit) {
-        Rebuilt::Done {
-            next: end,
-            pos: q,
-            depth: below,
-        } => match settle(
-            pairs,
-            text,
-            rules,
-            table,
-            k,
-            link,
-            out,
-            pos,
-            q,
-            below + 1,
-            limit,
-        ) {
-            Settling::Settled { pos: last, depth } => Rebuilt::Done {
-                next: end,
-                pos: last,
-                depth,
-            },
-            Settling::Overfull => Rebuilt::Full,
-        },
-        Rebuilt::Full => Rebuilt::Full,
-    }
+    let (end, q, below) = rebuild_parts(words, pairs, text, rules, table, k, at, out, pos, limit)?;
+    let (last, depth) = settle(
+        pairs,
+        text,
+        rules,
+        table,
+        k,
+        link,
+        out,
+        pos,
+        q,
+        below + 1,
+        limit,
+    )?;
+    Some((end, last, depth))
 }
 
 // A plain type, which is one word.
-fn add_plain(word: u32, at: usize, out: &mut [u32], pos: usize, limit: usize) -> Rebuilt
+fn add_plain(
+    word: u32,
+    at: usize,
+    out: &mut [u32],
+    pos: usize,
+    limit: usize,
+) -> Option<(usize, usize, usize)>
     requires { (at + 1 < 2 ^ 63) × (pos ≤ limit) × (limit ≤ length out.old) }
     ensures { WordRebuilds limit out.old pos (got word (at + 1)) out.new result }
 {
     if limit <= pos {
-        return Rebuilt::Full;
+        return None;
     }
     out[pos] = word;
-    Rebuilt::Done {
-        next: at + 1,
-        pos: pos + 1,
-        depth: 0,
-    }
+    Some((at + 1, pos + 1, 0))
 }
 
 // The own words of the accepted type at `at` and the types below it, before the rules. Many types are plain, and these are the first to be asked for.
@@ -249,7 +197,7 @@ fn rebuild_parts(
     out: &mut [u32],
     pos: usize,
     limit: usize,
-) -> Rebuilt
+) -> Option<(usize, usize, usize)>
     requires { Good pairs.now text.now × Ruled rules.now pairs.now text.now table.now k × Readable (tree_at words.now pairs.now at)
         × (pos ≤ limit) × (limit ≤ length out.old) }
     ensures { PartsRebuild (mapping rules.now pairs.now text.now) words.now pairs.now at limit out.old pos
@@ -261,9 +209,7 @@ fn rebuild_parts(
     }
     let behind = encoding::pass_head(words, at, 1);
     let next = behind.next;
-    let Laying::To(p) = add_words(words, at, next - at, out, pos, limit) else {
-        return Rebuilt::Full;
-    };
+    let p = add_words(words, at, next - at, out, pos, limit)?;
     let kids = behind.due;
     rebuild_below(
         words, pairs, text, rules, table, k, next, kids, out, p, limit,
@@ -284,18 +230,14 @@ fn rebuild_below(
     out: &mut [u32],
     pos: usize,
     limit: usize,
-) -> Rebuilt
+) -> Option<(usize, usize, usize)>
     requires { Good pairs.now text.now × Ruled rules.now pairs.now text.now table.now k × (at ≤ length words.now)
         × Readable (read_types (tree_at words.now pairs.now) n at) × (pos ≤ limit) × (limit ≤ length out.old) }
     ensures { TypesRebuild (mapping rules.now pairs.now text.now) limit out.old pos
         (read_types (tree_at words.now pairs.now) n at) out.new result }
 {
     if n == 0 {
-        return Rebuilt::Done {
-            next: at,
-            pos,
-            depth: 0,
-        };
+        return Some((at, pos, 0));
     }
     rebuild_types(words, pairs, text, rules, table, k, at, n, out, pos, limit)
 }
@@ -314,7 +256,7 @@ fn rebuild_types(
     out: &mut [u32],
     pos: usize,
     limit: usize,
-) -> Rebuilt
+) -> Option<(usize, usize, usize)>
     requires { Good pairs.now text.now × Ruled rules.now pairs.now text.now table.now k × (at ≤ length words.now)
         × Readable (read_types (tree_at words.now pairs.now) n at) × (pos ≤ limit) × (limit ≤ length out.old) }
     ensures { TypesRebuild (mapping rules.now pairs.now text.now) limit out.old pos
@@ -323,29 +265,15 @@ fn rebuild_types(
     let mut place = at;
     let mut p = pos;
     let mut deepest = 0;
-    let mut left = n;
-    while 0 < left {
-        match rebuild_next(words, pairs, text, rules, table, k, place, out, p, limit) {
-            Rebuilt::Done {
-                next,
-                pos: q,
-                depth,
-            } => {
-                place = next;
-                p = q;
-                deepest = rebuild_rules::larger(deepest, depth);
-            }
-            Rebuilt::Full => {
-                return Rebuilt::Full;
-            }
-        }
-        left -= 1;
+    for _ in 0..n {
+        let (next, q, depth) = rebuild_next(
+            words, pairs, text, rules, table, k, place, out, p, limit,
+        )?;
+        place = next;
+        p = q;
+        deepest = rebuild_rules::larger(deepest, depth);
     }
-    Rebuilt::Done {
-        next: place,
-        pos: p,
-        depth: deepest,
-    }
+    Some((place, p, deepest))
 }
 
 // The accepted type at `at`, rebuilt. The cycle is entered by a list of one type: then one function of it calls itself.
@@ -360,7 +288,7 @@ pub fn rebuild_type(
     out: &mut [u32],
     pos: usize,
     limit: usize,
-) -> Rebuilt
+) -> Option<(usize, usize, usize)>
     requires { Good pairs.now text.now × Ruled rules.now pairs.now text.now table.now k × Readable (tree_at words.now pairs.now at)
         × (pos ≤ limit) × (limit ≤ length out.old) }
     ensures { TypeRebuilds (mapping rules.now pairs.now text.now) limit out.old pos
@@ -371,14 +299,8 @@ pub fn rebuild_type(
 
 // ---- the call
 
-// How many words fill the front of the buffer, or a refusal.
-#[derive(Clone, Copy)]
-pub enum RebuildAnswer {
-    Length(usize),
-    Refused(Refusal),
-}
-
-// A call's answer, or that there was no room for it. It is no enum inside an enum: that would be copied as a whole, and waited for.
+// A call's answer, or that there was no room for it.
+// Kept: an option of a result is an enum inside an enum, which by docs/DECISIONS.md was copied as a whole and waited for (older toolchain; not measured again).
 #[derive(Clone, Copy)]
 pub enum Attempt {
     Filled(usize),
@@ -387,26 +309,26 @@ pub enum Attempt {
 }
 
 // What was rebuilt goes to the caller's buffer, unless it is too deep.
-pub fn finish(from: &[u32], count: usize, depth: usize, out: &mut [u32]) -> RebuildAnswer
+pub fn finish(from: &[u32], count: usize, depth: usize, out: &mut [u32]) -> Result<usize, Refusal>
     requires { (count ≤ length from.now) × (count ≤ length out.old) × (count ≤ max_words) }
-    ensures { (result, out.new) ≡ laid_down out.old (given (record { words = take count from.now; top = count; deep = depth })) }
+    ensures { (result, out.new) ≡ laid_down out.old (Ok (record { words = take count from.now; top = count; deep = depth })) }
 {
     if MAX_DEPTH < depth {
         clear(out);
-        return RebuildAnswer::Refused(Refusal::TooDeep);
+        return Err(Refusal::TooDeep);
     }
     copy_words(from, 0, count, out, 0);
-    RebuildAnswer::Length(count)
+    Ok(count)
 }
 
 // Where nothing gives way the words come back as they are. The tree was accepted, so it is not too deep.
-pub fn copy_unaltered(words: &[u32], out: &mut [u32]) -> RebuildAnswer
+pub fn copy_unaltered(words: &[u32], out: &mut [u32]) -> Result<usize, Refusal>
     requires { length words.now ≤ max_words }
-    ensures { (result, out.new) ≡ laid_down out.old (given (same_words words.now 0)) }
+    ensures { (result, out.new) ≡ laid_down out.old (Ok (same_words words.now 0)) }
 {
     if out.len() < words.len() {
         clear(out);
-        return RebuildAnswer::Refused(Refusal::BufferTooShort);
+        return Err(Refusal::BufferTooShort);
     }
     finish(words, words.len(), 0, out)
 }

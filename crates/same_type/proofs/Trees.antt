@@ -1,9 +1,9 @@
 -- Comparing two runs of words is comparing the two trees: names by their bytes, the rest as it is.
+use Rattle.std.specs.Prelude.{Some, None}
 use Prim.Native.Nat.{ℕ, zero, suc, ◌-◌}
 use mathlib.Core.Path.{◌≡◌, refl, ap, sym, ◌∙◌}
 use mathlib.Core.Bool.{Bool, true, false}
 use mathlib.Core.List.{List, [], ◌∷◌, ◌++◌, map, map-append, append_assoc, append-nil}
-use mathlib.Core.Option.{some, none}
 use native.Mathlib.Omega.{arith}
 use borrow.Author.Tests.{eqb-true, ne_eqb, lt-ltb}
 use lib.Dec.{ltb}
@@ -22,8 +22,8 @@ use Rattle.same_type.specs.Runs.{after, after_kind, agrees, same_runs}
 -- ---- the tokens that a run of words stands for
 
 unfoldable size_token : ℕ → Token ℕ
-size_token zero = size none
-size_token (suc x) = size (some x)
+size_token zero = size None
+size_token (suc x) = size (Some x)
 
 unfoldable token_of : Due → ℕ → Token ℕ
 token_of Kind w = word w
@@ -148,8 +148,8 @@ mutual
   tokens-back (TupleType ts) rest = ap (λ l. word 19 ∷ word (count ts) ∷ l) (tokens_all-back ts rest)
   tokens-back (FnType ts t) rest = ap (λ l. word 20 ∷ word (count ts) ∷ l) (two_back (tokens_all ts) (tokens t) (λ x. tokens_all-back ts x) (λ x. tokens-back t x) rest)
   tokens-back (IntersectionType l r) rest = ap (λ l. word 21 ∷ l) (two_back (tokens l) (tokens r) (λ x. tokens-back l x) (λ x. tokens-back r x) rest)
-  tokens-back (Array t none) rest = ap (λ l. word 22 ∷ size none ∷ l) (tokens-back t rest)
-  tokens-back (Array t (some x)) rest = ap (λ l. word 22 ∷ size (some x) ∷ l) (tokens-back t rest)
+  tokens-back (Array t None) rest = ap (λ l. word 22 ∷ size None ∷ l) (tokens-back t rest)
+  tokens-back (Array t (Some x)) rest = ap (λ l. word 22 ∷ size (Some x) ∷ l) (tokens-back t rest)
   tokens-back (TSynonym d b) rest = ap (λ l. word 23 ∷ l) (two_back (tokens d) (tokens b) (λ x. tokens-back d x) (λ x. tokens-back b x) rest)
   tokens-back (TMetaData d c o) rest = ap (λ l. word 24 ∷ word (flags_word c o) ∷ l) (tokens-back d rest)
 

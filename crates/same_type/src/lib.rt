@@ -138,7 +138,7 @@ fn words_agree(pairs: &[u32], text: &[u8], due: Due, x: u32, y: u32) -> bool
 }
 
 // What the words as they are tell of two types: they are the same, they are not, or names must be compared.
-#[derive(Clone, Copy)]
+#[derive(Clone, Copy, PartialEq, Eq)]
 pub enum Look {
     Same,
     Apart,
@@ -184,19 +184,13 @@ fn look_at_words(a: &[u32], start: usize, b: &[u32], from: usize, count: usize) 
     ensures { result ≡ looks true (take count (drop start a.now)) (take count (drop from b.now)) }
 {
     let mut equal = true;
-    let mut i = start;
-    let mut j = from;
-    let mut left = count;
-    while 0 < left {
-        let x = a[i];
-        let y = b[j];
+    for k in 0..count {
+        let x = a[start + k];
+        let y = b[from + k];
         if never_agree(x, y) {
             return Look::Apart;
         }
         equal = still_equal(equal, x, y);
-        i += 1;
-        j += 1;
-        left -= 1;
     }
     look_of(equal)
 }
@@ -206,11 +200,7 @@ fn numbers_apart(a: &[u32], start: usize, b: &[u32], from: usize, count: usize) 
     requires { (start + count ≤ length a.now) × (from + count ≤ length b.now) }
     ensures { result ≡ told_apart (looks true (take count (drop start a.now)) (take count (drop from b.now))) }
 {
-    match look_at_words(a, start, b, from, count) {
-        Look::Same => false,
-        Look::Apart => true,
-        Look::Unclear => false,
-    }
+    look_at_words(a, start, b, from, count) == Look::Apart
 }
 
 // How many words in front are equal.
@@ -218,12 +208,10 @@ fn equal_front(a: &[u32], start: usize, b: &[u32], from: usize, count: usize) ->
     requires { (start + count ≤ length a.now) × (from + count ≤ length b.now) }
     ensures { result ≤ count }
 {
-    let mut k = 0;
-    while k < count {
+    for k in 0..count {
         if a[start + k] != b[from + k] {
             return k;
         }
-        k += 1;
     }
     count
 }
@@ -297,18 +285,12 @@ fn same_types(
         (take count (drop start a.now)) (take count (drop from b.now)) }
 {
     let mut due = Due::Kind;
-    let mut i = start;
-    let mut j = from;
-    let mut left = count;
-    while 0 < left {
-        let x = a[i];
-        if !words_agree(pairs, text, due, x, b[j]) {
+    for k in 0..count {
+        let x = a[start + k];
+        if !words_agree(pairs, text, due, x, b[from + k]) {
             return false;
         }
         due = due_after(due, x);
-        i += 1;
-        j += 1;
-        left -= 1;
     }
     true
 }

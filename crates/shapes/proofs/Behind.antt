@@ -1,8 +1,8 @@
 -- Parts behind wrappers.
+use Rattle.std.specs.Prelude.{Option}
 use Prim.Native.Nat.{ℕ, ◌+◌}
 use mathlib.Core.Path.{◌≡◌, refl, ap, sym, ◌∙◌}
 use mathlib.Core.List.{List}
-use mathlib.Core.Option.{Option}
 use native.Mathlib.Omega.{arith}
 use Rattle.rast.specs.Bytes.{Bytes}
 use Rattle.rast.specs.Tree.{Ty, Primitive, TIdentifier, TypeFromPath, TypeApp, Borrowed, BorrowedMut, ImplType, DynType, TupleType, FnType, IntersectionType, Array, TSynonym, TMetaData}
@@ -14,7 +14,6 @@ use Rattle.tree_words.specs.Places.{Place, place}
 use Rattle.tree_words.proofs.Renaming.{type-words}
 use Rattle.unwrap.specs.Asked.{ExpandsAt}
 use Rattle.unwrap.proofs.Expanding.{synonym-words, meta-words}
-use Rattle.known_paths.specs.declared.Found.{Found}
 use Rattle.known_paths.specs.Asked.{Finds, found}
 use Rattle.shapes.specs.Parts.{expanded_at, expanded}
 use Rattle.shapes.proofs.Pointers.{expanded-tree}
@@ -49,7 +48,7 @@ module _ (ws pairs : List ℕ) (text : Bytes) (at r : ℕ) (x : ExpandsAt (type_
       place-as (expanded_at at t) (omega (arith, i, j, k)) (expanded-tree at t)
 
   -- a part behind the wrappers
-  pub finds-expanded : (f g : Place Bytes → Option (Place Bytes)) {u : Found} → ((p : Place Bytes) → f p ≡ g (expanded p)) → Finds g (type_at ws pairs text) r u → Finds f (type_at ws pairs text) at u
+  pub finds-expanded : (f g : Place Bytes → Option (Place Bytes)) {u : Option ℕ} → ((p : Place Bytes) → f p ≡ g (expanded p)) → Finds g (type_at ws pairs text) r u → Finds f (type_at ws pairs text) at u
   finds-expanded f g h d = record {
     says = λ t n e. d.says (Expand t) n (x.expands t n e) ∙ ap found (ap g (sym (expands-place t n e)) ∙ sym (h (place at t)));
   }

@@ -1,8 +1,8 @@
 -- Collections: `GetBuiltinCollectionElement` by the classes of sets and of maps.
+use Rattle.std.specs.Prelude.{Option, Some, None}
 use Prim.Native.Nat.{ℕ, ◌+◌}
 use mathlib.Core.Path.{◌≡◌, refl, ap, sym, ◌∙◌}
 use mathlib.Core.Bool.{Bool, true, false}
-use mathlib.Core.Option.{Option, some, none}
 use native.Mathlib.Omega.{arith}
 use borrow.Author.Tests.{eqb-true}
 use lib.Dec.{eqb}
@@ -15,7 +15,6 @@ use Rattle.encoding.proofs.Tables.{impossible, same-eq}
 use Rattle.tree_words.specs.Encode.{words}
 use Rattle.tree_words.specs.Places.{Place, place}
 use Rattle.known_paths.specs.declared.Class.TheVariants.{Collection, MapClass}
-use Rattle.known_paths.specs.declared.Found.TheVariants.{At, NoPart}
 use Rattle.known_paths.specs.Asked.{found, is_found}
 use Rattle.known_paths.specs.Classes.{is_set, in_class, arity, is_of, first}
 use Rattle.known_paths.specs.Matches.{on_path, applied}
@@ -112,7 +111,7 @@ collection-first p =
 
 -- ---- a map's second argument
 
-second-index : (p : ℕ) (ts : Tys Bytes) (k : ℕ) (a : Ty Bytes) → count ts ≡ 2 → type_at_index 0 p ts ≡ some (place k a) → found (type_at_index 1 p ts) ≡ At (k + words a)
+second-index : (p : ℕ) (ts : Tys Bytes) (k : ℕ) (a : Ty Bytes) → count ts ≡ 2 → type_at_index 0 p ts ≡ Some (place k a) → found (type_at_index 1 p ts) ≡ Some (k + words a)
 unfolding count type_at_index found
 second-index p nil k a c e = impossible (let z : ◌≡◌ {A = ℕ} 0 1 = omega (arith, c) in z)
 second-index p (cons t nil) k a c e = impossible (let z : ◌≡◌ {A = ℕ} 0 1 = omega (arith, c) in z)
@@ -122,27 +121,27 @@ second-index p (cons t (cons u us)) k a c e =
     let j : t ≡ a = ap (λ (q : Place Bytes). q.tpe) d in
     rw (i, j) refl
 
-second-argument : (p : ℕ) (t : Ty Bytes) (k : ℕ) (a : Ty Bytes) → is_of MapClass t ≡ true → argument_at 0 p t ≡ some (place k a) → found (argument_at 1 p t) ≡ At (k + words a)
+second-argument : (p : ℕ) (t : Ty Bytes) (k : ℕ) (a : Ty Bytes) → is_of MapClass t ≡ true → argument_at 0 p t ≡ Some (place k a) → found (argument_at 1 p t) ≡ Some (k + words a)
 unfolding is_of applied on_path arity argument_at
 second-argument p t k a =
-    applied-cases (λ u. is_of MapClass u ≡ true → argument_at 0 p u ≡ some (place k a) → found (argument_at 1 p u) ≡ At (k + words a))
+    applied-cases (λ u. is_of MapClass u ≡ true → argument_at 0 p u ≡ Some (place k a) → found (argument_at 1 p u) ≡ Some (k + words a))
     (λ q ts c. second-index (p + 2 + words (TypeFromPath q)) ts k a (eqb-true (count ts) 2 (and_right (in_class MapClass q) (eqb (count ts) 2) c)))
     (λ u n c e. let z = n (λ q ts. in_class MapClass q and eqb (count ts) 2) in impossible (cc)) t
 
-pub when-some : {A : Type 0} (b : Bool) (x : Option A) {q : A} → when b x ≡ some q → (b ≡ true) × (x ≡ some q)
+pub when-some : {A : Type 0} (b : Bool) (x : Option A) {q : A} → when b x ≡ Some q → (b ≡ true) × (x ≡ Some q)
 unfolding when
 when-some true x e = (refl, e)
 when-some false x e = impossible (cc)
 
 -- the element of a map stands behind its first argument
-pub map-element : (q : Place Bytes) (k : ℕ) (a : Ty Bytes) → first MapClass q ≡ some (place k a) → found (element q) ≡ At (k + words a)
+pub map-element : (q : Place Bytes) (k : ℕ) (a : Ty Bytes) → first MapClass q ≡ Some (place k a) → found (element q) ≡ Some (k + words a)
 unfolding first argument_of
 map-element q k a e =
     let w = when-some (is_of MapClass q.tpe) (argument_of 0 q) e in
     rw w.0 (second-argument q.at q.tpe k a w.0 w.1)
 
 -- and where there is none, the type is no map
-pub no-map-element : (q : Place Bytes) → found (first MapClass q) ≡ NoPart → found (element q) ≡ found (first Collection q)
+pub no-map-element : (q : Place Bytes) → found (first MapClass q) ≡ None → found (element q) ≡ found (first Collection q)
 no-map-element q e =
     let n : is_of MapClass q.tpe ≡ false = sym (first_found MapClass q) ∙ ap is_found e in
     rw n refl
@@ -152,11 +151,11 @@ unfolding first found
 element-found q = go (first MapClass q) refl
   where
     go : (x : Option (Place Bytes)) → first MapClass q ≡ x → is_found (found (element q)) ≡ (is_of Collection q.tpe or is_of MapClass q.tpe)
-    go none e =
-        let f : found (first MapClass q) ≡ NoPart = ap found e in
+    go None e =
+        let f : found (first MapClass q) ≡ None = ap found e in
         let n : is_of MapClass q.tpe ≡ false = sym (first_found MapClass q) ∙ ap is_found f in
         ap is_found (no-map-element q f) ∙ first_found Collection q ∙ sym (rw n (or-false (is_of Collection q.tpe)))
-    go (some p) e =
+    go (Some p) e =
         let n : is_of MapClass q.tpe ≡ true = (when-some (is_of MapClass q.tpe) (argument_of 0 q) e).0 in
         ap is_found (map-element q p.at p.tpe e) ∙ sym (rw n (or-true (is_of Collection q.tpe)))
 

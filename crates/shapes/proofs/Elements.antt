@@ -1,8 +1,8 @@
 -- Boxes of `dyn`, and arrays of `MaybeUninit`: parts and shapes by the first arguments of applications.
+use Rattle.std.specs.Prelude.{Option, Some, None}
 use Prim.Native.Nat.{ℕ, zero, suc, ◌+◌}
 use mathlib.Core.Path.{◌≡◌, refl, ap, sym, ◌∙◌}
 use mathlib.Core.Bool.{Bool, true, false}
-use mathlib.Core.Option.{Option, some, none}
 use Rattle.rast.specs.Bytes.{Bytes, ◌and◌}
 use Rattle.rast.specs.Tree.{Ty, Tys, Primitive, TIdentifier, TypeFromPath, TypeApp, Borrowed, BorrowedMut, ImplType, DynType, TupleType, FnType, IntersectionType, Array, TSynonym, TMetaData, nil, cons}
 use Rattle.rast.specs.DeclarationToString.{Expand}
@@ -23,8 +23,8 @@ use Rattle.shapes.proofs.Pointers.{expanded-tree, multi-array-is}
 -- ---- an argument's tree
 
 abbrev tree : Option (Place Bytes) → Option (Ty Bytes)
-tree none = none
-tree (some p) = some p.tpe
+tree None = None
+tree (Some p) = Some p.tpe
 
 index-tree : (i p : ℕ) (ts : Tys Bytes) → type_in i ts ≡ tree (type_at_index i p ts)
 unfolding type_in type_at_index
@@ -51,22 +51,22 @@ argument-tree i p (TMetaData d c o) = refl
 
 -- a test of a part, by where the part stands
 module _ (b : Bool) (x : Option (Place Bytes)) (g : Ty Bytes → Bool) where
-  asked-some : {q : Place Bytes} → when b x ≡ some q → (b and some_is g (tree x)) ≡ g q.tpe
+  asked-some : {q : Place Bytes} → when b x ≡ Some q → (b and some_is g (tree x)) ≡ g q.tpe
   unfolding when some_is ◌and◌
   asked-some {q} e = go b x e
     where
-      go : (b : Bool) (x : Option (Place Bytes)) → when b x ≡ some q → (b and some_is g (tree x)) ≡ g q.tpe
-      go true none e = impossible (cc)
-      go true (some p) e = let i : p ≡ q = cc in ap (λ (r : Place Bytes). g r.tpe) i
+      go : (b : Bool) (x : Option (Place Bytes)) → when b x ≡ Some q → (b and some_is g (tree x)) ≡ g q.tpe
+      go true None e = impossible (cc)
+      go true (Some p) e = let i : p ≡ q = cc in ap (λ (r : Place Bytes). g r.tpe) i
       go false x e = impossible (cc)
 
-  asked-none : when b x ≡ none → (b and some_is g (tree x)) ≡ false
+  asked-none : when b x ≡ None → (b and some_is g (tree x)) ≡ false
   unfolding when some_is ◌and◌
   asked-none e = go b x e
     where
-      go : (b : Bool) (x : Option (Place Bytes)) → when b x ≡ none → (b and some_is g (tree x)) ≡ false
-      go true none e = refl
-      go true (some p) e = impossible (cc)
+      go : (b : Bool) (x : Option (Place Bytes)) → when b x ≡ None → (b and some_is g (tree x)) ≡ false
+      go true None e = refl
+      go true (Some p) e = impossible (cc)
       go false x e = refl
 
 -- ---- boxes of `dyn`
@@ -90,13 +90,13 @@ dyn-found p (TMetaData d c o) = refl
 
 when-found : (x : Option (Place Bytes)) → when (is_found (found x)) x ≡ x
 unfolding when found
-when-found none = refl
-when-found (some p) = refl
+when-found None = refl
+when-found (Some p) = refl
 
 dyn-when : (p : ℕ) (t : Ty Bytes) → when (is_dyn t) (dyn_at p t) ≡ dyn_at p t
 dyn-when p t = ap (λ b. when b (dyn_at p t)) (sym (dyn-found p t)) ∙ when-found (dyn_at p t)
 
-pub dyn-other : (p : ℕ) (t : Ty Bytes) → (kind t ≡ 18 → ⊥) → dyn_at p t ≡ none
+pub dyn-other : (p : ℕ) (t : Ty Bytes) → (kind t ≡ 18 → ⊥) → dyn_at p t ≡ None
 unfolding dyn_at
 dyn-other p (Primitive x) h = refl
 dyn-other p (TIdentifier x) h = refl
@@ -115,14 +115,14 @@ dyn-other p (TMetaData d c o) h = refl
 
 box-dyn-when : (b : Bool) (x : Option (Place Bytes)) → when (b and some_is is_dyn (tree x)) (and_then x dyn_of) ≡ and_then (when b x) dyn_of
 unfolding when and_then some_is ◌and◌ dyn_of
-box-dyn-when true none = refl
-box-dyn-when true (some p) = dyn-when p.at p.tpe
+box-dyn-when true None = refl
+box-dyn-when true (Some p) = dyn-when p.at p.tpe
 box-dyn-when false x = refl
 
 box-dyn-some : (b : Bool) (x : Option (Place Bytes)) → is_found (found (and_then (when b x) dyn_of)) ≡ (b and some_is is_dyn (tree x))
 unfolding when and_then some_is ◌and◌ dyn_of found
-box-dyn-some true none = refl
-box-dyn-some true (some p) = dyn-found p.at p.tpe
+box-dyn-some true None = refl
+box-dyn-some true (Some p) = dyn-found p.at p.tpe
 box-dyn-some false x = refl
 
 pub box-dyn-first : (p : Place Bytes) → BoxDynUnderlying p ≡ and_then (first Boxed p) dyn_of
@@ -136,16 +136,16 @@ box-dyn-found p =
 
 -- ---- elements that are `MaybeUninit`
 
-else-none : {A : Type 0} (x : Option A) → or_else x none ≡ x
+else-none : {A : Type 0} (x : Option A) → or_else x None ≡ x
 unfolding or_else
-else-none none = refl
-else-none (some a) = refl
+else-none None = refl
+else-none (Some a) = refl
 
 pub uninit-of-array : (at : ℕ) (u : Ty Bytes) (s : Option Bytes) → uninit_element (place at (Array u s)) ≡ first Uninit (place (at + 2) u)
 unfolding uninit_element element_of element_at and_then MultiArrayUnderlying IsMultiArray Expand applied when MaybeUninitTypeUnderlying IsMaybeUninit first is_of in_class arity
 uninit-of-array at u s = else-none (first Uninit (place (at + 2) u))
 
-no-element : (p : ℕ) (t : Ty Bytes) → (kind t ≡ 22 → ⊥) → element_at p t ≡ none
+no-element : (p : ℕ) (t : Ty Bytes) → (kind t ≡ 22 → ⊥) → element_at p t ≡ None
 unfolding element_at
 no-element p (Primitive x) h = refl
 no-element p (TIdentifier x) h = refl
@@ -180,11 +180,11 @@ uninit-of-pointer p = when-twice (IsObjectOrPointer p.tpe) (argument_of 0 (expan
 abbrev pub holds_uninit : Ty Bytes → Bool
 holds_uninit s = uninit_cases (unsized s) s
 
-pub holds-unsized : (u : Ty Bytes) → holds_uninit (Array u none) ≡ is_of Uninit u
+pub holds-unsized : (u : Ty Bytes) → holds_uninit (Array u None) ≡ is_of Uninit u
 unfolding uninit_cases unsized IsMaybeUninit is_of in_class arity
 holds-unsized u = refl
 
-pub holds-sized : (u : Ty Bytes) (x : Bytes) → holds_uninit (Array u (some x)) ≡ false
+pub holds-sized : (u : Ty Bytes) (x : Bytes) → holds_uninit (Array u (Some x)) ≡ false
 unfolding uninit_cases unsized IsMultiArray Expand applied ◌and◌
 holds-sized u x = refl
 
@@ -207,11 +207,11 @@ holds-multi (TSynonym d b) h = and-false (IsMultiArray (TSynonym d b))
 holds-multi (TMetaData d c o) h = and-false (IsMultiArray (TMetaData d c o))
 
 module _ (at : ℕ) (t : Ty Bytes) (h : kind t ≡ 22 → ⊥) where
-  pub holds-first : {q : Place Bytes} → first ArrayClass (place at t) ≡ some q → holds_uninit t ≡ is_of Uninit q.tpe
+  pub holds-first : {q : Place Bytes} → first ArrayClass (place at t) ≡ Some q → holds_uninit t ≡ is_of Uninit q.tpe
   unfolding first argument_of
   holds-first {q} e = holds-multi t h ∙ rw (argument-tree 0 at t) (asked-some (is_of ArrayClass t) (argument_at 0 at t) (is_of Uninit) e)
 
-  pub holds-none : first ArrayClass (place at t) ≡ none → holds_uninit t ≡ false
+  pub holds-none : first ArrayClass (place at t) ≡ None → holds_uninit t ≡ false
   unfolding first argument_of
   holds-none e = holds-multi t h ∙ rw (argument-tree 0 at t) (asked-none (is_of ArrayClass t) (argument_at 0 at t) (is_of Uninit) e)
 
@@ -220,12 +220,12 @@ module _ (at : ℕ) (t : Ty Bytes) where
   unfolding argument_of expanded
   pointer-tree = ap (argument 0) (sym (expanded-tree at t)) ∙ argument-tree 0 (expanded_at at t).at (expanded_at at t).tpe
 
-  pub uninit-array-is : {q : Place Bytes} → ObjectOrPointerUnderlying (place at t) ≡ some q → IsUninitArray t ≡ holds_uninit (Expand q.tpe)
+  pub uninit-array-is : {q : Place Bytes} → ObjectOrPointerUnderlying (place at t) ≡ Some q → IsUninitArray t ≡ holds_uninit (Expand q.tpe)
   unfolding IsUninitArray ObjectOrPointerUnderlying
   uninit-array-is {q} e =
       rw pointer-tree (asked-some (IsObjectOrPointer t) (argument_of 0 (expanded (place at t))) (λ u. holds_uninit (Expand u)) e)
 
-  pub uninit-array-none : ObjectOrPointerUnderlying (place at t) ≡ none → IsUninitArray t ≡ false
+  pub uninit-array-none : ObjectOrPointerUnderlying (place at t) ≡ None → IsUninitArray t ≡ false
   unfolding IsUninitArray ObjectOrPointerUnderlying
   uninit-array-none e =
       rw pointer-tree (asked-none (IsObjectOrPointer t) (argument_of 0 (expanded (place at t))) (λ u. holds_uninit (Expand u)) e)

@@ -1,4 +1,5 @@
 -- Document 01's cases (a), (f) and (i) and the shapes that are easily confused, on encodings. Two lists, each with one claim for all of it, by computation.
+use Rattle.std.specs.Prelude.{Ok}
 use Prim.Native.Nat.{ℕ}
 use mathlib.Core.Bool.{Bool, true, false}
 use mathlib.Core.Path.{◌≡◌, refl}
@@ -6,7 +7,7 @@ use mathlib.Core.List.{List, [], ◌∷◌, ◌++◌, map}
 use Rattle.rast.specs.Bytes.{Bytes, ascii, same, begins, ◌and◌}
 use Rattle.rast.specs.Tree.{Ty, MSels, count}
 use Rattle.rast.specs.DeclarationToString.{Expand}
-use Rattle.encoding.specs.Refusals.{Answer, given, map_answer, unless}
+use Rattle.encoding.specs.Refusals.{Answer, map_answer, unless}
 use Rattle.encoding.specs.Reading.{read_word, read_below, read_names, whole}
 use Rattle.encoding.specs.Tables.{overlong, good_pairs, check_tables, fixed_names, pair_bytes, name_bytes}
 use Rattle.encoding.specs.Heads.{read_path, path_head, head_after, read_head}
@@ -84,7 +85,7 @@ shapes =
     ∷ (IsUninitArray, object ++ (22 ∷ 0 ∷ 24 ∷ 0 ∷ uninit), false)
     ∷ []
 
-pub shapes-as-said : map {B = Answer Bool} (λ e. map_answer e.0 (type_of e.1 pairs text)) shapes ≡ map (λ e. given e.2) shapes
+pub shapes-as-said : map {B = Answer Bool} (λ e. map_answer e.0 (type_of e.1 pairs text)) shapes ≡ map (λ e. Ok e.2) shapes
 unfolding shapes type_of map_answer unless check_tables overlong good_pairs whole read_type read_head head_after path_head read_path read_names read_below read_word read_node read_types primitives root_of path_of size_of name_bytes pair_bytes fixed_names ascii MSels same begins ◌and◌ Expand count same_path std in_std dafny_runtime in_runtime RcPath ArcPath BoxPath MaybeUninitPath ObjectPath PtrPath runtime_member on_path applied type_in argument unsized is_dyn some_is uninit_cases is_fixed_number is_number is_bool EndsWithNameThatCanAcceptGenerics IsAutoSize CanReadWithoutClone IsRcOrBorrowedRc IsMultiArray IsMaybeUninit IsUninitArray IsBox NeedsAsRefForBorrow IsObject IsPointer IsObjectOrPointer IsBuiltinCollection IsRc IsBoxDyn
 shapes-as-said = refl
 
@@ -102,6 +103,6 @@ initializations =
     ∷ []
 
 pub initialized-as-said : map {B = Answer (List ℕ)} (λ e. map_answer (λ t. encode (TypeAtInitialization own_number (renamed (name_bytes pairs text)) t)) (tree_of e.0 pairs text)) initializations
-    ≡ map (λ e. given e.1) initializations
+    ≡ map (λ e. Ok e.1) initializations
 unfolding initializations tree_of map_answer unless check_tables overlong good_pairs whole read_type read_head head_after path_head read_path read_names read_below read_word read_node read_types primitives root_of path_of size_of name_bytes pair_bytes fixed_names ascii MSels same begins ◌and◌ Expand count same_path dafny_runtime in_runtime ObjectPath PtrPath runtime_member on_path applied type_in argument unsized IsMultiArray IsObject IsPointer IsObjectOrPointer renamed renamed_path renamed_size when and_then or_else MaybeUninitType ObjectType PtrType applied_to_uninit or_this new_underlying TypeAtInitialization encode tokens token_word primitive_word flags_word root_word names path_tokens
 initialized-as-said = refl

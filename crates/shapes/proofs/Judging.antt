@@ -1,9 +1,9 @@
 -- What each shape answer is, by the kind of the type and by the types in it.
+use Rattle.std.specs.Prelude.{Option, Some, None}
 use Prim.Native.Nat.{ℕ, ◌+◌, ◌-◌, ◌%◌, ◌≤◌, ◌<◌}
 use mathlib.Core.Path.{◌≡◌, refl, ap, sym, ◌∙◌}
 use mathlib.Core.Bool.{Bool, true, false}
 use mathlib.Core.List.{List}
-use mathlib.Core.Option.{Option, some, none}
 use native.Mathlib.Omega.{arith}
 use borrow.Author.Tests.{eq-eqb, ne_eqb}
 use lib.Dec.{eqb, leb, ltb}
@@ -22,8 +22,6 @@ use Rattle.unwrap.specs.Asked.{Judges, ExpandsAt}
 use Rattle.unwrap.proofs.TypesIn.{ref-of, mut_of, array_of, meta-of}
 use Rattle.known_paths.specs.declared.Class.{Class}
 use Rattle.known_paths.specs.declared.Class.TheVariants.{Counted, Uninit, PtrClass, ArrayClass}
-use Rattle.known_paths.specs.declared.Found.{Found}
-use Rattle.known_paths.specs.declared.Found.TheVariants.{At, NoPart}
 use Rattle.known_paths.specs.Asked.{Finds, found, is_found}
 use Rattle.known_paths.specs.Classes.{in_class, arity, is_of, first}
 use Rattle.known_paths.specs.Matches.{applied}
@@ -357,7 +355,7 @@ module _ (ws pairs : List ℕ) (text : Bytes) (at : ℕ) where
   abbrev again : ℕ → Reading (Ty Bytes)
   again = type_at ws pairs text
 
-  pub judge-found : (f : Place Bytes → Option (Place Bytes)) (g : Ty Bytes → Bool) {u : Found} {b : Bool} → ((p : Place Bytes) → is_found (found (f p)) ≡ g p.tpe) → Finds f again at u → b ≡ is_found u → Judges g (again at) b
+  pub judge-found : (f : Place Bytes → Option (Place Bytes)) (g : Ty Bytes → Bool) {u : Option ℕ} {b : Bool} → ((p : Place Bytes) → is_found (found (f p)) ≡ g p.tpe) → Finds f again at u → b ≡ is_found u → Judges g (again at) b
   judge-found f g h d k = record { says = λ t n e. k ∙ ap is_found (d.says t n e) ∙ h (place at t) }
 
   pub judge-auto : (r : ℕ) → ExpandsAt again at r → Judges IsAutoSize (again at) (ltb (get_or ws r 0) 11)
@@ -406,7 +404,7 @@ module _ (ws pairs : List ℕ) (text : Bytes) (at : ℕ) where
   judge-unsized h k j = record {
     says = λ t n e.
         let m = (array_of ws pairs text at e h).1 in
-        let i : t ≡ Array m.value none = m.made ∙ rw k refl in
+        let i : t ≡ Array m.value None = m.made ∙ rw k refl in
         rw i (j.says m.value n m.reads ∙ sym (holds-unsized m.value));
   }
 
@@ -415,26 +413,26 @@ module _ (ws pairs : List ℕ) (text : Bytes) (at : ℕ) where
   judge-sized h k = record {
     says = λ t n e.
         let m = (array_of ws pairs text at e h).1 in
-        let i : t ≡ Array m.value (some (name_bytes pairs text (get_or ws (at + 1) 0 - 1))) = m.made ∙ rw (ne_eqb (get_or ws (at + 1) 0) 0 k) refl in
+        let i : t ≡ Array m.value (Some (name_bytes pairs text (get_or ws (at + 1) 0 - 1))) = m.made ∙ rw (ne_eqb (get_or ws (at + 1) 0) 0 k) refl in
         rw i (sym (holds-sized m.value _));
   }
 
-  pub judge-no-array : {u : Found} → (get_or ws at 0 ≡ 22 → ⊥) → Finds (first ArrayClass) again at u → u ≡ NoPart → Judges holds_uninit (again at) false
+  pub judge-no-array : {u : Option ℕ} → (get_or ws at 0 ≡ 22 → ⊥) → Finds (first ArrayClass) again at u → u ≡ None → Judges holds_uninit (again at) false
   judge-no-array h d k = record {
     says = λ t n e. sym (holds-none at t (λ i. h (sym (type-kind ws pairs text at e) ∙ i)) (nowhere ws pairs text at e d k));
   }
 
-  pub judge-multi : {u : Found} {s : ℕ} {b : Bool} → (get_or ws at 0 ≡ 22 → ⊥) → Finds (first ArrayClass) again at u → u ≡ At s → Judges (is_of Uninit) (again s) b → Judges holds_uninit (again at) b
+  pub judge-multi : {u : Option ℕ} {s : ℕ} {b : Bool} → (get_or ws at 0 ≡ 22 → ⊥) → Finds (first ArrayClass) again at u → u ≡ Some s → Judges (is_of Uninit) (again s) b → Judges holds_uninit (again at) b
   judge-multi h d k j = record {
     says = λ t n e.
         let l = located ws pairs text at e (first-keeps ws pairs text ArrayClass) d k in
         j.says l.tpe l.end l.reads ∙ sym (holds-first at t (λ i. h (sym (type-kind ws pairs text at e) ∙ i)) l.is);
   }
 
-  pub judge-no-pointer : {u : Found} → Finds ObjectOrPointerUnderlying again at u → u ≡ NoPart → Judges IsUninitArray (again at) false
+  pub judge-no-pointer : {u : Option ℕ} → Finds ObjectOrPointerUnderlying again at u → u ≡ None → Judges IsUninitArray (again at) false
   judge-no-pointer d k = record { says = λ t n e. sym (uninit-array-none at t (nowhere ws pairs text at e d k)) }
 
-  pub judge-pointed : {u : Found} {s r : ℕ} {b : Bool} → Finds ObjectOrPointerUnderlying again at u → u ≡ At s → ExpandsAt again s r → Judges holds_uninit (again r) b → Judges IsUninitArray (again at) b
+  pub judge-pointed : {u : Option ℕ} {s r : ℕ} {b : Bool} → Finds ObjectOrPointerUnderlying again at u → u ≡ Some s → ExpandsAt again s r → Judges holds_uninit (again r) b → Judges IsUninitArray (again at) b
   judge-pointed d k x j = record {
     says = λ t n e.
         let l = located ws pairs text at e (pointer-keeps ws pairs text) d k in

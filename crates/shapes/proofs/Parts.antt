@@ -1,9 +1,9 @@
 -- Each part: that it stands where it is said, and where the code finds it.
+use Rattle.std.specs.Prelude.{Option, Some, None, MatchOption}
 use Prim.Native.Nat.{ℕ, ◌+◌}
 use mathlib.Core.Path.{◌≡◌, refl, ap, sym, ◌∙◌, subst}
 use mathlib.Core.Bool.{Bool, true, false}
 use mathlib.Core.List.{List}
-use mathlib.Core.Option.{Option, some}
 use lib.ListN.{get_or}
 use Rattle.rast.specs.Bytes.{Bytes}
 use Rattle.rast.specs.Tree.{Ty}
@@ -19,8 +19,6 @@ use Rattle.tree_words.proofs.Renaming.{type-words}
 use Rattle.unwrap.specs.Asked.{ExpandsAt}
 use Rattle.unwrap.proofs.TypesIn.{dyn-of, array_of}
 use Rattle.known_paths.specs.declared.Class.TheVariants.{PtrClass, ObjectClass, ArrayClass, Boxed, Uninit, Collection, MapClass}
-use Rattle.known_paths.specs.declared.Found.{Found}
-use Rattle.known_paths.specs.declared.Found.TheVariants.{At, NoPart}
 use Rattle.known_paths.specs.Asked.{Finds, found, is_found}
 use Rattle.known_paths.specs.Classes.{is_of, first}
 use Rattle.known_paths.specs.Steps.{when, and_then, argument_of, dyn_at, dyn_of, element_of}
@@ -38,7 +36,7 @@ use Rattle.shapes.proofs.Wrappers.{stand-removed, stand-expanded, stand-owned}
 -- ---- parts stand where they are said
 
 module _ (ws pairs : List ℕ) (text : Bytes) where
-  whole-kept : (f : Place Bytes → Place Bytes) → ((p : Place Bytes) → Standing ws pairs text p → Standing ws pairs text (f p)) → Keeps ws pairs text (λ p. some (f p))
+  whole-kept : (f : Place Bytes → Place Bytes) → ((p : Place Bytes) → Standing ws pairs text p → Standing ws pairs text (f p)) → Keeps ws pairs text (λ p. Some (f p))
   whole-kept f h = record { keeps = λ p q s e. subst (Standing ws pairs text) (some_same e) (h p s) }
 
   -- and behind wrappers
@@ -90,7 +88,7 @@ module _ (ws pairs : List ℕ) (text : Bytes) where
         (then_keeps ws pairs text (argument_of 0 p) dyn_of q (λ u. (argument-keeps ws pairs text 0).keeps p u s) (dyn-keeps ws pairs text));
   }
 
-  pick-keeps : (b : Bool) (x y : Option (Place Bytes)) (q : Place Bytes) → (x ≡ some q → Standing ws pairs text q) → (y ≡ some q → Standing ws pairs text q) → pick b x y ≡ some q → Standing ws pairs text q
+  pick-keeps : (b : Bool) (x y : Option (Place Bytes)) (q : Place Bytes) → (x ≡ Some q → Standing ws pairs text q) → (y ≡ Some q → Standing ws pairs text q) → pick b x y ≡ Some q → Standing ws pairs text q
   pick-keeps true x y q h k e = h e
   pick-keeps false x y q h k e = k e
 
@@ -125,10 +123,10 @@ module _ (ws pairs : List ℕ) (text : Bytes) (at : ℕ) where
   abbrev again : ℕ → Reading (Ty Bytes)
   again = type_at ws pairs text
 
-  pub multi-array-finds : (r : ℕ) {u : Found} → ExpandsAt again at r → Finds (first ArrayClass) again r u → Finds MultiArrayUnderlying again at u
+  pub multi-array-finds : (r : ℕ) {u : Option ℕ} → ExpandsAt again at r → Finds (first ArrayClass) again r u → Finds MultiArrayUnderlying again at u
   multi-array-finds r x d = finds-expanded ws pairs text at r x MultiArrayUnderlying (first ArrayClass) multi-array-first d
 
-  pub pointer-finds : (r : ℕ) {m : Found} {s : ℕ} → ExpandsAt again at r → Finds (first PtrClass) again r m → m ≡ At s → Finds ObjectOrPointerUnderlying again at (At s)
+  pub pointer-finds : (r : ℕ) {m : Option ℕ} {s : ℕ} → ExpandsAt again at r → Finds (first PtrClass) again r m → m ≡ Some s → Finds ObjectOrPointerUnderlying again at (Some s)
   pointer-finds r x k y = finds-expanded ws pairs text at r x ObjectOrPointerUnderlying pointed pointer-first (record {
     says = λ t n e.
         let f = sym y ∙ k.says t n e in
@@ -136,7 +134,7 @@ module _ (ws pairs : List ℕ) (text : Bytes) (at : ℕ) where
         rw i f;
   })
 
-  pub object-finds : (r : ℕ) {m u : Found} → ExpandsAt again at r → Finds (first PtrClass) again r m → m ≡ NoPart → Finds (first ObjectClass) again r u → Finds ObjectOrPointerUnderlying again at u
+  pub object-finds : (r : ℕ) {m u : Option ℕ} → ExpandsAt again at r → Finds (first PtrClass) again r m → m ≡ None → Finds (first ObjectClass) again r u → Finds ObjectOrPointerUnderlying again at u
   object-finds r x k y d = finds-expanded ws pairs text at r x ObjectOrPointerUnderlying pointed pointer-first (record {
     says = λ t n e.
         let f = sym y ∙ k.says t n e in
@@ -144,25 +142,31 @@ module _ (ws pairs : List ℕ) (text : Bytes) (at : ℕ) where
         rw i (d.says t n e);
   })
 
-  pub set-finds : (r : ℕ) {m u : Found} → ExpandsAt again at r → Finds (first MapClass) again r m → m ≡ NoPart → Finds (first Collection) again r u → Finds GetBuiltinCollectionElement again at u
+  -- a pointer's part, or else an object's: m is what was found of a pointer, and P says what was found then
+  pub either-finds : (r : ℕ) (m : Option ℕ) {u : Option ℕ} {P : Type 0} → ExpandsAt again at r → Finds (first PtrClass) again r m → MatchOption m P (λ s. u ≡ Some s) → (P → Finds (first ObjectClass) again r u)
+      → Finds ObjectOrPointerUnderlying again at u
+  either-finds r None x k o d = object-finds r x k refl (d o)
+  either-finds r (Some s) x k o d = rw o (pointer-finds r x k refl)
+
+  pub set-finds : (r : ℕ) {m u : Option ℕ} → ExpandsAt again at r → Finds (first MapClass) again r m → m ≡ None → Finds (first Collection) again r u → Finds GetBuiltinCollectionElement again at u
   set-finds r x k y d = finds-expanded ws pairs text at r x GetBuiltinCollectionElement element collection-first (record {
     says = λ t n e. d.says t n e ∙ sym (no-map-element (place r t) (sym (k.says t n e) ∙ y));
   })
 
-  pub map-finds : (r : ℕ) {m : Found} {key next : ℕ} → ExpandsAt again at r → Finds (first MapClass) again r m → m ≡ At key → EndsAt (again key) next → Finds GetBuiltinCollectionElement again at (At next)
+  pub map-finds : (r : ℕ) {m : Option ℕ} {key next : ℕ} → ExpandsAt again at r → Finds (first MapClass) again r m → m ≡ Some key → EndsAt (again key) next → Finds GetBuiltinCollectionElement again at (Some next)
   map-finds r {m} {key} {next} x k y d = finds-expanded ws pairs text at r x GetBuiltinCollectionElement element collection-first (record {
     says = λ t n e.
         let l = located ws pairs text r e (first-keeps ws pairs text MapClass) k y in
         let w : l.end ≡ key + words l.tpe = type-words ws pairs text key l.reads in
         let o : next ≡ key + words l.tpe = (let z : l.end ≡ next = cc (l.reads, d.reads) in sym z ∙ w) in
-        ap At o ∙ sym (map-element (place r t) key l.tpe l.is);
+        ap Some o ∙ sym (map-element (place r t) key l.tpe l.is);
   })
 
-  pub box-dyn-none : {m : Found} → Finds (first Boxed) again at m → m ≡ NoPart → Finds BoxDynUnderlying again at NoPart
+  pub box-dyn-none : {m : Option ℕ} → Finds (first Boxed) again at m → m ≡ None → Finds BoxDynUnderlying again at None
   unfolding and_then found
   box-dyn-none k y = record { says = λ t n e. rw (box-dyn-first (place at t), nowhere ws pairs text at e k y) refl }
 
-  pub box-dyn-other : {m : Found} {s : ℕ} → Finds (first Boxed) again at m → m ≡ At s → (get_or ws s 0 ≡ 18 → ⊥) → Finds BoxDynUnderlying again at NoPart
+  pub box-dyn-other : {m : Option ℕ} {s : ℕ} → Finds (first Boxed) again at m → m ≡ Some s → (get_or ws s 0 ≡ 18 → ⊥) → Finds BoxDynUnderlying again at None
   unfolding and_then found dyn_of
   box-dyn-other {m} {s} k y h = record {
     says = λ t n e.
@@ -170,7 +174,7 @@ module _ (ws pairs : List ℕ) (text : Bytes) (at : ℕ) where
         rw (box-dyn-first (place at t), l.is, dyn-other s l.tpe (λ i. h (sym (type-kind ws pairs text s l.reads) ∙ i))) refl;
   }
 
-  pub box-dyn-finds : {m : Found} {s : ℕ} → Finds (first Boxed) again at m → m ≡ At s → get_or ws s 0 ≡ 18 → Finds BoxDynUnderlying again at (At (s + 1))
+  pub box-dyn-finds : {m : Option ℕ} {s : ℕ} → Finds (first Boxed) again at m → m ≡ Some s → get_or ws s 0 ≡ 18 → Finds BoxDynUnderlying again at (Some (s + 1))
   unfolding and_then found dyn_of dyn_at
   box-dyn-finds {m} {s} k y h = record {
     says = λ t n e.
@@ -179,18 +183,18 @@ module _ (ws pairs : List ℕ) (text : Bytes) (at : ℕ) where
         rw (box-dyn-first (place at t), l.is, i.made) refl;
   }
 
-  pub element-finds : {u : Found} → get_or ws at 0 ≡ 22 → Finds (first Uninit) again (at + 2) u → Finds uninit_element again at u
+  pub element-finds : {u : Option ℕ} → get_or ws at 0 ≡ 22 → Finds (first Uninit) again (at + 2) u → Finds uninit_element again at u
   element-finds h d = record {
     says = λ t n e.
         let m = (array_of ws pairs text at e h).1 in
         d.says m.value n m.reads ∙ ap found (sym (ap (λ v. uninit_element (place at v)) m.made ∙ uninit-of-array at m.value _));
   }
 
-  pub element-none : {m : Found} → (get_or ws at 0 ≡ 22 → ⊥) → Finds MultiArrayUnderlying again at m → m ≡ NoPart → Finds uninit_element again at NoPart
+  pub element-none : {m : Option ℕ} → (get_or ws at 0 ≡ 22 → ⊥) → Finds MultiArrayUnderlying again at m → m ≡ None → Finds uninit_element again at None
   unfolding and_then found
   element-none h k y = record { says = λ t n e. rw (uninit-of-other at t (λ i. h (sym (type-kind ws pairs text at e) ∙ i)), nowhere ws pairs text at e k y) refl }
 
-  pub element-inside : {m u : Found} {s : ℕ} → (get_or ws at 0 ≡ 22 → ⊥) → Finds MultiArrayUnderlying again at m → m ≡ At s → Finds (first Uninit) again s u → Finds uninit_element again at u
+  pub element-inside : {m u : Option ℕ} {s : ℕ} → (get_or ws at 0 ≡ 22 → ⊥) → Finds MultiArrayUnderlying again at m → m ≡ Some s → Finds (first Uninit) again s u → Finds uninit_element again at u
   unfolding and_then
   element-inside h k y d = record {
     says = λ t n e.
@@ -198,11 +202,11 @@ module _ (ws pairs : List ℕ) (text : Bytes) (at : ℕ) where
         rw (uninit-of-other at t (λ i. h (sym (type-kind ws pairs text at e) ∙ i)), l.is) (d.says l.tpe l.end l.reads);
   }
 
-  pub extract-none : {m : Found} → Finds ObjectOrPointerUnderlying again at m → m ≡ NoPart → Finds ExtractMaybeUninitArrayElement again at NoPart
+  pub extract-none : {m : Option ℕ} → Finds ObjectOrPointerUnderlying again at m → m ≡ None → Finds ExtractMaybeUninitArrayElement again at None
   unfolding and_then found
   extract-none k y = record { says = λ t n e. rw (uninit-of-pointer (place at t), nowhere ws pairs text at e k y) refl }
 
-  pub extract-finds : {m u : Found} {s : ℕ} → Finds ObjectOrPointerUnderlying again at m → m ≡ At s → Finds uninit_element again s u → Finds ExtractMaybeUninitArrayElement again at u
+  pub extract-finds : {m u : Option ℕ} {s : ℕ} → Finds ObjectOrPointerUnderlying again at m → m ≡ Some s → Finds uninit_element again s u → Finds ExtractMaybeUninitArrayElement again at u
   unfolding and_then
   extract-finds k y d = record {
     says = λ t n e.

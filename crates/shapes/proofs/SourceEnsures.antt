@@ -1,10 +1,10 @@
 -- What the source ensures of its parts: `RemoveSynonyms` gives the type itself or a part of it, and `RcUnderlying` and
 -- `BoxDynUnderlying` a part of it (`t < this`). A part of a type has fewer words, and they lie among the type's own.
+use Rattle.std.specs.Prelude.{Option, Some, None}
 use Prim.Native.Nat.{ℕ, zero, suc, ◌+◌, ◌≤◌, ◌<◌}
 use mathlib.Core.Path.{◌≡◌, refl, ap, sym, ◌∙◌, subst}
 use mathlib.Core.Bool.{false}
 use mathlib.Core.Logic.{◌⊎◌, inl, inr}
-use mathlib.Core.Option.{Option, some, none}
 use native.Mathlib.Omega.{arith}
 use lib.ListN.{length-append}
 use Rattle.rast.specs.Bytes.{Bytes}
@@ -47,7 +47,7 @@ dyn-words : (t : Ty Bytes) → words (DynType t) ≡ 1 + words t
 unfolding words tokens
 dyn-words t = omega arith
 
-index-inside : (i p : ℕ) (ts : Tys Bytes) (q : Place Bytes) → type_at_index i p ts ≡ some q → (p ≤ q.at) × (q.at + words q.tpe ≤ p + words_all ts)
+index-inside : (i p : ℕ) (ts : Tys Bytes) (q : Place Bytes) → type_at_index i p ts ≡ Some q → (p ≤ q.at) × (q.at + words q.tpe ≤ p + words_all ts)
 unfolding type_at_index
 index-inside i p nil q e = impossible (cc)
 index-inside zero p (cons t ts) q e =
@@ -59,7 +59,7 @@ index-inside (suc i) p (cons t ts) q e =
     let k = index-inside i (p + words t) ts q e in
     (omega (arith, k.0), omega (arith, k.1, words-cons t ts))
 
-argument-part : (i p : ℕ) (t : Ty Bytes) (q : Place Bytes) → argument_at i p t ≡ some q → PartOf q (place p t)
+argument-part : (i p : ℕ) (t : Ty Bytes) (q : Place Bytes) → argument_at i p t ≡ Some q → PartOf q (place p t)
 unfolding argument_at
 argument-part i p (Primitive x) q e = impossible (cc)
 argument-part i p (TIdentifier x) q e = impossible (cc)
@@ -78,7 +78,7 @@ argument-part i p (Array t s) q e = impossible (cc)
 argument-part i p (TSynonym d b) q e = impossible (cc)
 argument-part i p (TMetaData d c o) q e = impossible (cc)
 
-dyn-part : (p : ℕ) (t : Ty Bytes) (q : Place Bytes) → dyn_at p t ≡ some q → PartOf q (place p t)
+dyn-part : (p : ℕ) (t : Ty Bytes) (q : Place Bytes) → dyn_at p t ≡ Some q → PartOf q (place p t)
 unfolding dyn_at
 dyn-part p (Primitive x) q e = impossible (cc)
 dyn-part p (TIdentifier x) q e = impossible (cc)
@@ -96,17 +96,17 @@ dyn-part p (TSynonym d b) q e = impossible (cc)
 dyn-part p (TMetaData d c o) q e = impossible (cc)
 
 -- `RcUnderlying`: `t < this`
-pub rc-underlying-part : (p q : Place Bytes) → RcUnderlying p ≡ some q → PartOf q p
+pub rc-underlying-part : (p q : Place Bytes) → RcUnderlying p ≡ Some q → PartOf q p
 unfolding RcUnderlying argument_of
 rc-underlying-part p q e = argument-part 0 p.at p.tpe q (when-some (IsRc p.tpe) (argument_of 0 p) e).1
 
-then-part : (p q : Place Bytes) (x : Option (Place Bytes)) → ((r : Place Bytes) → x ≡ some r → PartOf r p) → and_then x dyn_of ≡ some q → PartOf q p
+then-part : (p q : Place Bytes) (x : Option (Place Bytes)) → ((r : Place Bytes) → x ≡ Some r → PartOf r p) → and_then x dyn_of ≡ Some q → PartOf q p
 unfolding and_then dyn_of
-then-part p q none h e = impossible (cc)
-then-part p q (some r) h e = part_in (dyn-part r.at r.tpe q e) (h r refl)
+then-part p q None h e = impossible (cc)
+then-part p q (Some r) h e = part_in (dyn-part r.at r.tpe q e) (h r refl)
 
 -- `BoxDynUnderlying`: `t < this`
-pub box-dyn-underlying-part : (p q : Place Bytes) → BoxDynUnderlying p ≡ some q → PartOf q p
+pub box-dyn-underlying-part : (p q : Place Bytes) → BoxDynUnderlying p ≡ Some q → PartOf q p
 unfolding BoxDynUnderlying argument_of
 box-dyn-underlying-part p q e =
     then-part p q (argument_of 0 p) (λ r. argument-part 0 p.at p.tpe r) (when-some (IsBoxDyn p.tpe) (and_then (argument_of 0 p) dyn_of) e).1
@@ -137,16 +137,16 @@ removed-part p (TMetaData d c o) =
     inr (further p 2 d (TMetaData d c o) (removed_at (p + 2) d) (omega arith) (omega (arith, meta-words d c o)) (removed-part (p + 2) d))
 
 -- `RemoveSynonyms`: `t == this || t < this`
-pub remove-synonyms-part : (p q : Place Bytes) → RemoveSynonyms p ≡ some q → (q ≡ p) ⊎ PartOf q p
+pub remove-synonyms-part : (p q : Place Bytes) → RemoveSynonyms p ≡ Some q → (q ≡ p) ⊎ PartOf q p
 unfolding RemoveSynonyms
 remove-synonyms-part p q e = subst (λ r. (r ≡ p) ⊎ PartOf r p) (some_same e) (removed-part p.at p.tpe)
 
 -- `Expand`: the tree is `Expand`'s, no wrapper, and a type that is no wrapper stays
-pub expand-tree : (p q : Place Bytes) → ExpandAt p ≡ some q → q.tpe ≡ Expand p.tpe
+pub expand-tree : (p q : Place Bytes) → ExpandAt p ≡ Some q → q.tpe ≡ Expand p.tpe
 unfolding ExpandAt expanded
 expand-tree p q e = ap (λ (r : Place Bytes). r.tpe) (sym (some_same e)) ∙ expanded-tree p.at p.tpe
 
-pub expand-no-wrapper : (p q : Place Bytes) → ExpandAt p ≡ some q → is_wrapper q.tpe ≡ false
+pub expand-no-wrapper : (p q : Place Bytes) → ExpandAt p ≡ Some q → is_wrapper q.tpe ≡ false
 expand-no-wrapper p q e = ap is_wrapper (expand-tree p q e) ∙ expand-opens p.tpe
 
 expanded-here : (p : ℕ) (t : Ty Bytes) → is_wrapper t ≡ false → expanded_at p t ≡ place p t
@@ -166,6 +166,6 @@ expanded-here p (Array t s) h = refl
 expanded-here p (TSynonym d b) h = impossible (cc)
 expanded-here p (TMetaData d c o) h = impossible (cc)
 
-pub expand-stays : (p q : Place Bytes) → is_wrapper p.tpe ≡ false → ExpandAt p ≡ some q → q ≡ p
+pub expand-stays : (p q : Place Bytes) → is_wrapper p.tpe ≡ false → ExpandAt p ≡ Some q → q ≡ p
 unfolding ExpandAt expanded
 expand-stays p q h e = sym (some_same e) ∙ expanded-here p.at p.tpe h

@@ -1,7 +1,6 @@
 -- RAST's functions from a type to a part of it: from a place to the place of the part. `none` stands exactly where the
 -- source's `requires` fails or its answer is `None`.
-use Rattle.std.specs.Prelude.{ℕ, ◌+◌, Bool, eqb}
-use Rattle.std.proofs.Math.Option.{Option, some}
+use Rattle.std.specs.Prelude.{Option, Some, ℕ, ◌+◌, Bool, eqb}
 use Rattle.rast.specs.Bytes.{Bytes, ascii, same, ◌and◌}
 use Rattle.rast.specs.Tree.{Ty, Primitive, TIdentifier, TypeFromPath, TypeApp, Borrowed, BorrowedMut, ImplType, DynType, TupleType, FnType, IntersectionType, Array, TSynonym, TMetaData, count}
 use Rattle.rast.specs.DeclarationToString.{Expand}
@@ -34,7 +33,7 @@ removed_at p (TMetaData display c o) = removed_at (p + 2) display
 
 -- `Type.RemoveSynonyms`: the display is followed
 unfoldable pub RemoveSynonyms : Place Bytes → Option (Place Bytes)
-RemoveSynonyms p = some (removed_at p.at p.tpe)
+RemoveSynonyms p = Some (removed_at p.at p.tpe)
 
 -- the body of `Type.Expand`, with where the type stands
 unfoldable pub expanded_at : {N : Type 0} → ℕ → Ty N → Place N
@@ -59,7 +58,7 @@ expanded p = expanded_at p.at p.tpe
 
 -- `Type.Expand`: the base is followed
 unfoldable pub ExpandAt : Place Bytes → Option (Place Bytes)
-ExpandAt p = some (expanded p)
+ExpandAt p = Some (expanded p)
 
 -- the body of `Type.ToOwned`, with where the type stands
 unfoldable pub owned_at : {N : Type 0} → ℕ → Ty N → Place N
@@ -80,7 +79,7 @@ owned_at p (TMetaData d c o) = place p (TMetaData d c o)
 
 -- `Type.ToOwned`
 unfoldable pub ToOwned : Place Bytes → Option (Place Bytes)
-ToOwned p = some (owned_at p.at p.tpe)
+ToOwned p = Some (owned_at p.at p.tpe)
 
 -- ---- what an application holds
 

@@ -1,6 +1,5 @@
 -- RAST's yes-or-no answers about the shape of a type, each by the body of the function it is named after.
-use Rattle.std.specs.Prelude.{Bool, true, false, eqb}
-use Rattle.std.proofs.Math.Option.{Option, some, none}
+use Rattle.std.specs.Prelude.{Option, Some, None, Bool, true, false, eqb}
 use Rattle.rast.specs.Bytes.{Bytes, ascii, same, begins, ◌and◌, ◌or◌}
 use Rattle.rast.specs.Tree.{PrimitiveTy, U8, U16, U32, U64, U128, I8, I16, I32, I64, I128, USIZE, Bool·, Ty, Primitive, TIdentifier, TypeFromPath, TypeApp, Borrowed, BorrowedMut, ImplType, DynType, TupleType, FnType, IntersectionType, Array, TSynonym, TMetaData, count}
 use Rattle.rast.specs.DeclarationToString.{Expand}
@@ -53,8 +52,8 @@ IsBuiltinCollection t =
 
 -- the cases of `IsUninitArray` for the type under the pointer: an array without size, by its element, and a `MultiArray`
 unfoldable pub uninit_cases : Option (Ty Bytes) → Ty Bytes → Bool
-uninit_cases (some underlying) s = IsMaybeUninit underlying
-uninit_cases none s = IsMultiArray s and some_is IsMaybeUninit (argument 0 s)
+uninit_cases (Some underlying) s = IsMaybeUninit underlying
+uninit_cases None s = IsMultiArray s and some_is IsMaybeUninit (argument 0 s)
 
 -- `Type.IsUninitArray`
 unfoldable pub IsUninitArray : Ty Bytes → Bool

@@ -1,10 +1,11 @@
 // Shapes of the type that an encoding holds: RAST's yes-or-no answers, and where the parts that they speak of stand.
 #![tactic(auto)]
 
-ghost use Rattle.std.specs.Prelude.{◌≡◌, ◌≤◌, length};
-ghost use Rattle.rast.specs.Bytes.{◌or◌};
+ghost use Rattle.std.specs.Prelude.{Bool, ◌≡◌, ◌≤◌, length};
+ghost use Rattle.rast.specs.Bytes.{Bytes, ◌or◌};
+ghost use Rattle.rast.specs.Tree.{Ty};
 ghost use Rattle.encoding.specs.Words.{max_words};
-ghost use Rattle.encoding.specs.Refusals.{given, map_answer};
+ghost use Rattle.encoding.specs.Refusals.{map_answer};
 ghost use Rattle.encoding.specs.Reading.{whole};
 ghost use Rattle.encoding.specs.Tested.{Good};
 ghost use Rattle.encoding.specs.Types.{type_at, type_of};
@@ -12,25 +13,16 @@ ghost use Rattle.accepted_types.specs.Accepted.{Readable};
 ghost use Rattle.unwrap.specs.Asked.{Judges};
 ghost use Rattle.known_paths.specs.Asked.{Finds};
 ghost use Rattle.known_paths.specs.Matches.{unsized};
-ghost use Rattle.shapes.specs.Asked.{shape_answer};
 ghost use Rattle.shapes.specs.Accepted.{name_step, name_kind, acceptance};
 ghost use Rattle.shapes.specs.Parts.{removed_at, owned_at, BoxDynUnderlying, MultiArrayUnderlying, ObjectOrPointerUnderlying, GetBuiltinCollectionElement, uninit_element, ExtractMaybeUninitArrayElement};
 ghost use Rattle.shapes.specs.Shapes.{EndsWithNameThatCanAcceptGenerics, IsAutoSize, CanReadWithoutClone, IsRcOrBorrowedRc, IsMultiArray, IsMaybeUninit, IsUninitArray, IsBox, NeedsAsRefForBorrow, IsObject, IsPointer, IsObjectOrPointer, IsBuiltinCollection, IsRc, IsBoxDyn, uninit_cases};
 
+use encoding::Refusal;
 use encoding::words::{
     ARRAY, BOOL, BORROWED, BORROWED_MUT, COPY_SEMANTICS, DYN_TYPE, IMPL_TYPE, INTERSECTION_TYPE,
     PLAIN_KINDS, T_IDENTIFIER, T_META_DATA, T_SYNONYM, TYPE_FROM_PATH, USIZE,
 };
-use encoding::{Check, Refusal, Scan};
-use known_paths::{Class, Found};
-
-// A shape answer: yes, no, or the refusal.
-#[derive(Clone, Copy)]
-pub enum ShapeAnswer {
-    Yes,
-    No,
-    Refused(Refusal),
-}
+use known_paths::Class;
 
 // ---- on an accepted type: wrappers
 
@@ -70,7 +62,7 @@ pub fn owned(words: &[u32], pairs: &[u32], text: &[u8], at: usize) -> usize
 // ---- on an accepted type: parts
 
 // `MultiArrayUnderlying`
-pub fn multi_array_part(words: &[u32], pairs: &[u32], text: &[u8], at: usize) -> Found
+pub fn multi_array_part(words: &[u32], pairs: &[u32], text: &[u8], at: usize) -> Option<usize>
     requires { Good pairs.now text.now × Readable (type_at words.now pairs.now text.now at) }
     ensures { Finds MultiArrayUnderlying (type_at words.now pairs.now text.now) at result }
 {
@@ -84,67 +76,58 @@ pub fn multi_array_part(words: &[u32], pairs: &[u32], text: &[u8], at: usize) ->
 }
 
 // `ObjectOrPointerUnderlying`
-pub fn object_or_pointer_part(words: &[u32], pairs: &[u32], text: &[u8], at: usize) -> Found
+pub fn object_or_pointer_part(words: &[u32], pairs: &[u32], text: &[u8], at: usize) -> Option<usize>
     requires { Good pairs.now text.now × Readable (type_at words.now pairs.now text.now at) }
     ensures { Finds ObjectOrPointerUnderlying (type_at words.now pairs.now text.now) at result }
 {
     let place = unwrap::expand(words, pairs, text, at);
-    let Found::At(part) = known_paths::first_argument(words, pairs, text, Class::PtrClass, place)
-    else {
-        return known_paths::first_argument(words, pairs, text, Class::ObjectClass, place);
-    };
-    Found::At(part)
+    known_paths::first_argument(words, pairs, text, Class::PtrClass, place).or_else(
+        || known_paths::first_argument(words, pairs, text, Class::ObjectClass, place),
+    )
 }
 
 // `GetBuiltinCollectionElement`: of a Map the second argument
-pub fn collection_part(words: &[u32], pairs: &[u32], text: &[u8], at: usize) -> Found
+pub fn collection_part(words: &[u32], pairs: &[u32], text: &[u8], at: usize) -> Option<usize>
     requires { Good pairs.now text.now × Readable (type_at words.now pairs.now text.now at) }
     ensures { Finds GetBuiltinCollectionElement (type_at words.now pairs.now text.now) at result }
 {
     let place = unwrap::expand(words, pairs, text, at);
-    let Found::At(key) = known_paths::first_argument(words, pairs, text, Class::MapClass, place)
-    else {
+    let Some(key) = known_paths::first_argument(words, pairs, text, Class::MapClass, place) else {
         return known_paths::first_argument(words, pairs, text, Class::Collection, place);
     };
-    Found::At(accepted_types::skip_type(words, pairs, text, key))
+    Some(accepted_types::skip_type(words, pairs, text, key))
 }
 
 // `BoxDynUnderlying`
-pub fn box_dyn_part(words: &[u32], pairs: &[u32], text: &[u8], at: usize) -> Found
+pub fn box_dyn_part(words: &[u32], pairs: &[u32], text: &[u8], at: usize) -> Option<usize>
     requires { Good pairs.now text.now × Readable (type_at words.now pairs.now text.now at) }
     ensures { Finds BoxDynUnderlying (type_at words.now pairs.now text.now) at result }
 {
-    let Found::At(place) = known_paths::first_argument(words, pairs, text, Class::Boxed, at) else {
-        return Found::NoPart;
-    };
+    let place = known_paths::first_argument(words, pairs, text, Class::Boxed, at)?;
     if words[place] == DYN_TYPE {
-        return Found::At(place + 1);
+        return Some(place + 1);
     }
-    Found::NoPart
+    None
 }
 
 // The element of an array, or of a `MultiArray`, if it is `MaybeUninit`: what that holds.
-fn uninit_part(words: &[u32], pairs: &[u32], text: &[u8], at: usize) -> Found
+fn uninit_part(words: &[u32], pairs: &[u32], text: &[u8], at: usize) -> Option<usize>
     requires { Good pairs.now text.now × Readable (type_at words.now pairs.now text.now at) }
     ensures { Finds uninit_element (type_at words.now pairs.now text.now) at result }
 {
     if words[at] == ARRAY {
         return known_paths::first_argument(words, pairs, text, Class::Uninit, at + 2);
     }
-    let Found::At(place) = multi_array_part(words, pairs, text, at) else {
-        return Found::NoPart;
-    };
+    let place = multi_array_part(words, pairs, text, at)?;
     known_paths::first_argument(words, pairs, text, Class::Uninit, place)
 }
 
 // `ExtractMaybeUninitArrayElement`
-pub fn uninit_array_part(words: &[u32], pairs: &[u32], text: &[u8], at: usize) -> Found
+pub fn uninit_array_part(words: &[u32], pairs: &[u32], text: &[u8], at: usize) -> Option<usize>
     requires { Good pairs.now text.now × Readable (type_at words.now pairs.now text.now at) }
     ensures { Finds ExtractMaybeUninitArrayElement (type_at words.now pairs.now text.now) at result }
 {
-    let Found::At(place) = object_or_pointer_part(words, pairs, text, at) else {
-        return Found::NoPart;
-    };
+    let place = object_or_pointer_part(words, pairs, text, at)?;
     uninit_part(words, pairs, text, place)
 }
 
@@ -161,8 +144,7 @@ fn holds_uninit(words: &[u32], pairs: &[u32], text: &[u8], at: usize) -> bool
         }
         return false;
     }
-    let Found::At(place) = known_paths::first_argument(words, pairs, text, Class::ArrayClass, at)
-    else {
+    let Some(place) = known_paths::first_argument(words, pairs, text, Class::ArrayClass, at) else {
         return false;
     };
     known_paths::is_of(words, pairs, text, Class::Uninit, place)
@@ -173,7 +155,7 @@ fn is_uninit_array_at(words: &[u32], pairs: &[u32], text: &[u8], at: usize) -> b
     requires { Good pairs.now text.now × Readable (type_at words.now pairs.now text.now at) }
     ensures { Judges IsUninitArray (type_at words.now pairs.now text.now at) result }
 {
-    let Found::At(place) = object_or_pointer_part(words, pairs, text, at) else {
+    let Some(place) = object_or_pointer_part(words, pairs, text, at) else {
         return false;
     };
     holds_uninit(
@@ -231,11 +213,7 @@ fn name_step(kind: u32) -> usize
     ensures { result ≡ name_step kind }
 {
     match kind {
-        BORROWED => 1,
-        BORROWED_MUT => 1,
-        IMPL_TYPE => 1,
-        DYN_TYPE => 1,
-        T_SYNONYM => 1,
+        BORROWED | BORROWED_MUT | IMPL_TYPE | DYN_TYPE | T_SYNONYM => 1,
         T_META_DATA => 2,
         _ => 0,
     }
@@ -341,45 +319,44 @@ fn is_box_dyn_at(words: &[u32], pairs: &[u32], text: &[u8], at: usize) -> bool
     requires { Good pairs.now text.now × Readable (type_at words.now pairs.now text.now at) }
     ensures { Judges IsBoxDyn (type_at words.now pairs.now text.now at) result }
 {
-    known_paths::is_found(box_dyn_part(words, pairs, text, at))
+    box_dyn_part(words, pairs, text, at).is_some()
 }
 
 // ---- the public calls
 
 // Whether a type fills the words.
-fn accept_words(words: &[u32], pairs: &[u32], text: &[u8]) -> Check
+fn accept_words(words: &[u32], pairs: &[u32], text: &[u8]) -> Result<(), Refusal>
     requires { Good pairs.now text.now × (length words.now ≤ max_words) }
     ensures { result ≡ acceptance (whole (length words.now) (type_at words.now pairs.now text.now 0)) }
 {
-    match accept_type::accept_type(words, pairs, text, 0, 0) {
-        Scan::At(next) => {
-            if next != words.len() {
-                return Check::Failed(Refusal::LeftOver);
-            }
-            Check::Passed
-        }
-        Scan::Refused(r) => Check::Failed(r),
+    let next = accept_type::accept_type(words, pairs, text, 0, 0)?;
+    if next != words.len() {
+        return Err(Refusal::LeftOver);
     }
+    Ok(())
 }
 
 // Whether the encoding holds a type, or the refusal.
-pub fn accept(words: &[u32], pairs: &[u32], text: &[u8]) -> Check
+pub fn accept(words: &[u32], pairs: &[u32], text: &[u8]) -> Result<(), Refusal>
     ensures { result ≡ acceptance (type_of words.now pairs.now text.now) }
 {
-    match encoding::check_tables(words, pairs, text) {
-        Check::Passed => accept_words(words, pairs, text),
-        Check::Failed(r) => Check::Failed(r),
-    }
+    encoding::check_tables(words, pairs, text)?;
+    accept_words(words, pairs, text)
 }
 
-// What a call answers of an accepted type. Each call accepts and asks on its own: one function with all questions in it would have to hand everything on through memory.
-fn answer(yes: bool) -> ShapeAnswer
-    ensures { result ≡ shape_answer (given yes) }
+// What a question says of the type that the encoding holds, or the refusal.
+fn ask<F: FnOnce() -> bool>(
+    words: &[u32],
+    pairs: &[u32],
+    text: &[u8],
+    question: F,
+) -> Result<bool, Refusal>
+    requires { (Good pairs.now text.now × Readable (type_at words.now pairs.now text.now 0)) → F.pre question }
+    ensures { (asked : Ty Bytes → Bool) → ((b : Bool) → F.post question b → Judges asked (type_at words.now pairs.now text.now 0) b)
+        → result ≡ map_answer asked (type_of words.now pairs.now text.now) }
 {
-    if yes {
-        return ShapeAnswer::Yes;
-    }
-    ShapeAnswer::No
+    accept(words, pairs, text)?;
+    Ok(question())
 }
 
 // `EndsWithNameThatCanAcceptGenerics`
@@ -387,151 +364,121 @@ pub fn ends_with_name_that_can_accept_generics(
     words: &[u32],
     pairs: &[u32],
     text: &[u8],
-) -> ShapeAnswer
-    ensures { result ≡ shape_answer (map_answer EndsWithNameThatCanAcceptGenerics (type_of words.now pairs.now text.now)) }
+) -> Result<bool, Refusal>
+    ensures { result ≡ map_answer EndsWithNameThatCanAcceptGenerics (type_of words.now pairs.now text.now) }
 {
-    match accept(words, pairs, text) {
-        Check::Passed => answer(ends_with_name_at(words, pairs, text, 0)),
-        Check::Failed(r) => ShapeAnswer::Refused(r),
-    }
+    let question = || ends_with_name_at(words, pairs, text, 0);
+    ask(words, pairs, text, question)
 }
 
 // `IsAutoSize`
-pub fn is_auto_size(words: &[u32], pairs: &[u32], text: &[u8]) -> ShapeAnswer
-    ensures { result ≡ shape_answer (map_answer IsAutoSize (type_of words.now pairs.now text.now)) }
+pub fn is_auto_size(words: &[u32], pairs: &[u32], text: &[u8]) -> Result<bool, Refusal>
+    ensures { result ≡ map_answer IsAutoSize (type_of words.now pairs.now text.now) }
 {
-    match accept(words, pairs, text) {
-        Check::Passed => answer(is_auto_size_at(words, pairs, text, 0)),
-        Check::Failed(r) => ShapeAnswer::Refused(r),
-    }
+    let question = || is_auto_size_at(words, pairs, text, 0);
+    ask(words, pairs, text, question)
 }
 
 // `CanReadWithoutClone`
-pub fn can_read_without_clone(words: &[u32], pairs: &[u32], text: &[u8]) -> ShapeAnswer
-    ensures { result ≡ shape_answer (map_answer CanReadWithoutClone (type_of words.now pairs.now text.now)) }
+pub fn can_read_without_clone(words: &[u32], pairs: &[u32], text: &[u8]) -> Result<bool, Refusal>
+    ensures { result ≡ map_answer CanReadWithoutClone (type_of words.now pairs.now text.now) }
 {
-    match accept(words, pairs, text) {
-        Check::Passed => answer(can_read_at(words, pairs, text, 0)),
-        Check::Failed(r) => ShapeAnswer::Refused(r),
-    }
+    let question = || can_read_at(words, pairs, text, 0);
+    ask(words, pairs, text, question)
 }
 
 // `IsRcOrBorrowedRc`
-pub fn is_rc_or_borrowed_rc(words: &[u32], pairs: &[u32], text: &[u8]) -> ShapeAnswer
-    ensures { result ≡ shape_answer (map_answer IsRcOrBorrowedRc (type_of words.now pairs.now text.now)) }
+pub fn is_rc_or_borrowed_rc(words: &[u32], pairs: &[u32], text: &[u8]) -> Result<bool, Refusal>
+    ensures { result ≡ map_answer IsRcOrBorrowedRc (type_of words.now pairs.now text.now) }
 {
-    match accept(words, pairs, text) {
-        Check::Passed => answer(is_rc_or_borrowed_at(words, pairs, text, 0)),
-        Check::Failed(r) => ShapeAnswer::Refused(r),
-    }
+    let question = || is_rc_or_borrowed_at(words, pairs, text, 0);
+    ask(words, pairs, text, question)
 }
 
 // `IsMultiArray`
-pub fn is_multi_array(words: &[u32], pairs: &[u32], text: &[u8]) -> ShapeAnswer
-    ensures { result ≡ shape_answer (map_answer IsMultiArray (type_of words.now pairs.now text.now)) }
+pub fn is_multi_array(words: &[u32], pairs: &[u32], text: &[u8]) -> Result<bool, Refusal>
+    ensures { result ≡ map_answer IsMultiArray (type_of words.now pairs.now text.now) }
 {
-    match accept(words, pairs, text) {
-        Check::Passed => answer(is_multi_array_at(words, pairs, text, 0)),
-        Check::Failed(r) => ShapeAnswer::Refused(r),
-    }
+    let question = || is_multi_array_at(words, pairs, text, 0);
+    ask(words, pairs, text, question)
 }
 
 // `IsMaybeUninit`
-pub fn is_maybe_uninit(words: &[u32], pairs: &[u32], text: &[u8]) -> ShapeAnswer
-    ensures { result ≡ shape_answer (map_answer IsMaybeUninit (type_of words.now pairs.now text.now)) }
+pub fn is_maybe_uninit(words: &[u32], pairs: &[u32], text: &[u8]) -> Result<bool, Refusal>
+    ensures { result ≡ map_answer IsMaybeUninit (type_of words.now pairs.now text.now) }
 {
-    match accept(words, pairs, text) {
-        Check::Passed => answer(known_paths::is_of(words, pairs, text, Class::Uninit, 0)),
-        Check::Failed(r) => ShapeAnswer::Refused(r),
-    }
+    let question = || known_paths::is_of(words, pairs, text, Class::Uninit, 0);
+    ask(words, pairs, text, question)
 }
 
 // `IsUninitArray`
-pub fn is_uninit_array(words: &[u32], pairs: &[u32], text: &[u8]) -> ShapeAnswer
-    ensures { result ≡ shape_answer (map_answer IsUninitArray (type_of words.now pairs.now text.now)) }
+pub fn is_uninit_array(words: &[u32], pairs: &[u32], text: &[u8]) -> Result<bool, Refusal>
+    ensures { result ≡ map_answer IsUninitArray (type_of words.now pairs.now text.now) }
 {
-    match accept(words, pairs, text) {
-        Check::Passed => answer(is_uninit_array_at(words, pairs, text, 0)),
-        Check::Failed(r) => ShapeAnswer::Refused(r),
-    }
+    let question = || is_uninit_array_at(words, pairs, text, 0);
+    ask(words, pairs, text, question)
 }
 
 // `IsBox`
-pub fn is_box(words: &[u32], pairs: &[u32], text: &[u8]) -> ShapeAnswer
-    ensures { result ≡ shape_answer (map_answer IsBox (type_of words.now pairs.now text.now)) }
+pub fn is_box(words: &[u32], pairs: &[u32], text: &[u8]) -> Result<bool, Refusal>
+    ensures { result ≡ map_answer IsBox (type_of words.now pairs.now text.now) }
 {
-    match accept(words, pairs, text) {
-        Check::Passed => answer(known_paths::is_of(words, pairs, text, Class::Boxed, 0)),
-        Check::Failed(r) => ShapeAnswer::Refused(r),
-    }
+    let question = || known_paths::is_of(words, pairs, text, Class::Boxed, 0);
+    ask(words, pairs, text, question)
 }
 
 // `NeedsAsRefForBorrow`
-pub fn needs_as_ref_for_borrow(words: &[u32], pairs: &[u32], text: &[u8]) -> ShapeAnswer
-    ensures { result ≡ shape_answer (map_answer NeedsAsRefForBorrow (type_of words.now pairs.now text.now)) }
+pub fn needs_as_ref_for_borrow(words: &[u32], pairs: &[u32], text: &[u8]) -> Result<bool, Refusal>
+    ensures { result ≡ map_answer NeedsAsRefForBorrow (type_of words.now pairs.now text.now) }
 {
-    match accept(words, pairs, text) {
-        Check::Passed => answer(needs_as_ref_at(words, pairs, text, 0)),
-        Check::Failed(r) => ShapeAnswer::Refused(r),
-    }
+    let question = || needs_as_ref_at(words, pairs, text, 0);
+    ask(words, pairs, text, question)
 }
 
 // `IsObject`
-pub fn is_object(words: &[u32], pairs: &[u32], text: &[u8]) -> ShapeAnswer
-    ensures { result ≡ shape_answer (map_answer IsObject (type_of words.now pairs.now text.now)) }
+pub fn is_object(words: &[u32], pairs: &[u32], text: &[u8]) -> Result<bool, Refusal>
+    ensures { result ≡ map_answer IsObject (type_of words.now pairs.now text.now) }
 {
-    match accept(words, pairs, text) {
-        Check::Passed => answer(known_paths::is_of(words, pairs, text, Class::ObjectClass, 0)),
-        Check::Failed(r) => ShapeAnswer::Refused(r),
-    }
+    let question = || known_paths::is_of(words, pairs, text, Class::ObjectClass, 0);
+    ask(words, pairs, text, question)
 }
 
 // `IsPointer`
-pub fn is_pointer(words: &[u32], pairs: &[u32], text: &[u8]) -> ShapeAnswer
-    ensures { result ≡ shape_answer (map_answer IsPointer (type_of words.now pairs.now text.now)) }
+pub fn is_pointer(words: &[u32], pairs: &[u32], text: &[u8]) -> Result<bool, Refusal>
+    ensures { result ≡ map_answer IsPointer (type_of words.now pairs.now text.now) }
 {
-    match accept(words, pairs, text) {
-        Check::Passed => answer(known_paths::is_of(words, pairs, text, Class::PtrClass, 0)),
-        Check::Failed(r) => ShapeAnswer::Refused(r),
-    }
+    let question = || known_paths::is_of(words, pairs, text, Class::PtrClass, 0);
+    ask(words, pairs, text, question)
 }
 
 // `IsObjectOrPointer`
-pub fn is_object_or_pointer(words: &[u32], pairs: &[u32], text: &[u8]) -> ShapeAnswer
-    ensures { result ≡ shape_answer (map_answer IsObjectOrPointer (type_of words.now pairs.now text.now)) }
+pub fn is_object_or_pointer(words: &[u32], pairs: &[u32], text: &[u8]) -> Result<bool, Refusal>
+    ensures { result ≡ map_answer IsObjectOrPointer (type_of words.now pairs.now text.now) }
 {
-    match accept(words, pairs, text) {
-        Check::Passed => answer(is_object_or_pointer_at(words, pairs, text, 0)),
-        Check::Failed(r) => ShapeAnswer::Refused(r),
-    }
+    let question = || is_object_or_pointer_at(words, pairs, text, 0);
+    ask(words, pairs, text, question)
 }
 
 // `IsBuiltinCollection`
-pub fn is_builtin_collection(words: &[u32], pairs: &[u32], text: &[u8]) -> ShapeAnswer
-    ensures { result ≡ shape_answer (map_answer IsBuiltinCollection (type_of words.now pairs.now text.now)) }
+pub fn is_builtin_collection(words: &[u32], pairs: &[u32], text: &[u8]) -> Result<bool, Refusal>
+    ensures { result ≡ map_answer IsBuiltinCollection (type_of words.now pairs.now text.now) }
 {
-    match accept(words, pairs, text) {
-        Check::Passed => answer(is_collection_at(words, pairs, text, 0)),
-        Check::Failed(r) => ShapeAnswer::Refused(r),
-    }
+    let question = || is_collection_at(words, pairs, text, 0);
+    ask(words, pairs, text, question)
 }
 
 // `IsRc`
-pub fn is_rc(words: &[u32], pairs: &[u32], text: &[u8]) -> ShapeAnswer
-    ensures { result ≡ shape_answer (map_answer IsRc (type_of words.now pairs.now text.now)) }
+pub fn is_rc(words: &[u32], pairs: &[u32], text: &[u8]) -> Result<bool, Refusal>
+    ensures { result ≡ map_answer IsRc (type_of words.now pairs.now text.now) }
 {
-    match accept(words, pairs, text) {
-        Check::Passed => answer(known_paths::is_of(words, pairs, text, Class::Counted, 0)),
-        Check::Failed(r) => ShapeAnswer::Refused(r),
-    }
+    let question = || known_paths::is_of(words, pairs, text, Class::Counted, 0);
+    ask(words, pairs, text, question)
 }
 
 // `IsBoxDyn`
-pub fn is_box_dyn(words: &[u32], pairs: &[u32], text: &[u8]) -> ShapeAnswer
-    ensures { result ≡ shape_answer (map_answer IsBoxDyn (type_of words.now pairs.now text.now)) }
+pub fn is_box_dyn(words: &[u32], pairs: &[u32], text: &[u8]) -> Result<bool, Refusal>
+    ensures { result ≡ map_answer IsBoxDyn (type_of words.now pairs.now text.now) }
 {
-    match accept(words, pairs, text) {
-        Check::Passed => answer(is_box_dyn_at(words, pairs, text, 0)),
-        Check::Failed(r) => ShapeAnswer::Refused(r),
-    }
+    let question = || is_box_dyn_at(words, pairs, text, 0);
+    ask(words, pairs, text, question)
 }

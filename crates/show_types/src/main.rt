@@ -10,7 +10,6 @@ use encoding::words::{
     T_IDENTIFIER, T_SYNONYM, TUPLE_TYPE, TYPE_APP, TYPE_FROM_PATH, U8,
 };
 use std::io;
-use text_calls::TextAnswer;
 
 // A pair is where a name starts in the text, and its length. These are `Gauge`, `Meters` and `4`.
 const PAIRS: [u32; 6] = [0, 5, 5, 6, 11, 1];
@@ -51,8 +50,8 @@ fn show(rt: &impl Print, what: &str, words: &[u32]) -> io::Result<()> {
     let mut buffer = [0u8; 64];
     print!(rt; "{what}: ")?;
     match text_calls::type_text(words, &PAIRS, names, 0, &mut buffer) {
-        TextAnswer::Length(n) => print(rt, &buffer[..n])?,
-        TextAnswer::Refused(r) => print!(rt; "refused {}", encoding::refusal_number(r))?,
+        Ok(n) => print(rt, &buffer[..n])?,
+        Err(r) => print!(rt; "refused {}", u32::from(r))?,
     }
     print(rt, b"\n")
 }

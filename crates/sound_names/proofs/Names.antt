@@ -1,9 +1,9 @@
 -- Laws of words, of the words that are no names, and of names and sizes.
+use Rattle.std.specs.Prelude.{Some}
 use Prim.Native.Nat.{ℕ, zero, suc, ◌+◌, ◌-◌, ◌≤◌, ◌<◌}
 use mathlib.Core.Path.{◌≡◌, refl, ap, sym, ◌∙◌}
 use mathlib.Core.Bool.{Bool, true, false, not}
 use mathlib.Core.List.{List, [], ◌∷◌}
-use mathlib.Core.Option.{some}
 use native.Mathlib.Omega.{arith}
 use native.Mathlib.Numerals.{add-one}
 use borrow.Author.Tests.{eqb-true, eqb-false, ltb-true, ltb-false, ne_eqb, leb-true}
@@ -172,22 +172,22 @@ size-fixed pairs text s h =
     rw (name-fixed pairs text (s - 1) (omega arith))
     (every-agree (λ i. sound_size (size_of (λ x. get_or fixed_names x []) i)) (λ i. not (eqb i 1)) 17 refl s h)
 
-pub size-named : (name : ℕ → Bytes) (s : ℕ) → 0 < s → size_of name s ≡ some (name (s - 1))
+pub size-named : (name : ℕ → Bytes) (s : ℕ) → 0 < s → size_of name s ≡ Some (name (s - 1))
 unfolding size_of
 size-named name s h = rw (ne_eqb s 0 (omega arith))
 
-pub size-empty : (l : Bytes) → length l ≡ 0 → sound_size (some l) ≡ false
+pub size-empty : (l : Bytes) → length l ≡ 0 → sound_size (Some l) ≡ false
 unfolding sound_size
 size-empty [] h = refl
 size-empty (x ∷ l) h = absurd (let z : ⊥ = omega arith in z)
 
-pub size-some : (l : Bytes) → 0 < length l → sound_size (some l) ≡ each is_word_byte l
+pub size-some : (l : Bytes) → 0 < length l → sound_size (Some l) ≡ each is_word_byte l
 unfolding sound_size each
 size-some [] h = absurd (let z : ⊥ = omega arith in z)
 size-some (x ∷ l) h = refl
 
 -- a sound name is a sound size
-pub size-of-name : (l : Bytes) → sound_name l ≡ true → sound_size (some l) ≡ true
+pub size-of-name : (l : Bytes) → sound_name l ≡ true → sound_size (Some l) ≡ true
 unfolding sound_name is_word sound_size ◌and◌
 size-of-name [] e = impossible (cc)
 size-of-name (x ∷ l) e = go (is_word_start x) refl (each is_word_byte l) e

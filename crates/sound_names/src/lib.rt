@@ -48,12 +48,10 @@ fn is_word_byte(b: u8) -> bool
 fn all_word_bytes(bytes: &[u8]) -> bool
     ensures { result ≡ each is_word_byte bytes.now }
 {
-    let mut i = 0;
-    while i < bytes.len() {
-        if !is_word_byte(bytes[i]) {
+    for &b in bytes {
+        if !is_word_byte(b) {
             return false;
         }
-        i += 1;
     }
     true
 }
@@ -87,10 +85,8 @@ fn sixteen_word_bytes(text: &[u8], at: usize) -> bool
     ensures { result ≡ true → WordBytes text.now at (at + 16) }
 {
     let mut sum = 0u8;
-    let mut j = 0;
-    while j < 16 {
+    for j in 0..16 {
         sum += strange(text[at + j]);
-        j += 1;
     }
     sum == 0
 }
@@ -101,15 +97,13 @@ fn are_word_bytes(text: &[u8], start: usize, end: usize) -> bool
     requires { (start ≤ end) × (end ≤ length text.now) }
     ensures { result ≡ each is_word_byte (take (end - start) (drop start text.now)) }
 {
-    let mut i = start;
-    while i < end {
+    for i in (start..end).step_by(16) {
         if text.len() - i < 16 {
             return all_word_bytes(encoding::part(text, i, end));
         }
         if !sixteen_word_bytes(text, i) {
             return all_word_bytes(encoding::part(text, i, end));
         }
-        i += 16;
     }
     true
 }
@@ -168,12 +162,10 @@ fn is_listed(bytes: &[u8]) -> bool
     let all = *b"u8u16u32u64u128i8i16i32i64i128usizeboolmutimpldyncrateSelf";
     let starts = STARTS;
     let lengths = LENGTHS;
-    let mut k = 0;
-    while k < 17 {
+    for k in 0..17 {
         if is_excluded_word(&all, &starts, &lengths, bytes, k) {
             return true;
         }
-        k += 1;
     }
     false
 }

@@ -1,42 +1,35 @@
 -- What acceptance says of a type that is not sound.
+use Rattle.std.specs.Prelude.{Ok, Err, Result}
 use Prim.Native.Nat.{ℕ}
-use mathlib.Core.Path.{◌≡◌}
-use mathlib.Core.Bool.{false}
-use borrow.Author.Tests.{eq-eqb, ne_eqb}
+use mathlib.Core.Path.{◌≡◌, refl}
+use mathlib.Core.Bool.{Bool, true, false}
+use lib.Dec.{eqb}
 use Rattle.rast.specs.Bytes.{Bytes}
 use Rattle.rast.specs.Tree.{Ty}
 use Rattle.encoding.specs.declared.Refusal.{Refusal}
 use Rattle.encoding.specs.declared.Refusal.TheVariants.{LeftOver}
-use Rattle.encoding.specs.Refusals.{map_answer}
+use Rattle.encoding.specs.Refusals.{pick, map_answer}
 use Rattle.encoding.specs.Reading.{Reading, got, stop, whole}
 use Rattle.encoding.proofs.Tables.{impossible}
-use Rattle.encoding.specs.declared.Scan.{Scan}
-use Rattle.encoding.specs.declared.Scan.TheVariants.{At, Refused as Unread}
 use Rattle.encoding.specs.Scans.{ended}
-use Rattle.sound_type.specs.declared.SoundAnswer.TheVariants.{Unsound, Refused}
-use Rattle.sound_type.specs.Calls.{sound_answer}
 
-module _ (size : ℕ) (x : Reading (Ty Bytes)) {a : Scan} (said : a ≡ ended x) where
-  pub whole-denied : {r : Refusal} → a ≡ Unread r → sound_answer (map_answer (λ t. false) (whole size x)) ≡ Refused r
+module _ (size : ℕ) (x : Reading (Ty Bytes)) {a : Result ℕ Refusal} (said : a ≡ ended x) where
+  pub whole-denied : {r : Refusal} → a ≡ Err r → map_answer (λ t. false) (whole size x) ≡ Err r
   unfolding map_answer whole
   whole-denied {r} d = go x said
     where
-      go : (y : Reading (Ty Bytes)) → a ≡ ended y → sound_answer (map_answer (λ t. false) (whole size y)) ≡ Refused r
+      go : (y : Reading (Ty Bytes)) → a ≡ ended y → map_answer (λ t. false) (whole size y) ≡ Err r
       go (got t n) e = impossible (cc)
       go (stop k) e = let f : k ≡ r = cc in rw f
 
-  pub whole-left : {n : ℕ} → a ≡ At n → (n ≡ size → ⊥) → sound_answer (map_answer (λ t. false) (whole size x)) ≡ Refused LeftOver
+  pub whole-accepted : {n : ℕ} → a ≡ Ok n → whole size (got false n) ≡ map_answer (λ t. false) (whole size x)
   unfolding map_answer whole
-  whole-left {n} d h = go x said
+  whole-accepted {n} d = go x said
     where
-      go : (y : Reading (Ty Bytes)) → a ≡ ended y → sound_answer (map_answer (λ t. false) (whole size y)) ≡ Refused LeftOver
-      go (got t m) e = let f : m ≡ n = cc in rw (f, ne_eqb n size h)
-      go (stop k) e = impossible (cc)
+      last : (t : Ty Bytes) (c : Bool) → pick c (Ok false) (Err LeftOver) ≡ map_answer (λ t. false) (pick c (Ok t) (Err LeftOver))
+      last t true = refl
+      last t false = refl
 
-  pub whole-ended : {n : ℕ} → a ≡ At n → n ≡ size → sound_answer (map_answer (λ t. false) (whole size x)) ≡ Unsound
-  unfolding map_answer whole
-  whole-ended {n} d h = go x said
-    where
-      go : (y : Reading (Ty Bytes)) → a ≡ ended y → sound_answer (map_answer (λ t. false) (whole size y)) ≡ Unsound
-      go (got t m) e = let f : m ≡ n = cc in rw (f, eq-eqb n size h)
+      go : (y : Reading (Ty Bytes)) → a ≡ ended y → whole size (got false n) ≡ map_answer (λ t. false) (whole size y)
+      go (got t m) e = let f : m ≡ n = cc in rw f (last t (eqb n size))
       go (stop k) e = impossible (cc)

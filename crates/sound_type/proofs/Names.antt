@@ -1,4 +1,5 @@
 -- Laws of what is judged, and of names that were found sound.
+use Rattle.std.specs.Prelude.{Result, Ok, Err}
 use Prim.Native.Nat.{ℕ, zero, suc, ◌-◌, ◌%◌, ◌≤◌, ◌<◌}
 use mathlib.Core.Path.{◌≡◌, refl, ap, sym, ◌∙◌, subst}
 use mathlib.Core.Bool.{Bool, true, false}
@@ -10,11 +11,11 @@ use lib.ListN.{get_or, set, replicate, length-set}
 use lib.Seq.{get_or-set_same, get_or-set_other}
 use Rattle.rast.specs.Bytes.{Bytes}
 use Rattle.rast.specs.Sound.{sound_name, sound_size}
+use Rattle.encoding.specs.declared.Refusal.{Refusal}
+use Rattle.encoding.specs.declared.Refusal.TheVariants.{UnknownWord}
 use Rattle.encoding.specs.Refusals.{pick}
 use Rattle.encoding.specs.Tables.{name_bytes, name_count}
 use Rattle.encoding.specs.Types.{size_of}
-use Rattle.sound_type.specs.declared.NameCheck.{NameCheck}
-use Rattle.sound_type.specs.declared.NameCheck.TheVariants.{Fine, Poor, NoName}
 use Rattle.sound_type.specs.Judging.{Known, unless_judged, NameChecked, fine, poor, no_name}
 use Rattle.encoding.proofs.Tables.{impossible}
 use Rattle.sound_names.proofs.Names.{fixed-sound, size-named, size-of-name}
@@ -92,20 +93,20 @@ known-fixed pairs text k i h l =
 -- ---- a name, as it was found
 
 module _ {pairs : List ℕ} {text : Bytes} {x : ℕ} where
-  pub was-fine : {r : NameCheck} → NameChecked pairs text x r → r ≡ Fine → (x < name_count pairs) × (sound_name (name_bytes pairs text x) ≡ true)
+  pub was-fine : {r : Result Bool Refusal} → NameChecked pairs text x r → r ≡ Ok true → (x < name_count pairs) × (sound_name (name_bytes pairs text x) ≡ true)
   was-fine (fine h s) d = (h, s)
   was-fine (poor s) d = impossible (cc)
   was-fine (no_name h) d = impossible (cc)
 
-  pub was-poor : {r : NameCheck} → NameChecked pairs text x r → r ≡ Poor → sound_name (name_bytes pairs text x) ≡ false
+  pub was-poor : {r : Result Bool Refusal} → NameChecked pairs text x r → r ≡ Ok false → sound_name (name_bytes pairs text x) ≡ false
   was-poor (fine h s) d = impossible (cc)
   was-poor (poor s) d = s
   was-poor (no_name h) d = impossible (cc)
 
-  pub was-no-name : {r : NameCheck} → NameChecked pairs text x r → r ≡ NoName → name_count pairs ≤ x
+  pub was-no-name : {r : Result Bool Refusal} {k : Refusal} → NameChecked pairs text x r → r ≡ Err k → (name_count pairs ≤ x) × (k ≡ UnknownWord)
   was-no-name (fine h s) d = impossible (cc)
   was-no-name (poor s) d = impossible (cc)
-  was-no-name (no_name h) d = h
+  was-no-name (no_name h) d = (h, cc)
 
 pub judged-size : (name : ℕ → Bytes) (s ask : ℕ) → 0 < s → sound_name (name (s - 1)) ≡ true → unless_judged ask (sound_size (size_of name s)) ≡ true
 judged-size name s ask h e = judged-sound ask (ap sound_size (size-named name s h) ∙ size-of-name _ e)

@@ -1,4 +1,5 @@
 -- Laws of paths.
+use Rattle.std.specs.Prelude.{Result, Ok, Err}
 use Prim.Native.Nat.{ℕ, ◌+◌, ◌-◌, ◌≤◌, ◌<◌}
 use mathlib.Core.Path.{◌≡◌, refl, ap, sym, ◌∙◌, subst}
 use mathlib.Core.Bool.{Bool, true, false, not}
@@ -26,7 +27,7 @@ use Rattle.text_measure.specs.Lengths.{worded, names_path, head_of_path}
 use Rattle.text_measure.proofs.PathNames.{part-next, part_none, NamesTo, names-on, names-halt, names-all}
 use Rattle.buffer.proofs.Laws.{part_length}
 use Rattle.sound_type.specs.declared.OwnScan.{OwnScan}
-use Rattle.sound_type.specs.declared.OwnScan.TheVariants.{Leaf, NotSound, NoNode}
+use Rattle.sound_type.specs.declared.OwnScan.TheVariants.{Leaf, NotSound}
 use Rattle.sound_type.specs.Judging.{all_names_sound, unless_judged, NamesOnward, words_sound, head_sound, Scanned, not_sound, root_scan}
 use Rattle.encoding.proofs.Names.{part-to}
 use Rattle.sound_type.proofs.Names.{judged-sound}
@@ -162,14 +163,14 @@ module _ (ws pairs : List ℕ) (text : Bytes) (ask : ℕ) (p : PathAt) (some : 0
   counted = omega arith
 
   module _ {i : ℕ} (o : NamesOnward (name_count pairs) ws (name_bytes pairs text) ask p.start (p.start + p.count) i) where
-    pub path-leaf : i ≡ p.start + p.count → {r : OwnScan} → r ≡ Leaf (p.start + p.count) → Scanned ws pairs text ask (head_of_path (names_path (name_count pairs) ws p)) r
+    pub path-leaf : i ≡ p.start + p.count → {r : OwnScan} → r ≡ Leaf (p.start + p.count) → Scanned ws pairs text ask (head_of_path (names_path (name_count pairs) ws p)) (Ok r)
     unfolding names_path
     path-leaf e d =
         let n = rw counted at (onward-end (name_count pairs) ws (name_bytes pairs text) ask p.start (p.start + p.count) o e) in
         scanned-leaf ws pairs text ask (FromPath p) (rw n) d refl
         (path-fits (omega (arith, o.inside)) ∙ onward-fit (name_count pairs) ws (name_bytes pairs text) ask p.start (p.start + p.count) o e)
 
-    pub path-stop : i < p.start + p.count → {k : Refusal} → read_below (name_count pairs) ws i ≡ stop k → {r : OwnScan} → r ≡ NoNode k
+    pub path-stop : i < p.start + p.count → {k : Refusal} → read_below (name_count pairs) ws i ≡ stop k → {r : Result OwnScan Refusal} → r ≡ Err k
         → Scanned ws pairs text ask (head_of_path (names_path (name_count pairs) ws p)) r
     unfolding names_path
     path-stop h e d =
@@ -177,7 +178,7 @@ module _ (ws pairs : List ℕ) (text : Bytes) (ask : ℕ) (p : PathAt) (some : 0
         scanned-stop ws pairs text ask (rw n) d
 
     pub path-poor : i < p.start + p.count → i < length ws → unless_judged ask (sound_name (name_bytes pairs text (get_or ws i 0))) ≡ false → {r : OwnScan} → r ≡ NotSound
-        → Scanned ws pairs text ask (head_of_path (names_path (name_count pairs) ws p)) r
+        → Scanned ws pairs text ask (head_of_path (names_path (name_count pairs) ws p)) (Ok r)
     unfolding names_path
     path-poor h k s d =
         rw d (not_sound (λ g n e.
@@ -189,12 +190,12 @@ module _ (ws pairs : List ℕ) (text : Bytes) (ask : ℕ) (p : PathAt) (some : 0
 
 -- a path with no names
 pub path-root : (ws pairs : List ℕ) (text : Bytes) (ask : ℕ) (p : PathAt) → p.count ≡ 0 → {r : OwnScan} → r ≡ root_scan p.root p.start ask
-    → Scanned ws pairs text ask (head_of_path (names_path (name_count pairs) ws p)) r
+    → Scanned ws pairs text ask (head_of_path (names_path (name_count pairs) ws p)) (Ok r)
 unfolding names_path read_names head_sound words_sound unless_judged ◌and◌
 path-root ws pairs text ask p e d = rw d (go (eqb p.root 0) (eqb ask 0) refl refl (rw e))
   where
     go : (t u : Bool) → eqb p.root 0 ≡ t → eqb ask 0 ≡ u → head_of_path (names_path (name_count pairs) ws p) ≡ got (FromPath p) p.start
-        → Scanned ws pairs text ask (head_of_path (names_path (name_count pairs) ws p)) (pick t (pick u (Leaf p.start) NotSound) (Leaf p.start))
+        → Scanned ws pairs text ask (head_of_path (names_path (name_count pairs) ws p)) (Ok (pick t (pick u (Leaf p.start) NotSound) (Leaf p.start)))
     go true true i j read = scanned-leaf ws pairs text ask (FromPath p) read refl refl (rw j)
     go true false i j read = scanned-unsound ws pairs text ask (FromPath p) read refl (rw (j, path-bare ws (name_bytes pairs text) p e, i))
     go false true i j read = scanned-leaf ws pairs text ask (FromPath p) read refl refl (rw j)
@@ -204,12 +205,12 @@ path-root ws pairs text ask p e d = rw d (go (eqb p.root 0) (eqb ask 0) refl ref
 
 module _ (ws pairs : List ℕ) (text : Bytes) (ask at : ℕ) (here : at < length ws) where
   pub name-leaf : get_or ws at 0 < name_count pairs → unless_judged ask (sound_name (name_bytes pairs text (get_or ws at 0))) ≡ true
-      → {r : OwnScan} → r ≡ Leaf (at + 1) → Scanned ws pairs text ask (worded Name (read_below (name_count pairs) ws at)) r
+      → {r : OwnScan} → r ≡ Leaf (at + 1) → Scanned ws pairs text ask (worded Name (read_below (name_count pairs) ws at)) (Ok r)
   unfolding head_sound words_sound ◌and◌
   name-leaf b s d = scanned-leaf ws pairs text ask (Name _) (ap (worded Name) (below_in (name_count pairs) ws at here b)) d refl s
 
   pub name-poor : unless_judged ask (sound_name (name_bytes pairs text (get_or ws at 0))) ≡ false
-      → {r : OwnScan} → r ≡ NotSound → Scanned ws pairs text ask (worded Name (read_below (name_count pairs) ws at)) r
+      → {r : OwnScan} → r ≡ NotSound → Scanned ws pairs text ask (worded Name (read_below (name_count pairs) ws at)) (Ok r)
   unfolding head_sound words_sound ◌and◌
   name-poor s d =
       rw d (not_sound (λ g n e.
@@ -218,5 +219,5 @@ module _ (ws pairs : List ℕ) (text : Bytes) (ask at : ℕ) (here : at < length
       rw (t.made, lies.same) s))
 
   pub name-unknown : name_count pairs ≤ get_or ws at 0
-      → {r : OwnScan} → r ≡ NoNode UnknownWord → Scanned ws pairs text ask (worded Name (read_below (name_count pairs) ws at)) r
+      → {r : Result OwnScan Refusal} → r ≡ Err UnknownWord → Scanned ws pairs text ask (worded Name (read_below (name_count pairs) ws at)) r
   name-unknown b d = scanned-stop ws pairs text ask (ap (worded Name) (below_out (name_count pairs) ws at here b)) d

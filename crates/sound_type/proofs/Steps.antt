@@ -1,4 +1,5 @@
 -- The steps of the pass, as the code makes them.
+use Rattle.std.specs.Prelude.{Result, Ok, Err}
 use Prim.Native.Nat.{ℕ, suc, ◌+◌, ◌-◌, ◌^◌, ◌≤◌, ◌<◌}
 use mathlib.Core.Path.{◌≡◌, refl, sym, ◌∙◌}
 use mathlib.Core.Bool.{Bool, true, false}
@@ -12,9 +13,8 @@ use Rattle.rast.specs.Sound.{sound}
 use Rattle.rast.proofs.BytesLaws.{and-true}
 use Rattle.encoding.specs.declared.Refusal.{Refusal}
 use Rattle.encoding.specs.declared.Refusal.TheVariants.{TooDeep, LeftOver}
-use Rattle.encoding.specs.declared.Check.TheVariants.{Passed}
 use Rattle.encoding.specs.declared.Head.{Head}
-use Rattle.encoding.specs.Refusals.{pick, given, refused, map_answer}
+use Rattle.encoding.specs.Refusals.{pick, map_answer}
 use Rattle.encoding.specs.Reading.{Reading, got, stop, ◌>>=◌, whole}
 use Rattle.encoding.specs.Tables.{name_bytes, name_count, check_tables}
 use Rattle.encoding.specs.Tested.{Good}
@@ -24,12 +24,10 @@ use Rattle.encoding.proofs.Inside.{HeadLies, head-lies}
 use Rattle.encoding.proofs.Tables.{impossible, tables-passed}
 use Rattle.text_measure.specs.Levels.{stacked}
 use Rattle.text_measure.proofs.Rests.{stacked-push, stacked-top}
-use Rattle.sound_type.specs.declared.SoundAnswer.TheVariants.{Refused}
 use Rattle.sound_type.specs.declared.Pass.{Pass}
 use Rattle.sound_type.specs.declared.Step.{Step}
-use Rattle.sound_type.specs.declared.Step.TheVariants.{On, Ended, Unfit, Halt}
+use Rattle.sound_type.specs.declared.Step.TheVariants.{On, Ended, Unfit}
 use Rattle.sound_type.specs.Judging.{TablesReady, unless_judged, shape_fits, sound_as, sound_rest, head_sound, levels_at, rest_at, levels_of, rest_of, behind_of, leaving, next_type, under, pushed, Outward, Kept, Stepped, on, ended, unfit, halt}
-use Rattle.sound_type.specs.Calls.{sound_answer}
 use Rattle.sound_type.proofs.Rests.{level-ended, level-next, rest-deep, rest-stop, rest-leaf, rest-down, rest-unsound}
 use Rattle.sound_type.proofs.Scans.{OwnLeaf, OwnNode}
 
@@ -61,7 +59,7 @@ module _ (levels : List ℕ) (p : Pass) where
 -- ---- a step
 
 module _ (ws pairs : List ℕ) (text : Bytes) (good : Good pairs text) (levels : List ℕ) (p : Pass) (kept : Kept ws levels p) where
-  pub step-deep : p.depth ≡ 64 → Stepped ws pairs text levels p levels (Halt TooDeep)
+  pub step-deep : p.depth ≡ 64 → Stepped ws pairs text levels p levels (Err TooDeep)
   unfolding rest_of
   step-deep e = halt {r = TooDeep} (rw e (rest-deep ws pairs text good p.ask (p.rest ∷ stacked levels 64) p.place))
 
@@ -69,13 +67,13 @@ module _ (ws pairs : List ℕ) (text : Bytes) (good : Good pairs text) (levels :
     deeper : 64 - p.depth ≡ suc (64 - (p.depth + 1))
     deeper = omega arith
 
-    pub step-stop : {r : Refusal} → read_head (name_count pairs) ws p.place ≡ stop r → Stepped ws pairs text levels p levels (Halt r)
+    pub step-stop : {r : Refusal} → read_head (name_count pairs) ws p.place ≡ stop r → Stepped ws pairs text levels p levels (Err r)
     unfolding rest_of
     step-stop {r} e = halt {r = r} (rw deeper (rest-stop ws pairs text good (64 - (p.depth + 1)) p.ask (levels_of levels p) p.place e))
 
     -- a head that is not sound, or a refusal
     pub step-unsound : ((h : Head) (n : ℕ) → read_head (name_count pairs) ws p.place ≡ got h n → head_sound ws (name_bytes pairs text) p.ask h ≡ false)
-        → Stepped ws pairs text levels p levels Unfit
+        → Stepped ws pairs text levels p levels (Ok Unfit)
     unfolding rest_of
     step-unsound u = unfit (rw deeper (go (read_head (name_count pairs) ws p.place) refl))
       where
@@ -96,10 +94,10 @@ module _ (ws pairs : List ℕ) (text : Bytes) (good : Good pairs text) (levels :
       head-leaf = rw deeper (rest-leaf ws pairs text good (64 - (p.depth + 1)) p.ask (levels_of levels p) p.place o.head o.read o.no_kids o.sound)
 
       module _ {q : Pass} (w : Outward levels p q) where
-        pub step-ended : q.rest < 4 → q.depth ≡ 0 → Stepped ws pairs text levels p levels (Ended n)
+        pub step-ended : q.rest < 4 → q.depth ≡ 0 → Stepped ws pairs text levels p levels (Ok (Ended n))
         step-ended h e = ended {n = n} (head-leaf ∙ sym (w.behind ws pairs text n) ∙ behind-none levels q h e ws pairs text n)
 
-        pub step_past : 4 ≤ q.rest → {r : Pass} → r ≡ next_type q n → Stepped ws pairs text levels p levels (On r)
+        pub step_past : 4 ≤ q.rest → {r : Pass} → r ≡ next_type q n → Stepped ws pairs text levels p levels (Ok (On r))
         unfolding rest_of behind_of
         step_past h same =
             let b = w.behind ws pairs text n in
@@ -108,7 +106,7 @@ module _ (ws pairs : List ℕ) (text : Bytes) (good : Good pairs text) (levels :
 
     -- a head with types behind it
     pub step-under : length ws ≤ 8192 → {n a l : ℕ} → OwnNode ws pairs text p.ask (read_head (name_count pairs) ws p.place) n a l
-        → {levels' : List ℕ} {q : Pass} → levels' ≡ pushed levels p → q ≡ under p n a l → Stepped ws pairs text levels p levels' (On q)
+        → {levels' : List ℕ} {q : Pass} → levels' ≡ pushed levels p → q ≡ under p n a l → Stepped ws pairs text levels p levels' (Ok (On q))
     unfolding rest_of
     step-under fits {n} {a} {l} o same-levels same =
         let lies = head-lies (name_count pairs) ws p.place o.read in
@@ -121,26 +119,26 @@ module _ (ws pairs : List ℕ) (text : Bytes) (good : Good pairs text) (levels :
 -- ---- what a step says
 
 module _ {ws pairs : List ℕ} {text : Bytes} {levels : List ℕ} {p : Pass} {levels' : List ℕ} where
-  pub went_on : {r : Step} {q : Pass} → Stepped ws pairs text levels p levels' r → r ≡ On q
+  pub went_on : {r : Result Step Refusal} {q : Pass} → Stepped ws pairs text levels p levels' r → r ≡ Ok (On q)
       → Kept ws levels' q × (rest_of ws pairs text levels' q ≡ rest_of ws pairs text levels p) × (p.place < q.place)
   went_on {q = q} (on {p'} k e l) d = let f : q ≡ p' = cc in rw f (k, e, l)
   went_on (ended e) d = impossible (cc)
   went_on (unfit u) d = impossible (cc)
   went_on (halt e) d = impossible (cc)
 
-  pub came-to-end : {r : Step} {n : ℕ} → Stepped ws pairs text levels p levels' r → r ≡ Ended n → rest_of ws pairs text levels p ≡ got true n
+  pub came-to-end : {r : Result Step Refusal} {n : ℕ} → Stepped ws pairs text levels p levels' r → r ≡ Ok (Ended n) → rest_of ws pairs text levels p ≡ got true n
   came-to-end (on k e l) d = impossible (cc)
   came-to-end {n = n'} (ended {n} e) d = let f : n ≡ n' = cc in rw f at e
   came-to-end (unfit u) d = impossible (cc)
   came-to-end (halt e) d = impossible (cc)
 
-  pub was-unfit : {r : Step} → Stepped ws pairs text levels p levels' r → r ≡ Unfit → (n : ℕ) → rest_of ws pairs text levels p ≡ got true n → ⊥
+  pub was-unfit : {r : Result Step Refusal} → Stepped ws pairs text levels p levels' r → r ≡ Ok Unfit → (n : ℕ) → rest_of ws pairs text levels p ≡ got true n → ⊥
   was-unfit (on k e l) d = impossible (cc)
   was-unfit (ended e) d = impossible (cc)
   was-unfit (unfit u) d = u
   was-unfit (halt e) d = impossible (cc)
 
-  pub was-halted : {r : Step} {k : Refusal} → Stepped ws pairs text levels p levels' r → r ≡ Halt k → rest_of ws pairs text levels p ≡ stop k
+  pub was-halted : {r : Result Step Refusal} {k : Refusal} → Stepped ws pairs text levels p levels' r → r ≡ Err k → rest_of ws pairs text levels p ≡ stop k
   was-halted (on k e l) d = impossible (cc)
   was-halted (ended e) d = impossible (cc)
   was-halted (unfit u) d = impossible (cc)
@@ -166,42 +164,42 @@ module _ (ws pairs : List ℕ) (text : Bytes) (levels : List ℕ) where
   first = record { place = 0; depth = 0; ask = 1; rest = 0 }
 
   pub whole-ended : {n : ℕ} → rest_of ws pairs text levels first ≡ got true n
-      → sound_answer (map_answer sound (whole (length ws) (type_at ws pairs text 0))) ≡ sound_answer (whole (length ws) (got true n))
+      → map_answer sound (whole (length ws) (type_at ws pairs text 0)) ≡ whole (length ws) (got true n)
   unfolding map_answer whole judged
   whole-ended {n} e = go (type_at ws pairs text 0) (start ws pairs text levels e)
     where
-      last : (t : Ty Bytes) (c : Bool) → sound t ≡ true → sound_answer (map_answer sound (pick c (given t) (refused LeftOver))) ≡ sound_answer (pick c (given true) (refused LeftOver))
+      last : (t : Ty Bytes) (c : Bool) → sound t ≡ true → map_answer sound (pick c (Ok t) (Err LeftOver)) ≡ pick c (Ok true) (Err LeftOver)
       last t true s = rw s
       last t false s = refl
 
-      go : (y : Reading (Ty Bytes)) → judged y ≡ got true n → sound_answer (map_answer sound (whole (length ws) y)) ≡ sound_answer (whole (length ws) (got true n))
+      go : (y : Reading (Ty Bytes)) → judged y ≡ got true n → map_answer sound (whole (length ws) y) ≡ whole (length ws) (got true n)
       go (got t m) d = let f : m ≡ n = cc in let s : sound t ≡ true = cc in rw f (last t (eqb n (length ws)) s)
       go (stop r) d = impossible (cc)
 
   pub whole-halted : {r : Refusal} → rest_of ws pairs text levels first ≡ stop r
-      → sound_answer (map_answer sound (whole (length ws) (type_at ws pairs text 0))) ≡ Refused r
+      → map_answer sound (whole (length ws) (type_at ws pairs text 0)) ≡ Err r
   unfolding map_answer whole judged
   whole-halted {r} e = go (type_at ws pairs text 0) (start ws pairs text levels e)
     where
-      go : (y : Reading (Ty Bytes)) → judged y ≡ stop r → sound_answer (map_answer sound (whole (length ws) y)) ≡ Refused r
+      go : (y : Reading (Ty Bytes)) → judged y ≡ stop r → map_answer sound (whole (length ws) y) ≡ Err r
       go (got t m) d = impossible (cc)
       go (stop k) d = let f : k ≡ r = cc in rw f
 
   pub whole-unfit : ((n : ℕ) → rest_of ws pairs text levels first ≡ got true n → ⊥)
-      → sound_answer (map_answer sound (whole (length ws) (type_at ws pairs text 0))) ≡ sound_answer (map_answer (λ t. false) (whole (length ws) (type_at ws pairs text 0)))
+      → map_answer sound (whole (length ws) (type_at ws pairs text 0)) ≡ map_answer (λ t. false) (whole (length ws) (type_at ws pairs text 0))
   unfolding map_answer whole judged
   whole-unfit u = go (type_at ws pairs text 0) (λ n e. u n (sym (start ws pairs text levels refl) ∙ e))
     where
-      last : (t : Ty Bytes) (b c : Bool) → sound t ≡ b → (b ≡ true → ⊥) → sound_answer (map_answer sound (pick c (given t) (refused LeftOver))) ≡ sound_answer (map_answer (λ t. false) (pick c (given t) (refused LeftOver)))
+      last : (t : Ty Bytes) (b c : Bool) → sound t ≡ b → (b ≡ true → ⊥) → map_answer sound (pick c (Ok t) (Err LeftOver)) ≡ map_answer (λ t. false) (pick c (Ok t) (Err LeftOver))
       last t true c s h = absurd (h refl)
       last t false true s h = rw s
       last t false false s h = refl
 
       go : (y : Reading (Ty Bytes)) → ((n : ℕ) → judged y ≡ got true n → ⊥)
-          → sound_answer (map_answer sound (whole (length ws) y)) ≡ sound_answer (map_answer (λ t. false) (whole (length ws) y))
+          → map_answer sound (whole (length ws) y) ≡ map_answer (λ t. false) (whole (length ws) y)
       go (got t m) h = last t (sound t) (eqb m (length ws)) refl (λ s. h m (rw s))
       go (stop k) h = refl
 
 -- tables that pass are ready for the pass
-pub passed-ready : (words pairs : List ℕ) (text : Bytes) → check_tables words pairs text ≡ Passed → TablesReady pairs text × (length words ≤ 8192)
+pub passed-ready : (words pairs : List ℕ) (text : Bytes) → check_tables words pairs text ≡ Ok tt → TablesReady pairs text × (length words ≤ 8192)
 passed-ready words pairs text e = let t = tables-passed words pairs text e in ((t.good, t.pairs-few), t.few)

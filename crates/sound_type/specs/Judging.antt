@@ -1,10 +1,11 @@
 -- The flat pass that judges a type: what each type is asked, and what is left to the pass.
-use Rattle.std.specs.Prelude.{ℕ, suc, ◌+◌, ◌*◌, ◌-◌, ◌/◌, ◌%◌, ◌^◌, ◌≤◌, ◌<◌, ◌≡◌, Bool, true, false, not, List, [], ◌∷◌, ltb, eqb, length, get_or, take, drop, set}
+use Rattle.std.specs.Prelude.{Result, Ok, Err, ℕ, suc, ◌+◌, ◌*◌, ◌-◌, ◌/◌, ◌%◌, ◌^◌, ◌≤◌, ◌<◌, ◌≡◌, Bool, true, false, not, List, [], ◌∷◌, ltb, eqb, length, get_or, take, drop, set}
 use Rattle.rast.specs.Bytes.{Bytes, ◌and◌}
 use Rattle.rast.specs.Tree.{Ty, Tys, nil, cons}
 use Rattle.rast.specs.Sound.{sound_name, sound_size, sound_path, is_named, is_intersection, sound}
 use Rattle.encoding.specs.Words.{max_pairs, max_depth}
 use Rattle.encoding.specs.declared.Refusal.{Refusal}
+use Rattle.encoding.specs.declared.Refusal.TheVariants.{UnknownWord}
 use Rattle.encoding.specs.declared.Head.{Head}
 use Rattle.encoding.specs.declared.Head.TheVariants.{Plain, Name, FromPath, Apply, Ref, RefMut, Impl, Dyn, Tuple, Function, Both, ArrayOf, Synonym, Meta}
 use Rattle.encoding.specs.Refusals.{pick}
@@ -15,13 +16,11 @@ use Rattle.encoding.specs.HeadWords.{kids}
 use Rattle.encoding.specs.Types.{path_of, size_of, read_types, read_type}
 use Rattle.text_measure.specs.Lengths.{CutDown}
 use Rattle.text_measure.specs.Levels.{stacked}
-use Rattle.sound_type.specs.declared.NameCheck.{NameCheck}
-use Rattle.sound_type.specs.declared.NameCheck.TheVariants.{Fine, Poor, NoName}
 use Rattle.sound_type.specs.declared.OwnScan.{OwnScan}
-use Rattle.sound_type.specs.declared.OwnScan.TheVariants.{Leaf, Node, NotSound, NoNode}
+use Rattle.sound_type.specs.declared.OwnScan.TheVariants.{Leaf, Node, NotSound}
 use Rattle.sound_type.specs.declared.Pass.{Pass}
 use Rattle.sound_type.specs.declared.Step.{Step}
-use Rattle.sound_type.specs.declared.Step.TheVariants.{On, Ended, Unfit, Halt}
+use Rattle.sound_type.specs.declared.Step.TheVariants.{On, Ended, Unfit}
 
 -- the tables keep their rule, and the number of a name fits 16 bits
 abbrev pub TablesReady : List ℕ → Bytes → Type 0
@@ -45,10 +44,10 @@ unfoldable pub unless_judged : ℕ → Bool → Bool
 unless_judged ask s = pick (eqb ask 0) true s
 
 -- a name, as it was found
-pub data NameChecked (pairs : List ℕ) (text : Bytes) (x : ℕ) : NameCheck → Type 0 where
-  fine : x < name_count pairs → sound_name (name_bytes pairs text x) ≡ true → NameChecked pairs text x Fine
-  poor : sound_name (name_bytes pairs text x) ≡ false → NameChecked pairs text x Poor
-  no_name : name_count pairs ≤ x → NameChecked pairs text x NoName
+pub data NameChecked (pairs : List ℕ) (text : Bytes) (x : ℕ) : Result Bool Refusal → Type 0 where
+  fine : x < name_count pairs → sound_name (name_bytes pairs text x) ≡ true → NameChecked pairs text x (Ok true)
+  poor : sound_name (name_bytes pairs text x) ≡ false → NameChecked pairs text x (Ok false)
+  no_name : name_count pairs ≤ x → NameChecked pairs text x (Err UnknownWord)
 
 -- the names from `start` to i are as they are asked to be, so those from i on decide
 pub record NamesOnward (bound : ℕ) (ws : List ℕ) (name : ℕ → Bytes) (ask start end i : ℕ) : Type 0 where
@@ -163,12 +162,12 @@ unfoldable pub last_ask : ℕ → Head → ℕ
 last_ask ask h = pick (eqb ask 0) 0 (last_judged h)
 
 -- the answer says what the reading of a head says, or that its type is not as it is asked to be; how many types follow may be cut down
-pub data Scanned (ws pairs : List ℕ) (text : Bytes) (ask : ℕ) (x : Reading Head) : OwnScan → Type 0 where
-  leaf : {h : Head} {n : ℕ} → x ≡ got h n → kids h ≡ 0 → head_sound ws (name_bytes pairs text) ask h ≡ true → Scanned ws pairs text ask x (Leaf n)
+pub data Scanned (ws pairs : List ℕ) (text : Bytes) (ask : ℕ) (x : Reading Head) : Result OwnScan Refusal → Type 0 where
+  leaf : {h : Head} {n : ℕ} → x ≡ got h n → kids h ≡ 0 → head_sound ws (name_bytes pairs text) ask h ≡ true → Scanned ws pairs text ask x (Ok (Leaf n))
   node : {h : Head} {n a l : ℕ} → x ≡ got h n → CutDown (l / 4 + 1) (kids h) → head_sound ws (name_bytes pairs text) ask h ≡ true
-      → a ≡ first_ask ask h → l % 4 ≡ last_ask ask h → l < 2 ^ 16 → Scanned ws pairs text ask x (Node n a l)
-  not_sound : ((h : Head) (n : ℕ) → x ≡ got h n → head_sound ws (name_bytes pairs text) ask h ≡ false) → Scanned ws pairs text ask x NotSound
-  none : {r : Refusal} → x ≡ stop r → Scanned ws pairs text ask x (NoNode r)
+      → a ≡ first_ask ask h → l % 4 ≡ last_ask ask h → l < 2 ^ 16 → Scanned ws pairs text ask x (Ok (Node n a l))
+  not_sound : ((h : Head) (n : ℕ) → x ≡ got h n → head_sound ws (name_bytes pairs text) ask h ≡ false) → Scanned ws pairs text ask x (Ok NotSound)
+  none : {r : Refusal} → x ≡ stop r → Scanned ws pairs text ask x (Err r)
 
 -- a head with types behind it that is neither a wrapper nor an intersection, by what its types are asked where it is judged
 abbrev pub node_scan : ℕ → ℕ → ℕ → ℕ → OwnScan
@@ -264,9 +263,9 @@ pub record Kept (ws levels : List ℕ) (p : Pass) : Type 0 where
   pub rest : p.rest < 2 ^ 16
 
 -- the pass goes on, and the same is left to it with fewer words; or it has found all sound to the end; or something is not sound; or it is refused
-pub data Stepped (ws pairs : List ℕ) (text : Bytes) (levels : List ℕ) (p : Pass) (levels' : List ℕ) : Step → Type 0 where
+pub data Stepped (ws pairs : List ℕ) (text : Bytes) (levels : List ℕ) (p : Pass) (levels' : List ℕ) : Result Step Refusal → Type 0 where
   on : {p' : Pass} → Kept ws levels' p' → rest_of ws pairs text levels' p' ≡ rest_of ws pairs text levels p → p.place < p'.place
-      → Stepped ws pairs text levels p levels' (On p')
-  ended : {n : ℕ} → rest_of ws pairs text levels p ≡ got true n → Stepped ws pairs text levels p levels' (Ended n)
-  unfit : ((n : ℕ) → rest_of ws pairs text levels p ≡ got true n → ⊥) → Stepped ws pairs text levels p levels' Unfit
-  halt : {r : Refusal} → rest_of ws pairs text levels p ≡ stop r → Stepped ws pairs text levels p levels' (Halt r)
+      → Stepped ws pairs text levels p levels' (Ok (On p'))
+  ended : {n : ℕ} → rest_of ws pairs text levels p ≡ got true n → Stepped ws pairs text levels p levels' (Ok (Ended n))
+  unfit : ((n : ℕ) → rest_of ws pairs text levels p ≡ got true n → ⊥) → Stepped ws pairs text levels p levels' (Ok Unfit)
+  halt : {r : Refusal} → rest_of ws pairs text levels p ≡ stop r → Stepped ws pairs text levels p levels' (Err r)

@@ -12,22 +12,14 @@ ghost use Rattle.encoding.specs.Types.{size_of, type_at};
 ghost use Rattle.encoding.specs.declared.Head.TheVariants.{Name, Apply, Tuple, Function, ArrayOf, Meta};
 ghost use Rattle.text_measure.specs.Lengths.{worded, names_path, head_of_path};
 ghost use Rattle.sound_type.specs.Judging.{TablesReady, Known, NameChecked, NamesOnward, OnwardAlways, unless_judged, root_scan, node_scan, bare_scan, leaf_scan, both_scan, Scanned, ask_next, next_type, under, pushed, leaving, Outward, Kept, Stepped};
-ghost use Rattle.sound_type.specs.Calls.{type_is_sound, sound_answer};
+ghost use Rattle.sound_type.specs.Calls.{type_is_sound};
 
 use encoding::words::{
     ARRAY, BORROWED, BORROWED_MUT, DYN_TYPE, FIXED_NAMES, FLAGS, FN_TYPE, GLOBAL, IMPL_TYPE,
     INTERSECTION_TYPE, MAX_DEPTH, PLAIN_KINDS, ROOTS, T_IDENTIFIER, T_META_DATA, T_SYNONYM,
     TUPLE_TYPE, TYPE_APP, TYPE_FROM_PATH,
 };
-use encoding::{Check, PathAt, Refusal, Scan, WordScan};
-
-// Document 01's "sound": yes, no, or the refusal.
-#[derive(Clone, Copy)]
-pub enum SoundAnswer {
-    Sound,
-    Unsound,
-    Refused(Refusal),
-}
+use encoding::{PathAt, Refusal};
 
 // A head that was read and judged: where its own words end, and if types follow, what the first is asked and the level of the others. A head that is not
 // sound, whatever follows it, ends the judging.
@@ -36,20 +28,12 @@ enum OwnScan {
     Leaf(usize),
     Node { next: usize, ask: u64, rest: u64 },
     NotSound,
-    NoNode(Refusal),
-}
-
-// A name: sound, or not, or no name at all.
-#[derive(Clone, Copy)]
-enum NameCheck {
-    Fine,
-    Poor,
-    NoName,
 }
 
 // A pass that has come to `place` and found all sound, inside `depth` levels that it has left unfinished. The type at `place` is asked `ask`: 0 nothing, inside a
 // synonym's base; 1 to be sound; 2 to be a name or a path too; 3 to be no intersection too. Wrappers hand on what they are asked. Behind it follow the types of the
 // level `rest`: four times their number, and what the last of them is asked; the others are asked to be sound if it is judged at all.
+// Kept: `ask` is a number, since it stands in the lowest two bits of a level, and a level in 16 bits of fixed memory: an enum would be converted at each head.
 #[derive(Clone, Copy)]
 struct Pass {
     place: usize,
@@ -58,20 +42,12 @@ struct Pass {
     rest: u64,
 }
 
-// What a step comes to: a further pass, the end of a sound type, something that is not sound, or a refusal.
+// What a step comes to: a further pass, the end of a sound type, or something that is not sound.
 #[derive(Clone, Copy)]
 enum Step {
     On(Pass),
     Ended(usize),
     Unfit,
-    Halt(Refusal),
-}
-
-// An element of a lent array is not known to fit its type, a parameter is.
-fn wide(x: u16) -> u64
-    ensures { (result ≡ x) × (result < 2 ^ 16) }
-{
-    x as u64
 }
 
 // Whether a name is kept as one that was found sound: in the place that its number has.
@@ -79,26 +55,26 @@ fn is_known(known: &[u16; 64], name: u32) -> bool
     ensures { result ≡ eqb (get_or known.now (name % 64) 0) name }
 {
     let at = (name % 64) as usize;
-    wide(known[at]) == name as u64
+    known[at] as u32 == name
 }
 
-// A name that is asked to be sound. One that is found so is kept.
-fn check_new(pairs: &[u32], text: &[u8], known: &mut [u16; 64], name: u32) -> NameCheck
+// Whether a name is sound, as it is asked to be. One that is found so is kept.
+fn check_new(pairs: &[u32], text: &[u8], known: &mut [u16; 64], name: u32) -> Result<bool, Refusal>
     requires { TablesReady pairs.now text.now × Known pairs.now text.now known.old }
     ensures { NameChecked pairs.now text.now name result × Known pairs.now text.now known.new }
 {
     if is_known(known, name) {
-        return NameCheck::Fine;
+        return Ok(true);
     }
     if encoding::name_count(pairs) <= name as usize {
-        return NameCheck::NoName;
+        return Err(Refusal::UnknownWord);
     }
     if sound_names::sound_name(pairs, text, name) {
         let at = (name % 64) as usize;
         known[at] = name as u16;
-        return NameCheck::Fine;
+        return Ok(true);
     }
-    NameCheck::Poor
+    Ok(false)
 }
 
 // A name's head, from the words behind its kind; the heads below likewise. Where nothing is asked, it need only be a name.
@@ -109,36 +85,29 @@ fn own_name(
     known: &mut [u16; 64],
     at: usize,
     ask: u64,
-) -> OwnScan
+) -> Result<OwnScan, Refusal>
     requires { TablesReady pairs.now text.now × Known pairs.now text.now known.old }
     ensures { Scanned words.now pairs.now text.now ask
         (worded Name (read_below (name_count pairs.now) words.now at)) result
         × Known pairs.now text.now known.new }
 {
     if words.len() <= at {
-        return OwnScan::NoNode(Refusal::EndsEarly);
+        return Err(Refusal::EndsEarly);
     }
     let name = words[at];
     if is_known(known, name) {
-        return OwnScan::Leaf(at + 1);
+        return Ok(OwnScan::Leaf(at + 1));
     }
     if ask == 0 {
         if encoding::name_count(pairs) <= name as usize {
-            return OwnScan::NoNode(Refusal::UnknownWord);
+            return Err(Refusal::UnknownWord);
         }
-        return OwnScan::Leaf(at + 1);
+        return Ok(OwnScan::Leaf(at + 1));
     }
-    match check_new(pairs, text, known, name) {
-        NameCheck::Fine => OwnScan::Leaf(at + 1),
-        NameCheck::Poor => OwnScan::NotSound,
-        NameCheck::NoName => OwnScan::NoNode(Refusal::UnknownWord),
+    if check_new(pairs, text, known, name)? {
+        return Ok(OwnScan::Leaf(at + 1));
     }
-}
-
-fn least(a: usize, b: usize) -> usize
-    ensures { (result ≤ a) × (result ≤ b) }
-{
-    if a < b { a } else { b }
+    Ok(OwnScan::NotSound)
 }
 
 // How far the names from `start` to `end` are known: most are used more than once, and for those this loop is all there is.
@@ -153,15 +122,13 @@ fn known_to(
     requires { Known pairs.now text.now known.now × (start ≤ end) × (start ≤ length words.now) }
     ensures { OnwardAlways (name_count pairs.now) words.now (name_bytes pairs.now text.now) start end result }
 {
-    let limit = least(end, words.len());
-    let mut i = start;
-    while i < limit {
+    let limit = end.min(words.len());
+    for i in start..limit {
         if !is_known(known, words[i]) {
             return i;
         }
-        i += 1;
     }
-    i
+    limit
 }
 
 // A path's head, from its names, which are judged: those before `start` are known.
@@ -173,7 +140,7 @@ fn new_names(
     path: PathAt,
     start: usize,
     ask: u64,
-) -> OwnScan
+) -> Result<OwnScan, Refusal>
     requires { TablesReady pairs.now text.now × Known pairs.now text.now known.old
         × NamesOnward (name_count pairs.now) words.now (name_bytes pairs.now text.now) ask path.start (path.start + path.count) start
         × (0 < path.count) × (length words.now ≤ max_words) × (0 < ask) }
@@ -182,46 +149,34 @@ fn new_names(
         × Known pairs.now text.now known.new }
 {
     let end = path.start + path.count as usize;
-    let mut i = start;
-    while i < end {
+    for i in start..end {
         if words.len() <= i {
-            return OwnScan::NoNode(Refusal::EndsEarly);
+            return Err(Refusal::EndsEarly);
         }
-        match check_new(pairs, text, known, words[i]) {
-            NameCheck::Fine => {
-                i += 1;
-            }
-            NameCheck::Poor => {
-                return OwnScan::NotSound;
-            }
-            NameCheck::NoName => {
-                return OwnScan::NoNode(Refusal::UnknownWord);
-            }
+        if !check_new(pairs, text, known, words[i])? {
+            return Ok(OwnScan::NotSound);
         }
     }
-    OwnScan::Leaf(end)
+    Ok(OwnScan::Leaf(end))
 }
 
 // A path's head, from its names, of which nothing is asked: they need only be names.
-fn unjudged_names(words: &[u32], pairs: &[u32], text: &[u8], path: PathAt) -> OwnScan
+fn unjudged_names(
+    words: &[u32],
+    pairs: &[u32],
+    text: &[u8],
+    path: PathAt,
+) -> Result<OwnScan, Refusal>
     requires { (path.start ≤ length words.now) × (0 < path.count) × (length words.now ≤ max_words) }
     ensures { Scanned words.now pairs.now text.now 0
         (head_of_path (names_path (name_count pairs.now) words.now path)) result }
 {
     let bound = encoding::name_count(pairs);
     let end = path.start + path.count as usize;
-    let mut i = path.start;
-    while i < end {
-        match encoding::scan_below(words, bound, i) {
-            WordScan::Word { value: _, next } => {
-                i = next;
-            }
-            WordScan::NoWord(r) => {
-                return OwnScan::NoNode(r);
-            }
-        }
+    for i in path.start..end {
+        encoding::scan_below(words, bound, i)?;
     }
-    OwnScan::Leaf(end)
+    Ok(OwnScan::Leaf(end))
 }
 
 // The head of a path that has names.
@@ -232,7 +187,7 @@ fn own_names(
     known: &mut [u16; 64],
     path: PathAt,
     ask: u64,
-) -> OwnScan
+) -> Result<OwnScan, Refusal>
     requires { TablesReady pairs.now text.now × Known pairs.now text.now known.old
         × (path.start ≤ length words.now) × (0 < path.count) × (length words.now ≤ max_words) }
     ensures { Scanned words.now pairs.now text.now ask
@@ -246,7 +201,7 @@ fn own_names(
     let end = start + path.count as usize;
     let i = known_to(words, pairs, text, known, start, end);
     if i == end {
-        return OwnScan::Leaf(end);
+        return Ok(OwnScan::Leaf(end));
     }
     new_names(words, pairs, text, known, path, i, ask)
 }
@@ -272,31 +227,19 @@ fn own_path(
     known: &mut [u16; 64],
     at: usize,
     ask: u64,
-) -> OwnScan
+) -> Result<OwnScan, Refusal>
     requires { TablesReady pairs.now text.now × Known pairs.now text.now known.old × (length words.now ≤ max_words) }
     ensures { Scanned words.now pairs.now text.now ask
         (path_head (name_count pairs.now) words.now at) result
         × Known pairs.now text.now known.new }
 {
-    match encoding::scan_below(words, ROOTS, at) {
-        WordScan::Word {
-            value: root,
-            next: p,
-        } => match encoding::scan_word(words, p) {
-            WordScan::Word {
-                value: count,
-                next: start,
-            } => {
-                let path = PathAt { root, start, count };
-                if count == 0 {
-                    return own_root(path, ask);
-                }
-                own_names(words, pairs, text, known, path, ask)
-            }
-            WordScan::NoWord(r) => OwnScan::NoNode(r),
-        },
-        WordScan::NoWord(r) => OwnScan::NoNode(r),
+    let (root, p) = encoding::scan_below(words, ROOTS, at)?;
+    let (count, start) = encoding::scan_word(words, p)?;
+    let path = PathAt { root, start, count };
+    if count == 0 {
+        return Ok(own_root(path, ask));
     }
+    own_names(words, pairs, text, known, path, ask)
 }
 
 // A head with types behind it that is neither a wrapper nor an intersection.
@@ -321,19 +264,22 @@ fn own_node(next: usize, ask: u64, first: u64, rest: u64) -> OwnScan
 }
 
 // The head of a type with arguments: it has at least one.
-fn own_apply(words: &[u32], pairs: &[u32], text: &[u8], at: usize, ask: u64) -> OwnScan
+// Kept: this, `own_tuple` and `own_function` as three: they differ in what no types below mean and in three numbers, which as parameters say less than three bodies.
+fn own_apply(
+    words: &[u32],
+    pairs: &[u32],
+    text: &[u8],
+    at: usize,
+    ask: u64,
+) -> Result<OwnScan, Refusal>
     ensures { Scanned words.now pairs.now text.now ask
         (worded Apply (read_word words.now at)) result }
 {
-    match encoding::scan_word(words, at) {
-        WordScan::Word { value, next } => {
-            if value == 0 {
-                return own_bare(next, ask);
-            }
-            own_node(next, ask, 2, 4 * text_measure::cut(value) + 1)
-        }
-        WordScan::NoWord(r) => OwnScan::NoNode(r),
+    let (value, next) = encoding::scan_word(words, at)?;
+    if value == 0 {
+        return Ok(own_bare(next, ask));
     }
+    Ok(own_node(next, ask, 2, 4 * text_measure::cut(value) + 1))
 }
 
 // The head of a type with no arguments.
@@ -361,35 +307,39 @@ fn own_leaf(next: usize, ask: u64) -> OwnScan
 }
 
 // A tuple's head.
-fn own_tuple(words: &[u32], pairs: &[u32], text: &[u8], at: usize, ask: u64) -> OwnScan
+fn own_tuple(
+    words: &[u32],
+    pairs: &[u32],
+    text: &[u8],
+    at: usize,
+    ask: u64,
+) -> Result<OwnScan, Refusal>
     ensures { Scanned words.now pairs.now text.now ask
         (worded Tuple (read_word words.now at)) result }
 {
-    match encoding::scan_word(words, at) {
-        WordScan::Word { value, next } => {
-            if value == 0 {
-                return own_leaf(next, ask);
-            }
-            own_node(next, ask, 1, 4 * text_measure::cut(value) - 3)
-        }
-        WordScan::NoWord(r) => OwnScan::NoNode(r),
+    let (value, next) = encoding::scan_word(words, at)?;
+    if value == 0 {
+        return Ok(own_leaf(next, ask));
     }
+    Ok(own_node(next, ask, 1, 4 * text_measure::cut(value) - 3))
 }
 
 // A function's head: its result is no intersection.
-fn own_function(words: &[u32], pairs: &[u32], text: &[u8], at: usize, ask: u64) -> OwnScan
+fn own_function(
+    words: &[u32],
+    pairs: &[u32],
+    text: &[u8],
+    at: usize,
+    ask: u64,
+) -> Result<OwnScan, Refusal>
     ensures { Scanned words.now pairs.now text.now ask
         (worded Function (read_word words.now at)) result }
 {
-    match encoding::scan_word(words, at) {
-        WordScan::Word { value, next } => {
-            if value == 0 {
-                return own_node(next, ask, 3, 3);
-            }
-            own_node(next, ask, 1, 4 * text_measure::cut(value) + 3)
-        }
-        WordScan::NoWord(r) => OwnScan::NoNode(r),
+    let (value, next) = encoding::scan_word(words, at)?;
+    if value == 0 {
+        return Ok(own_node(next, ask, 3, 3));
     }
+    Ok(own_node(next, ask, 1, 4 * text_measure::cut(value) + 3))
 }
 
 // The head of an intersection, whose first type is none.
@@ -419,9 +369,8 @@ fn size_fits(pairs: &[u32], text: &[u8], known: &mut [u16; 64], size: u32, ask: 
         return true;
     }
     match check_new(pairs, text, known, size - 1) {
-        NameCheck::Fine => true,
-        NameCheck::Poor => sound_names::sound_size(pairs, text, size),
-        NameCheck::NoName => false,
+        Ok(fits) => fits || sound_names::sound_size(pairs, text, size),
+        Err(_) => false,
     }
 }
 
@@ -434,32 +383,32 @@ fn own_array(
     bound: usize,
     at: usize,
     ask: u64,
-) -> OwnScan
+) -> Result<OwnScan, Refusal>
     requires { (bound ≡ name_count pairs.now) × TablesReady pairs.now text.now × Known pairs.now text.now known.old }
     ensures { Scanned words.now pairs.now text.now ask
         (worded ArrayOf (read_below (bound + 1) words.now at)) result
         × Known pairs.now text.now known.new }
 {
-    match encoding::scan_below(words, bound + 1, at) {
-        WordScan::Word { value, next } => {
-            if size_fits(pairs, text, known, value, ask) {
-                return own_node(next, ask, 1, 0);
-            }
-            OwnScan::NotSound
-        }
-        WordScan::NoWord(r) => OwnScan::NoNode(r),
+    let (value, next) = encoding::scan_below(words, bound + 1, at)?;
+    if size_fits(pairs, text, known, value, ask) {
+        return Ok(own_node(next, ask, 1, 0));
     }
+    Ok(OwnScan::NotSound)
 }
 
 // The head of metadata, which hands on what it is asked.
-fn own_meta(words: &[u32], pairs: &[u32], text: &[u8], at: usize, ask: u64) -> OwnScan
+fn own_meta(
+    words: &[u32],
+    pairs: &[u32],
+    text: &[u8],
+    at: usize,
+    ask: u64,
+) -> Result<OwnScan, Refusal>
     ensures { Scanned words.now pairs.now text.now ask
         (worded Meta (read_below flag_count words.now at)) result }
 {
-    match encoding::scan_below(words, FLAGS, at) {
-        WordScan::Word { value: _, next } => OwnScan::Node { next, ask, rest: 0 },
-        WordScan::NoWord(r) => OwnScan::NoNode(r),
-    }
+    let (_, next) = encoding::scan_below(words, FLAGS, at)?;
+    Ok(OwnScan::Node { next, ask, rest: 0 })
 }
 
 // The head of kind `w`, no plain type, whose further words begin at `at`.
@@ -472,7 +421,7 @@ fn own_after(
     w: u32,
     at: usize,
     ask: u64,
-) -> OwnScan
+) -> Result<OwnScan, Refusal>
     requires { (plain_kinds ≤ w) × (bound ≡ name_count pairs.now) × (length words.now ≤ max_words) × TablesReady pairs.now text.now
         × Known pairs.now text.now known.old }
     ensures { Scanned words.now pairs.now text.now ask
@@ -483,21 +432,21 @@ fn own_after(
         T_IDENTIFIER => own_name(words, pairs, text, known, at, ask),
         TYPE_FROM_PATH => own_path(words, pairs, text, known, at, ask),
         TYPE_APP => own_apply(words, pairs, text, at, ask),
-        BORROWED => own_node(at, ask, 3, 0),
-        BORROWED_MUT => own_node(at, ask, 3, 0),
-        IMPL_TYPE => own_node(at, ask, 3, 0),
-        DYN_TYPE => own_node(at, ask, 3, 0),
+        BORROWED => Ok(own_node(at, ask, 3, 0)),
+        BORROWED_MUT => Ok(own_node(at, ask, 3, 0)),
+        IMPL_TYPE => Ok(own_node(at, ask, 3, 0)),
+        DYN_TYPE => Ok(own_node(at, ask, 3, 0)),
         TUPLE_TYPE => own_tuple(words, pairs, text, at, ask),
         FN_TYPE => own_function(words, pairs, text, at, ask),
-        INTERSECTION_TYPE => own_both(at, ask),
+        INTERSECTION_TYPE => Ok(own_both(at, ask)),
         ARRAY => own_array(words, pairs, text, known, bound, at, ask),
-        T_SYNONYM => OwnScan::Node {
+        T_SYNONYM => Ok(OwnScan::Node {
             next: at,
             ask,
             rest: 4,
-        },
+        }),
         T_META_DATA => own_meta(words, pairs, text, at, ask),
-        _ => OwnScan::NoNode(Refusal::UnknownWord),
+        _ => Err(Refusal::UnknownWord),
     }
 }
 
@@ -510,7 +459,7 @@ fn scan_own(
     bound: usize,
     at: usize,
     ask: u64,
-) -> OwnScan
+) -> Result<OwnScan, Refusal>
     requires { (bound ≡ name_count pairs.now) × (length words.now ≤ max_words) × TablesReady pairs.now text.now
         × Known pairs.now text.now known.old }
     ensures { Scanned words.now pairs.now text.now ask
@@ -518,11 +467,11 @@ fn scan_own(
         × Known pairs.now text.now known.new }
 {
     if words.len() <= at {
-        return OwnScan::NoNode(Refusal::EndsEarly);
+        return Err(Refusal::EndsEarly);
     }
     let w = words[at];
     if w < PLAIN_KINDS {
-        return own_leaf(at + 1, ask);
+        return Ok(own_leaf(at + 1, ask));
     }
     own_after(words, pairs, text, known, bound, w, at + 1, ask)
 }
@@ -537,7 +486,7 @@ fn leave(levels: &[u16; MAX_DEPTH], pass: Pass) -> Pass
         place: pass.place,
         depth: above,
         ask: pass.ask,
-        rest: wide(levels[above]),
+        rest: levels[above] as u64,
     }
 }
 
@@ -547,6 +496,7 @@ fn settle(levels: &[u16; MAX_DEPTH], pass: Pass) -> Pass
     ensures { Outward levels.now pass result × (result.rest < 4 → result.depth ≡ 0) }
 {
     let mut p = pass;
+    // Kept: nothing is counted: each turn leaves a level, as long as the one that it comes to has ended too.
     while p.rest < 4 {
         if p.depth == 0 {
             return p;
@@ -604,54 +554,46 @@ fn advance(
     known: &mut [u16; 64],
     levels: &mut [u16; MAX_DEPTH],
     pass: Pass,
-) -> Step
+) -> Result<Step, Refusal>
     requires { (bound ≡ name_count pairs.now) × TablesReady pairs.now text.now × (length words.now ≤ max_words)
         × Known pairs.now text.now known.old × Kept words.now levels.old pass }
     ensures { Stepped words.now pairs.now text.now levels.old pass levels.new result
         × Known pairs.now text.now known.new }
 {
     if pass.depth == MAX_DEPTH {
-        return Step::Halt(Refusal::TooDeep);
+        return Err(Refusal::TooDeep);
     }
-    match scan_own(words, pairs, text, known, bound, pass.place, pass.ask) {
+    match scan_own(words, pairs, text, known, bound, pass.place, pass.ask)? {
         OwnScan::Leaf(next) => {
             let p = settle(levels, pass);
             if p.rest < 4 {
-                return Step::Ended(next);
+                return Ok(Step::Ended(next));
             }
-            Step::On(step_to(p, next))
+            Ok(Step::On(step_to(p, next)))
         }
-        OwnScan::Node { next, ask, rest } => Step::On(enter(levels, pass, next, ask, rest)),
-        OwnScan::NotSound => Step::Unfit,
-        OwnScan::NoNode(r) => Step::Halt(r),
+        OwnScan::Node { next, ask, rest } => Ok(Step::On(enter(levels, pass, next, ask, rest))),
+        OwnScan::NotSound => Ok(Step::Unfit),
     }
 }
 
 // A type that is not sound and fills the words, unless a refusal is still to come.
-fn accept_whole(words: &[u32], pairs: &[u32], text: &[u8]) -> SoundAnswer
+fn accept_whole(words: &[u32], pairs: &[u32], text: &[u8]) -> Result<bool, Refusal>
     requires { TablesReady pairs.now text.now × (length words.now ≤ max_words) }
-    ensures { result ≡ sound_answer (map_answer (λ t. false)
-        (whole (length words.now) (type_at words.now pairs.now text.now 0))) }
+    ensures { result ≡ map_answer (λ t. false)
+        (whole (length words.now) (type_at words.now pairs.now text.now 0)) }
 {
-    match accept_type::accept_type(words, pairs, text, 0, 0) {
-        Scan::At(next) => {
-            if next != words.len() {
-                return SoundAnswer::Refused(Refusal::LeftOver);
-            }
-            SoundAnswer::Unsound
-        }
-        Scan::Refused(r) => SoundAnswer::Refused(r),
-    }
+    let next = accept_type::accept_type(words, pairs, text, 0, 0)?;
+    sound_to(words, next, false)
 }
 
-// A sound type that ends at `next`.
-fn sound_to(words: &[u32], next: usize) -> SoundAnswer
-    ensures { result ≡ sound_answer (whole (length words.now) (got true next)) }
+// Whether a type that ends at `next` is sound: it fills the words.
+fn sound_to(words: &[u32], next: usize, sound: bool) -> Result<bool, Refusal>
+    ensures { result ≡ whole (length words.now) (got sound next) }
 {
     if next != words.len() {
-        return SoundAnswer::Refused(Refusal::LeftOver);
+        return Err(Refusal::LeftOver);
     }
-    SoundAnswer::Sound
+    Ok(sound)
 }
 
 // The fixed names are kept from the start: all but the empty one are sound.
@@ -659,18 +601,16 @@ fn keep_fixed(pairs: &[u32], text: &[u8], known: &mut [u16; 64])
     requires { Known pairs.now text.now known.old }
     ensures { Known pairs.now text.now known.new }
 {
-    let mut i = 1;
-    while i < FIXED_NAMES {
+    for i in 1..FIXED_NAMES {
         known[i] = i as u16;
-        i += 1;
     }
 }
 
 // A type that fills the words.
-fn judge_whole(words: &[u32], pairs: &[u32], text: &[u8]) -> SoundAnswer
+fn judge_whole(words: &[u32], pairs: &[u32], text: &[u8]) -> Result<bool, Refusal>
     requires { TablesReady pairs.now text.now × (length words.now ≤ max_words) }
-    ensures { result ≡ sound_answer (map_answer sound
-        (whole (length words.now) (type_at words.now pairs.now text.now 0))) }
+    ensures { result ≡ map_answer sound
+        (whole (length words.now) (type_at words.now pairs.now text.now 0)) }
 {
     let bound = encoding::name_count(pairs);
     let mut levels = [0u16; MAX_DEPTH];
@@ -684,29 +624,24 @@ fn judge_whole(words: &[u32], pairs: &[u32], text: &[u8]) -> SoundAnswer
         rest: 0,
     };
     loop {
-        match advance(words, pairs, text, bound, &mut known, &mut levels, pass) {
+        match advance(words, pairs, text, bound, &mut known, &mut levels, pass)? {
             Step::On(p) => {
                 pass = p;
             }
             Step::Ended(next) => {
-                return sound_to(words, next);
+                return sound_to(words, next, true);
             }
             Step::Unfit => {
                 return accept_whole(words, pairs, text);
-            }
-            Step::Halt(r) => {
-                return SoundAnswer::Refused(r);
             }
         }
     }
 }
 
 // Whether the type that the encoding holds is sound.
-pub fn type_is_sound(words: &[u32], pairs: &[u32], text: &[u8]) -> SoundAnswer
-    ensures { result ≡ sound_answer (type_is_sound words.now pairs.now text.now) }
+pub fn type_is_sound(words: &[u32], pairs: &[u32], text: &[u8]) -> Result<bool, Refusal>
+    ensures { result ≡ type_is_sound words.now pairs.now text.now }
 {
-    match encoding::check_tables(words, pairs, text) {
-        Check::Passed => judge_whole(words, pairs, text),
-        Check::Failed(r) => SoundAnswer::Refused(r),
-    }
+    encoding::check_tables(words, pairs, text)?;
+    judge_whole(words, pairs, text)
 }

@@ -7,8 +7,7 @@ ghost use Rattle.text_pass.specs.Passes.{Checked, Ready, Came, Counts};
 ghost use Rattle.text_attributes.specs.Texts.{some_arguments, derived_at, attribute_at, some_attributes, attributes_at};
 
 use accepted_types::Spot;
-use encoding::WordScan;
-use text_pass::PartEnd;
+use encoding::Refusal;
 
 // ---- counted
 
@@ -21,50 +20,37 @@ fn count_arguments(
     n: u32,
     at: usize,
     pos: usize,
-) -> PartEnd
+) -> Result<(usize, usize), Refusal>
     requires { Checked words.now pairs.now text.now × (before < 2 ^ 40) × (0 < n) }
     ensures { Counts (pos + before) (some_arguments words.now pairs.now text.now n at) result }
 {
     let mut gap = before;
     let mut place = at;
     let mut p = pos;
-    let mut left = n;
-    loop {
-        let one = text_pass::count_name(words, pairs, text, gap, place, p);
-        let PartEnd::At { next, pos: end } = one else {
-            return one;
-        };
-        left -= 1;
-        if left == 0 {
-            return one;
-        }
+    for _ in 0..n {
+        (place, p) = text_pass::count_name(words, pairs, text, gap, place, p)?;
         gap = 2;
-        place = next;
-        p = end;
     }
+    Ok((place, p))
 }
 
 // The arguments of an attribute, their count first. None have no text.
-fn count_derived(words: &[u32], pairs: &[u32], text: &[u8], at: usize, pos: usize) -> PartEnd
+fn count_derived(
+    words: &[u32],
+    pairs: &[u32],
+    text: &[u8],
+    at: usize,
+    pos: usize,
+) -> Result<(usize, usize), Refusal>
     requires { Checked words.now pairs.now text.now }
     ensures { Counts pos (derived_at words.now pairs.now text.now at) result }
 {
-    match encoding::scan_word(words, at) {
-        WordScan::Word { value, next } => {
-            if value == 0 {
-                return PartEnd::At { next, pos };
-            }
-            let list = count_arguments(words, pairs, text, 1, value, next, pos);
-            let PartEnd::At { next: end, pos: p } = list else {
-                return list;
-            };
-            PartEnd::At {
-                next: end,
-                pos: buffer::count_few(p, 1),
-            }
-        }
-        WordScan::NoWord(r) => PartEnd::Stopped(r),
+    let (value, next) = encoding::scan_word(words, at)?;
+    if value == 0 {
+        return Ok((next, pos));
     }
+    let (end, p) = count_arguments(words, pairs, text, 1, value, next, pos)?;
+    Ok((end, buffer::count_few(p, 1)))
 }
 
 // An attribute on its line.
@@ -75,22 +61,13 @@ fn count_attribute(
     level: u32,
     at: usize,
     pos: usize,
-) -> PartEnd
+) -> Result<(usize, usize), Refusal>
     requires { Checked words.now pairs.now text.now }
     ensures { Counts pos (attribute_at words.now pairs.now text.now level at) result }
 {
-    let name = text_pass::count_name(words, pairs, text, 2, at, pos);
-    let PartEnd::At { next: q, pos: p } = name else {
-        return name;
-    };
-    let list = count_derived(words, pairs, text, q, p);
-    let PartEnd::At { next, pos: end } = list else {
-        return list;
-    };
-    PartEnd::At {
-        next,
-        pos: buffer::count_few(end, 2 + 4 * level as usize),
-    }
+    let (q, p) = text_pass::count_name(words, pairs, text, 2, at, pos)?;
+    let (next, end) = count_derived(words, pairs, text, q, p)?;
+    Ok((next, buffer::count_few(end, 2 + 4 * level as usize)))
 }
 
 // `n` attributes.
@@ -102,26 +79,16 @@ fn count_attributes(
     n: u32,
     at: usize,
     pos: usize,
-) -> PartEnd
+) -> Result<(usize, usize), Refusal>
     requires { Checked words.now pairs.now text.now }
     ensures { Counts pos (some_attributes words.now pairs.now text.now level n at) result }
 {
     let mut place = at;
     let mut p = pos;
-    let mut left = n;
-    while 0 < left {
-        let one = count_attribute(words, pairs, text, level, place, p);
-        let PartEnd::At { next, pos: end } = one else {
-            return one;
-        };
-        place = next;
-        p = end;
-        left -= 1;
+    for _ in 0..n {
+        (place, p) = count_attribute(words, pairs, text, level, place, p)?;
     }
-    PartEnd::At {
-        next: place,
-        pos: p,
-    }
+    Ok((place, p))
 }
 
 // The attributes of a declaration, their count first.
@@ -132,16 +99,12 @@ pub fn count_attribute_list(
     level: u32,
     at: usize,
     pos: usize,
-) -> PartEnd
+) -> Result<(usize, usize), Refusal>
     requires { Checked words.now pairs.now text.now }
     ensures { Counts pos (attributes_at words.now pairs.now text.now level at) result }
 {
-    match encoding::scan_word(words, at) {
-        WordScan::Word { value, next } => count_attributes(
-            words, pairs, text, level, value, next, pos,
-        ),
-        WordScan::NoWord(r) => PartEnd::Stopped(r),
-    }
+    let (value, next) = encoding::scan_word(words, at)?;
+    count_attributes(words, pairs, text, level, value, next, pos)
 }
 
 // ---- accepted, and written
@@ -161,18 +124,16 @@ fn write_arguments(
 {
     let mut place = at;
     let mut p = pos;
-    let mut left = n;
-    loop {
+    for i in 0..n {
         p = text_pass::write_name(words, pairs, text, place, out, p);
         place += 1;
-        left -= 1;
-        if left == 0 {
-            return Spot {
-                next: place,
-                pos: p,
-            };
+        if i + 1 < n {
+            p = buffer::put(b", ", out, p);
         }
-        p = buffer::put(b", ", out, p);
+    }
+    Spot {
+        next: place,
+        pos: p,
     }
 }
 
@@ -237,19 +198,11 @@ fn write_attributes(
     requires { Checked words.now pairs.now text.now × Ready true out.old pos (some_attributes words.now pairs.now text.now level n at) }
     ensures { Came true out.old pos (some_attributes words.now pairs.now text.now level n at) out.new result.next result.pos }
 {
-    let mut place = at;
-    let mut p = pos;
-    let mut left = n;
-    while 0 < left {
-        let one = write_attribute(words, pairs, text, level, place, out, p);
-        place = one.next;
-        p = one.pos;
-        left -= 1;
+    let mut spot = Spot { next: at, pos };
+    for _ in 0..n {
+        spot = write_attribute(words, pairs, text, level, spot.next, out, spot.pos);
     }
-    Spot {
-        next: place,
-        pos: p,
-    }
+    spot
 }
 
 // The attributes of a declaration, their count first.

@@ -3,15 +3,8 @@ use Rattle.std.specs.Prelude.{ℕ, List}
 use Rattle.rast.specs.Bytes.{Bytes}
 use Rattle.rast.specs.ToString.{Path-to_string, Type-to_string}
 use Rattle.encoding.specs.Refusals.{Answer, map_answer, unless}
-use Rattle.encoding.specs.Filled.{filled_by}
 use Rattle.encoding.specs.Tables.{check_level}
 use Rattle.encoding.specs.Types.{type_of, path_in}
-use Rattle.text_calls.specs.declared.TextAnswer.{TextAnswer}
-use Rattle.text_calls.specs.declared.TextAnswer.TheVariants.{Length, Refused}
-
--- a text fills the front of the buffer, and the rest is unchanged; a refusal leaves all of it
-abbrev pub filled : List ℕ → Answer Bytes → TextAnswer × List ℕ
-filled = filled_by Length Refused
 
 -- the text of a type; of a path. The level shows in neither, and a bad one comes before all else.
 unfoldable pub type_text : List ℕ → List ℕ → Bytes → ℕ → Answer Bytes

@@ -4,60 +4,42 @@
 ghost use Rattle.std.specs.Prelude.{◌≡◌, ◌≤◌, length};
 ghost use Rattle.encoding.specs.Words.{max_words};
 ghost use Rattle.encoding.specs.Tested.{Good};
-ghost use Rattle.text_calls.specs.Calls.{filled, type_text, path_text};
+ghost use Rattle.encoding.specs.Filled.{filled};
+ghost use Rattle.text_calls.specs.Calls.{type_text, path_text};
 ghost use Rattle.text_calls.specs.Wholes.{whole_type_text, whole_path_text};
 
-use encoding::{Check, Refusal};
-use text_measure::{Measure, PathMeasure};
-
-// The length of the text that fills the front of the buffer, or a refusal: then the buffer is as it was.
-#[derive(Clone, Copy)]
-pub enum TextAnswer {
-    Length(usize),
-    Refused(Refusal),
-}
+use encoding::Refusal;
 
 // A type is accepted and measured before a byte is written, since a refusal leaves the buffer unchanged.
-fn fill_type(words: &[u32], pairs: &[u32], text: &[u8], out: &mut [u8]) -> TextAnswer
+fn fill_type(words: &[u32], pairs: &[u32], text: &[u8], out: &mut [u8]) -> Result<usize, Refusal>
     requires { Good pairs.now text.now × (length words.now ≤ max_words) }
     ensures { (result, out.new) ≡ filled out.old (whole_type_text words.now pairs.now text.now) }
 {
-    match text_measure::measure_type(words, pairs, text, 0) {
-        Measure::Measured { next, bytes } => {
-            if next != words.len() {
-                return TextAnswer::Refused(Refusal::LeftOver);
-            }
-            if out.len() < bytes {
-                return TextAnswer::Refused(Refusal::BufferTooShort);
-            }
-            text_type::write_type(words, pairs, text, 0, out, 0);
-            TextAnswer::Length(bytes)
-        }
-        Measure::Stopped(r) => TextAnswer::Refused(r),
+    let (next, bytes) = text_measure::measure_type(words, pairs, text, 0)?;
+    if next != words.len() {
+        return Err(Refusal::LeftOver);
     }
+    if out.len() < bytes {
+        return Err(Refusal::BufferTooShort);
+    }
+    text_type::write_type(words, pairs, text, 0, out, 0);
+    Ok(bytes)
 }
 
-fn fill_path(words: &[u32], pairs: &[u32], text: &[u8], out: &mut [u8]) -> TextAnswer
+// Kept: no plainer as one function with `fill_type`, which would take the measure and the writer as closures, with a contract over both.
+fn fill_path(words: &[u32], pairs: &[u32], text: &[u8], out: &mut [u8]) -> Result<usize, Refusal>
     requires { Good pairs.now text.now × (length words.now ≤ max_words) }
     ensures { (result, out.new) ≡ filled out.old (whole_path_text words.now pairs.now text.now) }
 {
-    match text_measure::measure_path(words, pairs, text, 0) {
-        PathMeasure::MeasuredPath {
-            path,
-            next,
-            bytes: size,
-        } => {
-            if next != words.len() {
-                return TextAnswer::Refused(Refusal::LeftOver);
-            }
-            if out.len() < size {
-                return TextAnswer::Refused(Refusal::BufferTooShort);
-            }
-            text_leaf::put_path(words, pairs, text, path, out, 0);
-            TextAnswer::Length(size)
-        }
-        PathMeasure::NoPath(r) => TextAnswer::Refused(r),
+    let (path, next, size) = text_measure::measure_path(words, pairs, text, 0)?;
+    if next != words.len() {
+        return Err(Refusal::LeftOver);
     }
+    if out.len() < size {
+        return Err(Refusal::BufferTooShort);
+    }
+    text_leaf::put_path(words, pairs, text, path, out, 0);
+    Ok(size)
 }
 
 // The text of the type that an encoding holds, in the front of `out`.
@@ -67,13 +49,11 @@ pub fn type_text(
     text: &[u8],
     level: u32,
     out: &mut [u8],
-) -> TextAnswer
+) -> Result<usize, Refusal>
     ensures { (result, out.new) ≡ filled out.old (type_text words.now pairs.now text.now level) }
 {
-    match encoding::check_call(words, pairs, text, level) {
-        Check::Passed => fill_type(words, pairs, text, out),
-        Check::Failed(r) => TextAnswer::Refused(r),
-    }
+    encoding::check_call(words, pairs, text, level)?;
+    fill_type(words, pairs, text, out)
 }
 
 // The text of the path that an encoding holds, in the front of `out`. The level shows nowhere: it is a parameter so that all text calls are alike.
@@ -83,11 +63,9 @@ pub fn path_text(
     text: &[u8],
     level: u32,
     out: &mut [u8],
-) -> TextAnswer
+) -> Result<usize, Refusal>
     ensures { (result, out.new) ≡ filled out.old (path_text words.now pairs.now text.now level) }
 {
-    match encoding::check_call(words, pairs, text, level) {
-        Check::Passed => fill_path(words, pairs, text, out),
-        Check::Failed(r) => TextAnswer::Refused(r),
-    }
+    encoding::check_call(words, pairs, text, level)?;
+    fill_path(words, pairs, text, out)
 }

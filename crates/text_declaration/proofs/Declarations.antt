@@ -1,6 +1,7 @@
 -- Declarations from the texts of their parts.
 use Prim.Native.Nat.{ℕ, ◌+◌, ◌≤◌, ◌<◌}
 use mathlib.Core.Path.{◌≡◌, refl, ap, sym, ◌∙◌, subst}
+use mathlib.Core.Logic.{◌⊎◌, inl, inr}
 use mathlib.Core.Bool.{Bool, true, false}
 use mathlib.Core.List.{List, [], ◌++◌, append_assoc, append-nil}
 use native.Mathlib.Omega.{arith}
@@ -32,7 +33,7 @@ use Rattle.text_pass.proofs.Splits.{map-made, nothing-behind, runs_as, split₃,
 use Rattle.text_attributes.specs.Texts.{attributes_at}
 use Rattle.text_parameters.specs.Texts.{parameters_at}
 use Rattle.text_fields.specs.declared.Entry.{Entry}
-use Rattle.text_fields.specs.declared.Entry.TheVariants.{Named}
+use Rattle.text_fields.specs.declared.Entry.TheVariants.{Named, Lined}
 use Rattle.text_fields.specs.Texts.{line_text, nameless_entry, named_at, nameless_fields_at, list_at}
 use Rattle.text_fields.proofs.Fields.{indent-more}
 use Rattle.text_declaration.specs.Texts.{keyword_text, case_line_text, entry_of, fields_end, listed_at, fields_at, case_at, case_line_at, cases_at, variants_at, title_at, front_at, enum_body, synonym_body, body_at, fronted_at, use_at, after_at, declaration_text_at}
@@ -114,6 +115,12 @@ use-parts ws name (got v p) y = record { same = go (y p) }
     go (got u q) = ap (λ (b : Bytes). got b q) (text (Visibility-to_string v) (Path-to_string (path_of ws name u)))
     go (stop k) = refl
 use-parts ws name (stop k) y = record { same = refl }
+
+-- nothing stands behind fields on lines of their own
+pub lined_end : {entry : Entry} → (entry ≡ Named) ⊎ (entry ≡ Lined) → fields_end entry ≡ []
+unfolding fields_end ascii
+lined_end (inl e) = rw e
+lined_end (inr e) = rw e
 
 -- what a list of fields is of
 pub entry_named : {k : ℕ} (in_case : Bool) → k ≡ 0 → Named ≡ entry_of in_case k

@@ -9,10 +9,12 @@ ghost use Rattle.text_fields.specs.Texts.{list_at};
 ghost use Rattle.text_declaration.specs.Texts.{keyword_text, entry_of, fields_end, listed_at, fields_at, title_at, front_at, case_at, case_line_at, cases_at, variants_at, enum_body, synonym_body, body_at, fronted_at, use_at, after_at, declaration_text_at};
 
 use accepted_types::Spot;
+use encoding::Refusal;
 use encoding::words::{ENUM, FIELD_KINDS, NAMED, STRUCT, TYPE_SYNONYM, USE};
-use encoding::{Refusal, WordScan};
 use text_fields::Entry;
-use text_pass::PartEnd;
+
+// Kept: `write`, which chooses between counting and writing, is no plainer as a type or a closure: it would stand in each signature as the flag does, and in each
+// contract too.
 
 // What a list of fields is of, by the word before it.
 fn fields_entry(in_case: bool, kind: u32) -> Entry
@@ -33,9 +35,8 @@ fn lay_fields_end(write: bool, entry: Entry, out: &mut [u8], pos: usize) -> usiz
     ensures { Laid write out.old pos (fields_end entry) out.new result }
 {
     match entry {
-        Entry::Named => pos,
         Entry::Inline => buffer::lay(write, b";", out, pos),
-        Entry::Lined => pos,
+        Entry::Named | Entry::Lined => pos,
     }
 }
 
@@ -50,16 +51,13 @@ fn lay_list(
     at: usize,
     out: &mut [u8],
     pos: usize,
-) -> PartEnd
+) -> Result<(usize, usize), Refusal>
     requires { Checked words.now pairs.now text.now × (level < 2 ^ 31) × Ready write out.old pos (list_at words.now pairs.now text.now entry level at) }
     ensures { Went write out.old pos (list_at words.now pairs.now text.now entry level at) out.new result }
 {
     if write {
         let spot = text_fields::write_list(words, pairs, text, entry, level, at, out, pos);
-        return PartEnd::At {
-            next: spot.next,
-            pos: spot.pos,
-        };
+        return Ok((spot.next, spot.pos));
     }
     text_fields::count_list(words, pairs, text, entry, level, at, pos)
 }
@@ -75,18 +73,12 @@ fn lay_listed(
     at: usize,
     out: &mut [u8],
     pos: usize,
-) -> PartEnd
+) -> Result<(usize, usize), Refusal>
     requires { Checked words.now pairs.now text.now × (level < 2 ^ 31) × Ready write out.old pos (listed_at words.now pairs.now text.now entry level at) }
     ensures { Went write out.old pos (listed_at words.now pairs.now text.now entry level at) out.new result }
 {
-    let list = lay_list(write, words, pairs, text, entry, level, at, out, pos);
-    let PartEnd::At { next, pos: end } = list else {
-        return list;
-    };
-    PartEnd::At {
-        next,
-        pos: lay_fields_end(write, entry, out, end),
-    }
+    let (next, end) = lay_list(write, words, pairs, text, entry, level, at, out, pos)?;
+    Ok((next, lay_fields_end(write, entry, out, end)))
 }
 
 // The fields of a struct.
@@ -99,17 +91,13 @@ fn lay_fields(
     at: usize,
     out: &mut [u8],
     pos: usize,
-) -> PartEnd
+) -> Result<(usize, usize), Refusal>
     requires { Checked words.now pairs.now text.now × (level < 2 ^ 31) × Ready write out.old pos (fields_at words.now pairs.now text.now false level at) }
     ensures { Went write out.old pos (fields_at words.now pairs.now text.now false level at) out.new result }
 {
-    match encoding::scan_below(words, FIELD_KINDS, at) {
-        WordScan::Word { value, next } => {
-            let entry = fields_entry(false, value);
-            lay_listed(write, words, pairs, text, entry, level, next, out, pos)
-        }
-        WordScan::NoWord(r) => PartEnd::Stopped(r),
-    }
+    let (value, next) = encoding::scan_below(words, FIELD_KINDS, at)?;
+    let entry = fields_entry(false, value);
+    lay_listed(write, words, pairs, text, entry, level, next, out, pos)
 }
 
 // The words before a declaration's name, by its head.
@@ -134,15 +122,12 @@ fn lay_title(
     at: usize,
     out: &mut [u8],
     pos: usize,
-) -> PartEnd
+) -> Result<(usize, usize), Refusal>
     requires { Checked words.now pairs.now text.now × Ready write out.old pos (title_at words.now pairs.now text.now head at) }
     ensures { Went write out.old pos (title_at words.now pairs.now text.now head at) out.new result }
 {
     let p = lay_keyword(write, head, out, pos);
-    let name = text_pass::lay_name(write, words, pairs, text, at, out, p);
-    let PartEnd::At { next, pos: p } = name else {
-        return name;
-    };
+    let (next, p) = text_pass::lay_name(write, words, pairs, text, at, out, p)?;
     text_parameters::lay_parameter_list(write, words, pairs, text, next, out, p)
 }
 
@@ -156,16 +141,13 @@ fn lay_attributes(
     at: usize,
     out: &mut [u8],
     pos: usize,
-) -> PartEnd
+) -> Result<(usize, usize), Refusal>
     requires { Checked words.now pairs.now text.now × (level < 2 ^ 31) × Ready write out.old pos (attributes_at words.now pairs.now text.now level at) }
     ensures { Went write out.old pos (attributes_at words.now pairs.now text.now level at) out.new result }
 {
     if write {
         let spot = text_attributes::write_attribute_list(words, pairs, text, level, at, out, pos);
-        return PartEnd::At {
-            next: spot.next,
-            pos: spot.pos,
-        };
+        return Ok((spot.next, spot.pos));
     }
     text_attributes::count_attribute_list(words, pairs, text, level, at, pos)
 }
@@ -181,18 +163,12 @@ fn lay_front(
     at: usize,
     out: &mut [u8],
     pos: usize,
-) -> PartEnd
+) -> Result<(usize, usize), Refusal>
     requires { Checked words.now pairs.now text.now × (level < 2 ^ 31) × Ready write out.old pos (front_at words.now pairs.now text.now head level at) }
     ensures { Went write out.old pos (front_at words.now pairs.now text.now head level at) out.new result }
 {
-    let doc = text_pass::lay_doc(write, words, pairs, text, level, at, out, pos);
-    let PartEnd::At { next: q, pos: p } = doc else {
-        return doc;
-    };
-    let attributes = lay_attributes(write, words, pairs, text, level, q, out, p);
-    let PartEnd::At { next, pos: p } = attributes else {
-        return attributes;
-    };
+    let (q, p) = text_pass::lay_doc(write, words, pairs, text, level, at, out, pos)?;
+    let (next, p) = lay_attributes(write, words, pairs, text, level, q, out, p)?;
     lay_title(write, words, pairs, text, head, next, out, p)
 }
 
@@ -204,17 +180,13 @@ fn count_case_fields(
     level: u32,
     at: usize,
     pos: usize,
-) -> PartEnd
+) -> Result<(usize, usize), Refusal>
     requires { Checked words.now pairs.now text.now × (level < 2 ^ 31) }
     ensures { Counts pos (fields_at words.now pairs.now text.now true level at) result }
 {
-    match encoding::scan_below(words, FIELD_KINDS, at) {
-        WordScan::Word { value, next } => {
-            let entry = fields_entry(true, value);
-            text_fields::count_list(words, pairs, text, entry, level, next, pos)
-        }
-        WordScan::NoWord(r) => PartEnd::Stopped(r),
-    }
+    let (value, next) = encoding::scan_below(words, FIELD_KINDS, at)?;
+    let entry = fields_entry(true, value);
+    text_fields::count_list(words, pairs, text, entry, level, next, pos)
 }
 
 // A case, counted: doc, name, fields.
@@ -225,18 +197,12 @@ fn count_case(
     level: u32,
     at: usize,
     pos: usize,
-) -> PartEnd
+) -> Result<(usize, usize), Refusal>
     requires { Checked words.now pairs.now text.now × (level < 2 ^ 31) }
     ensures { Counts pos (case_at words.now pairs.now text.now level at) result }
 {
-    let doc = text_pass::count_doc(words, pairs, text, level, at, pos);
-    let PartEnd::At { next: q, pos: p } = doc else {
-        return doc;
-    };
-    let name = text_pass::count_name(words, pairs, text, 0, q, p);
-    let PartEnd::At { next, pos: p } = name else {
-        return name;
-    };
+    let (q, p) = text_pass::count_doc(words, pairs, text, level, at, pos)?;
+    let (next, p) = text_pass::count_name(words, pairs, text, 0, q, p)?;
     count_case_fields(words, pairs, text, level, next, p)
 }
 
@@ -248,7 +214,7 @@ fn count_case_line(
     level: u32,
     at: usize,
     pos: usize,
-) -> PartEnd
+) -> Result<(usize, usize), Refusal>
     requires { Checked words.now pairs.now text.now × (level < 2 ^ 30) }
     ensures { Counts pos (case_line_at words.now pairs.now text.now level at) result }
 {
@@ -257,6 +223,7 @@ fn count_case_line(
 }
 
 // `n` cases, one at least, counted.
+// Kept: one loop for this and for a list's fields, over a closure, is no plainer: its contract would take the texts of an item and of a gap as parameters of their own.
 fn count_cases(
     words: &[u32],
     pairs: &[u32],
@@ -265,25 +232,21 @@ fn count_cases(
     n: u32,
     at: usize,
     pos: usize,
-) -> PartEnd
+) -> Result<(usize, usize), Refusal>
     requires { Checked words.now pairs.now text.now × (0 < n) × (level < 2 ^ 30) }
     ensures { Counts pos (cases_at words.now pairs.now text.now level n at) result }
 {
     let mut place = at;
     let mut p = pos;
-    let mut left = n;
-    loop {
-        let one = count_case_line(words, pairs, text, level, place, p);
-        let PartEnd::At { next, pos: end } = one else {
-            return one;
-        };
-        left -= 1;
-        if left == 0 {
-            return one;
+    for i in 0..n {
+        if 0 < i {
+            p = buffer::count_few(p, 1);
         }
+        let (next, end) = count_case_line(words, pairs, text, level, place, p)?;
         place = next;
-        p = buffer::count_few(end, 1);
+        p = end;
     }
+    Ok((place, p))
 }
 
 // The fields of a case, which was accepted.
@@ -352,18 +315,14 @@ fn write_cases(
     requires { Checked words.now pairs.now text.now × (0 < n) × (level < 2 ^ 30) × Ready true out.old pos (cases_at words.now pairs.now text.now level n at) }
     ensures { Came true out.old pos (cases_at words.now pairs.now text.now level n at) out.new result.next result.pos }
 {
-    let mut place = at;
-    let mut p = pos;
-    let mut left = n;
-    loop {
-        let spot = write_case_line(words, pairs, text, level, place, out, p);
-        left -= 1;
-        if left == 0 {
-            return spot;
+    let mut spot = Spot { next: at, pos };
+    for i in 0..n {
+        if 0 < i {
+            spot.pos = buffer::put(b",", out, spot.pos);
         }
-        place = spot.next;
-        p = buffer::put(b",", out, spot.pos);
+        spot = write_case_line(words, pairs, text, level, spot.next, out, spot.pos);
     }
+    spot
 }
 
 // `n` cases, one at least.
@@ -377,16 +336,13 @@ fn lay_cases(
     at: usize,
     out: &mut [u8],
     pos: usize,
-) -> PartEnd
+) -> Result<(usize, usize), Refusal>
     requires { Checked words.now pairs.now text.now × (0 < n) × (level < 2 ^ 30) × Ready write out.old pos (cases_at words.now pairs.now text.now level n at) }
     ensures { Went write out.old pos (cases_at words.now pairs.now text.now level n at) out.new result }
 {
     if write {
         let spot = write_cases(words, pairs, text, level, n, at, out, pos);
-        return PartEnd::At {
-            next: spot.next,
-            pos: spot.pos,
-        };
+        return Ok((spot.next, spot.pos));
     }
     count_cases(words, pairs, text, level, n, at, pos)
 }
@@ -401,19 +357,15 @@ fn lay_variants(
     at: usize,
     out: &mut [u8],
     pos: usize,
-) -> PartEnd
+) -> Result<(usize, usize), Refusal>
     requires { Checked words.now pairs.now text.now × (level < 2 ^ 30) × Ready write out.old pos (variants_at words.now pairs.now text.now level at) }
     ensures { Went write out.old pos (variants_at words.now pairs.now text.now level at) out.new result }
 {
-    match encoding::scan_word(words, at) {
-        WordScan::Word { value, next } => {
-            if value == 0 {
-                return PartEnd::At { next, pos };
-            }
-            lay_cases(write, words, pairs, text, level, value, next, out, pos)
-        }
-        WordScan::NoWord(r) => PartEnd::Stopped(r),
+    let (value, next) = encoding::scan_word(words, at)?;
+    if value == 0 {
+        return Ok((next, pos));
     }
+    lay_cases(write, words, pairs, text, level, value, next, out, pos)
 }
 
 // An enum behind its front.
@@ -426,20 +378,14 @@ fn lay_enum_body(
     at: usize,
     out: &mut [u8],
     pos: usize,
-) -> PartEnd
+) -> Result<(usize, usize), Refusal>
     requires { Checked words.now pairs.now text.now × (level < 2 ^ 30) × Ready write out.old pos (enum_body words.now pairs.now text.now level at) }
     ensures { Went write out.old pos (enum_body words.now pairs.now text.now level at) out.new result }
 {
     let p = buffer::lay(write, b" {", out, pos);
-    let list = lay_variants(write, words, pairs, text, level, at, out, p);
-    let PartEnd::At { next, pos: end } = list else {
-        return list;
-    };
+    let (next, end) = lay_variants(write, words, pairs, text, level, at, out, p)?;
     let p = text_doc::lay_line(write, level, out, end);
-    PartEnd::At {
-        next,
-        pos: buffer::lay(write, b"}", out, p),
-    }
+    Ok((next, buffer::lay(write, b"}", out, p)))
 }
 
 // A type synonym behind its front.
@@ -451,19 +397,13 @@ fn lay_synonym_body(
     at: usize,
     out: &mut [u8],
     pos: usize,
-) -> PartEnd
+) -> Result<(usize, usize), Refusal>
     requires { Checked words.now pairs.now text.now × Ready write out.old pos (synonym_body words.now pairs.now text.now at) }
     ensures { Went write out.old pos (synonym_body words.now pairs.now text.now at) out.new result }
 {
     let p = buffer::lay(write, b" = ", out, pos);
-    let tpe = text_pass::lay_type(write, words, pairs, text, at, out, p);
-    let PartEnd::At { next, pos: end } = tpe else {
-        return tpe;
-    };
-    PartEnd::At {
-        next,
-        pos: buffer::lay(write, b";", out, end),
-    }
+    let (next, end) = text_pass::lay_type(write, words, pairs, text, at, out, p)?;
+    Ok((next, buffer::lay(write, b";", out, end)))
 }
 
 // A struct, an enum or a type synonym behind its front.
@@ -477,7 +417,7 @@ fn lay_body(
     at: usize,
     out: &mut [u8],
     pos: usize,
-) -> PartEnd
+) -> Result<(usize, usize), Refusal>
     requires { Checked words.now pairs.now text.now × (level < 2 ^ 30) × Ready write out.old pos (body_at words.now pairs.now text.now head level at) }
     ensures { Went write out.old pos (body_at words.now pairs.now text.now head level at) out.new result }
 {
@@ -499,14 +439,11 @@ fn lay_fronted(
     at: usize,
     out: &mut [u8],
     pos: usize,
-) -> PartEnd
+) -> Result<(usize, usize), Refusal>
     requires { Checked words.now pairs.now text.now × (level < 2 ^ 30) × Ready write out.old pos (fronted_at words.now pairs.now text.now head level at) }
     ensures { Went write out.old pos (fronted_at words.now pairs.now text.now head level at) out.new result }
 {
-    let front = lay_front(write, words, pairs, text, head, level, at, out, pos);
-    let PartEnd::At { next, pos: p } = front else {
-        return front;
-    };
+    let (next, p) = lay_front(write, words, pairs, text, head, level, at, out, pos)?;
     lay_body(write, words, pairs, text, head, level, next, out, p)
 }
 
@@ -519,23 +456,14 @@ fn lay_use(
     at: usize,
     out: &mut [u8],
     pos: usize,
-) -> PartEnd
+) -> Result<(usize, usize), Refusal>
     requires { Checked words.now pairs.now text.now × Ready write out.old pos (use_at words.now pairs.now text.now at) }
     ensures { Went write out.old pos (use_at words.now pairs.now text.now at) out.new result }
 {
-    let visibility = text_pass::lay_visibility(write, words, at, out, pos);
-    let PartEnd::At { next: q, pos: p } = visibility else {
-        return visibility;
-    };
+    let (q, p) = text_pass::lay_visibility(write, words, at, out, pos)?;
     let p = buffer::lay(write, b"use ", out, p);
-    let path = text_pass::lay_path(write, words, pairs, text, q, out, p);
-    let PartEnd::At { next, pos: p } = path else {
-        return path;
-    };
-    PartEnd::At {
-        next,
-        pos: buffer::lay(write, b";", out, p),
-    }
+    let (next, p) = text_pass::lay_path(write, words, pairs, text, q, out, p)?;
+    Ok((next, buffer::lay(write, b";", out, p)))
 }
 
 // What follows the head.
@@ -549,14 +477,14 @@ fn lay_after(
     at: usize,
     out: &mut [u8],
     pos: usize,
-) -> PartEnd
+) -> Result<(usize, usize), Refusal>
     requires { Checked words.now pairs.now text.now × (level < 2 ^ 30) × Ready write out.old pos (after_at words.now pairs.now text.now head level at) }
     ensures { Went write out.old pos (after_at words.now pairs.now text.now head level at) out.new result }
 {
     match head {
         STRUCT..=TYPE_SYNONYM => lay_fronted(write, words, pairs, text, head, level, at, out, pos),
         USE => lay_use(write, words, pairs, text, at, out, pos),
-        _ => PartEnd::Stopped(Refusal::UnknownWord),
+        _ => Err(Refusal::UnknownWord),
     }
 }
 
@@ -570,14 +498,10 @@ pub fn lay_declaration(
     at: usize,
     out: &mut [u8],
     pos: usize,
-) -> PartEnd
+) -> Result<(usize, usize), Refusal>
     requires { Checked words.now pairs.now text.now × (level < 2 ^ 30) × Ready write out.old pos (declaration_text_at words.now pairs.now text.now level at) }
     ensures { Went write out.old pos (declaration_text_at words.now pairs.now text.now level at) out.new result }
 {
-    match encoding::scan_word(words, at) {
-        WordScan::Word { value, next } => lay_after(
-            write, words, pairs, text, value, level, next, out, pos,
-        ),
-        WordScan::NoWord(r) => PartEnd::Stopped(r),
-    }
+    let (value, next) = encoding::scan_word(words, at)?;
+    lay_after(write, words, pairs, text, value, level, next, out, pos)
 }

@@ -1,4 +1,5 @@
 -- From a pass that counted and one that wrote to the answer and the buffer.
+use Rattle.std.specs.Prelude.{Ok, Err, Result}
 use Prim.Native.Nat.{ℕ, ◌+◌, ◌^◌, ◌≤◌, ◌<◌}
 use mathlib.Core.Path.{◌≡◌, refl, ap, sym, ◌∙◌, subst}
 use mathlib.Core.Bool.{Bool, true, false}
@@ -14,18 +15,13 @@ use Rattle.buffer.specs.Laid.{clamp}
 use Rattle.buffer.proofs.Passes.{Clamped, small, large, clamped}
 use Rattle.encoding.specs.declared.Refusal.{Refusal}
 use Rattle.encoding.specs.declared.Refusal.TheVariants.{BadLevel, BufferTooShort, LeftOver}
-use Rattle.encoding.specs.declared.Check.TheVariants.{Passed, Failed}
 use Rattle.encoding.specs.Refusals.{map_answer, pick}
 use Rattle.encoding.specs.Tables.{check_level}
 use Rattle.encoding.specs.Reading.{Reading, got, stop, whole}
 use Rattle.encoding.specs.Scans.{map_reading}
 use Rattle.encoding.proofs.Tables.{impossible}
 use Rattle.encoding.proofs.Answers.{filled-done, filled-left, filled-short, filled-stop}
-use Rattle.text_calls.specs.declared.TextAnswer.{TextAnswer}
-use Rattle.text_calls.specs.declared.TextAnswer.TheVariants.{Length, Refused}
-use Rattle.text_calls.specs.Calls.{filled}
-use Rattle.text_pass.specs.declared.PartEnd.{PartEnd}
-use Rattle.text_pass.specs.declared.PartEnd.TheVariants.{At, Stopped}
+use Rattle.encoding.specs.Filled.{filled}
 use Rattle.text_pass.specs.Passes.{Ready, Came, Went}
 use Rattle.text_pass.proofs.Passes.{came-to, was-stopped}
 
@@ -54,8 +50,8 @@ pub record Counts {A : Type 0} (f : A → Bytes) (x : Reading A) (o o' : List �
   pub kept : o' ≡ o
   pub size : clamp bytes ≡ clamp (length (f value))
 
-module _ {A : Type 0} (f : A → Bytes) (x : Reading A) {o o' : List ℕ} {r : PartEnd} where
-  counted : {n bytes : ℕ} → Went false o 0 (map_reading f x) o' r → r ≡ At n bytes → Counts f x o o' n bytes
+module _ {A : Type 0} (f : A → Bytes) (x : Reading A) {o o' : List ℕ} {r : Result (ℕ × ℕ) Refusal} where
+  counted : {n bytes : ℕ} → Went false o 0 (map_reading f x) o' r → r ≡ Ok (n, bytes) → Counts f x o o' n bytes
   unfolding map_reading
   counted {n} {bytes} w e = go x (came-to w e)
     where
@@ -68,7 +64,7 @@ module _ {A : Type 0} (f : A → Bytes) (x : Reading A) {o o' : List ℕ} {r : P
           record { value = a; reads = ap (got a) q; kept = k.kept; size = k.next ∙ ap clamp z }
       go (stop k) c = impossible (let d = c.reads in cc)
 
-  not-counted : {k : Refusal} → Went false o 0 (map_reading f x) o' r → r ≡ Stopped k → (x ≡ stop k) × (o' ≡ o)
+  not-counted : {k : Refusal} → Went false o 0 (map_reading f x) o' r → r ≡ Err k → (x ≡ stop k) × (o' ≡ o)
   unfolding map_reading
   not-counted {k} w e = go x (was-stopped w e)
     where
@@ -91,7 +87,7 @@ module _ {A : Type 0} {f : A → Bytes} {x : Reading A} {o o' : List ℕ} {n byt
     };
   }
 
-  written : {o'' : List ℕ} {r : PartEnd} {m p : ℕ} → Went true o' 0 (map_reading f x) o'' r → r ≡ At m p → (p ≡ length (f c.value)) × (o'' ≡ sets o 0 (f c.value))
+  written : {o'' : List ℕ} {r : Result (ℕ × ℕ) Refusal} {m p : ℕ} → Went true o' 0 (map_reading f x) o'' r → r ≡ Ok (m, p) → (p ≡ length (f c.value)) × (o'' ≡ sets o 0 (f c.value))
   unfolding map_reading
   written w e =
       let d = came-to w e in
@@ -126,7 +122,7 @@ module _ {A : Type 0} {f : A → Bytes} {x : Reading A} {size : ℕ} {o : List �
     pub turn-ready : Ready write o' 0 (map_reading f x)
     turn-ready = record { room = λ e. (ready (t.counts e) t.small (t.fits e)).room refl }
 
-    module _ {o'' : List ℕ} {r : PartEnd} (w : Went write o' 0 (map_reading f x) o'' r) where
+    module _ {o'' : List ℕ} {r : Result (ℕ × ℕ) Refusal} (w : Went write o' 0 (map_reading f x) o'' r) where
       as-counted : write ≡ false → Went false o 0 (map_reading f x) o'' r
       as-counted e =
           subst (λ (l : List ℕ). Went false l 0 (map_reading f x) o'' r) (t.kept e) (subst (λ (b : Bool). Went b o' 0 (map_reading f x) o'' r) e w)
@@ -135,25 +131,25 @@ module _ {A : Type 0} {f : A → Bytes} {x : Reading A} {size : ℕ} {o : List �
       as_written e = subst (λ (b : Bool). Went b o' 0 (map_reading f x) o'' r) e w
 
       -- the answer, by how the turn ended
-      abbrev Answered : TextAnswer → Type 0
-      Answered a = ◌≡◌ {A = TextAnswer × List ℕ} (a, o'') (filled o (map_answer f (whole size x)))
+      abbrev Answered : Result ℕ Refusal → Type 0
+      Answered a = ◌≡◌ {A = Result ℕ Refusal × List ℕ} (a, o'') (filled o (map_answer f (whole size x)))
 
-      module _ {n bytes : ℕ} (d : r ≡ At n bytes) where
-        pub turn-done : write ≡ true → Answered (Length bytes)
+      module _ {n bytes : ℕ} (d : r ≡ Ok (n, bytes)) where
+        pub turn-done : write ≡ true → Answered (Ok bytes)
         turn-done e =
             let k = t.counts e in
             let s = same_size k t.small (t.fits e) in
             let v = written k (as_written e) d in
-            filled-done Length Refused o f size x bytes k.reads refl (omega (arith, s, t.fits e)) v.0 v.1
+            filled-done o f size x bytes k.reads refl (omega (arith, s, t.fits e)) v.0 v.1
 
-        pub turn-left : write ≡ false → (n ≡ size → ⊥) → Answered (Refused LeftOver)
-        turn-left e h = let k = counted f x (as-counted e) d in rw k.kept (filled-left Length Refused o f size x k.reads h)
+        pub turn-left : write ≡ false → (n ≡ size → ⊥) → Answered (Err LeftOver)
+        turn-left e h = let k = counted f x (as-counted e) d in rw k.kept (filled-left o f size x k.reads h)
 
-        pub turn-short : write ≡ false → n ≡ size → length o'' < bytes → Answered (Refused BufferTooShort)
+        pub turn-short : write ≡ false → n ≡ size → length o'' < bytes → Answered (Err BufferTooShort)
         turn-short e q h =
             let k = counted f x (as-counted e) d in
             let l = clamped-above bytes (length (f k.value)) (length o) t.small (omega (arith, ap length k.kept)) k.size in
-            rw k.kept (filled-short Length Refused o f size x k.reads q l)
+            rw k.kept (filled-short o f size x k.reads q l)
 
         pub turn-next : write ≡ false → n ≡ size → bytes ≤ length o'' → Turn f x size o true o''
         turn-next e q h =
@@ -165,19 +161,19 @@ module _ {A : Type 0} {f : A → Bytes} {x : Reading A} {size : ℕ} {o : List �
               fits = λ i. omega (arith, ap length k.kept);
             }
 
-      pub turn_stopped : {k : Refusal} → r ≡ Stopped k → Answered (Refused k)
+      pub turn_stopped : {k : Refusal} → r ≡ Err k → Answered (Err k)
       unfolding map_reading
-      turn_stopped {k} d = let s = go write refl in rw s.1 (filled-stop Length Refused o f size x s.0)
+      turn_stopped {k} d = let s = go write refl in rw s.1 (filled-stop o f size x s.0)
         where
           go : (b : Bool) → write ≡ b → (x ≡ stop k) × (o'' ≡ o)
           go true e = impossible (let s = (was-stopped (as_written e) d).0 in let m = ap (map_reading f) (t.counts e).reads in cc)
           go false e = not-counted f x (as-counted e) d
 
 -- a level that was tested is small
-pub level-passed : (level : ℕ) → check_level level ≡ Passed → level < 2 ^ 30
+pub level-passed : (level : ℕ) → check_level level ≡ Ok tt → level < 2 ^ 30
 unfolding check_level
 level-passed level e = go (ltb 16 level) (ltb-false 16 level) e
   where
-    go : (t : Bool) → (t ≡ false → level ≤ 16) → pick t (Failed BadLevel) Passed ≡ Passed → level < 2 ^ 30
+    go : (t : Bool) → (t ≡ false → level ≤ 16) → ◌≡◌ {A = Result (Unit {0}) Refusal} (pick t (Err BadLevel) (Ok tt)) (Ok tt) → level < 2 ^ 30
     go true h d = impossible (cc)
     go false h d = omega (arith, h refl)

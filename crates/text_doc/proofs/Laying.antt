@@ -1,9 +1,9 @@
 -- Laws of laying a doc's pieces one behind the other.
+use Rattle.std.specs.Prelude.{None}
 use Prim.Native.Nat.{ℕ, zero, suc, ◌+◌, ◌*◌, ◌≤◌, ◌<◌}
 use mathlib.Core.Path.{◌≡◌, refl, ap, sym, ◌∙◌}
 use mathlib.Core.Bool.{Bool, true}
 use mathlib.Core.List.{List, [], ◌∷◌, ◌++◌, append-nil, append_assoc}
-use mathlib.Core.Option.{none}
 use native.Mathlib.Omega.{arith}
 use lib.ListN.{length, drop, drop_of_length-le}
 use Rattle.rast.specs.Bytes.{Bytes, ascii}
@@ -43,7 +43,7 @@ rest ind doc place = ConvertDocstring (drop place.at doc) ind place.started (mar
 -- from the doc's start on, all before the place is laid
 pub record Reached (write : Bool) (ind doc : Bytes) (o : List ℕ) (p : ℕ) (place : Cursor) (o' : List ℕ) (p' : ℕ) : Type 0 where
   pub front : Bytes
-  pub parts : ConvertDocstring doc ind true none ≡ front ++ rest ind doc place
+  pub parts : ConvertDocstring doc ind true None ≡ front ++ rest ind doc place
   pub laid : Laid write o p front o' p'
 
 pub reached-start : {write : Bool} (ind doc : Bytes) (o : List ℕ) (p : ℕ) → Reached write ind doc o p (record { at = 0; started = true; fence = 0 }) o p
@@ -52,7 +52,7 @@ reached-start ind doc o p = record { front = []; parts = refl; laid = laid-nothi
 
 module _ {write : Bool} {ind doc o o' : Bytes} {p p' : ℕ} {place : Cursor} where
   -- there is room for a step's piece
-  pub reached-fits : (step : Step) → Fits write o p (ConvertDocstring doc ind true none) → Reached write ind doc o p place o' p'
+  pub reached-fits : (step : Step) → Fits write o p (ConvertDocstring doc ind true None) → Reached write ind doc o p place o' p'
       → Splits doc place.at place.started place.fence step → Fits write o' p' (piece_text ind (drop place.at doc) step.piece)
   reached-fits step f r s = fits-front (rest ind doc step.next) (fits-as (s.splits ind) (fits-behind (rest ind doc place) (fits-as r.parts f) r.laid))
 
@@ -67,13 +67,13 @@ module _ {write : Bool} {ind doc o o' : Bytes} {p p' : ℕ} {place : Cursor} whe
   }
 
   -- at the doc's end all is laid
-  pub reached-all : length doc ≤ place.at → Reached write ind doc o p place o' p' → Laid write o p (ConvertDocstring doc ind true none) o' p'
+  pub reached-all : length doc ≤ place.at → Reached write ind doc o p place o' p' → Laid write o p (ConvertDocstring doc ind true None) o' p'
   reached-all h r =
       let e : rest ind doc place ≡ [] = rw (drop_of_length-le doc h) (at-end ind place.started (marker place.fence)) in
       laid_as (sym (r.parts ∙ rw e (append-nil r.front))) r.laid
 
 -- the parts of a doc comment
-pub doc-parts : (doc ind : Bytes) → 0 < length doc → ToDocstringPrefix doc ind ≡ DocStringPrefix ++ (ConvertDocstring doc ind true none ++ (ascii "\n" ++ ind))
+pub doc-parts : (doc ind : Bytes) → 0 < length doc → ToDocstringPrefix doc ind ≡ DocStringPrefix ++ (ConvertDocstring doc ind true None ++ (ascii "\n" ++ ind))
 unfolding ToDocstringPrefix
 doc-parts [] ind h = absurd (let z : ⊥ = omega arith in z)
 doc-parts (c ∷ s) ind h = simp append_assoc

@@ -10,6 +10,8 @@ use borrow.Author.Tests.{eq-eqb, ne_eqb, eqb-true, eqb-false, le-leb, lt-leb, le
 use lib.Dec.{eqb, leb, ltb, leb-zero, leb-suc-zero, leb-suc-suc}
 use lib.ListN.{length, get_or, take, drop, replicate, length-append, length-drop, length-replicate, drop_of_length-le}
 use lib.Seq.{drop-cons}
+use Rattle.std.specs.Prelude.{min, ◌||◌}
+use Rattle.std.proofs.lemmas.List.{get_or-take, get_or-drop}
 use Rattle.rast.specs.Bytes.{Bytes, ascii, ◌and◌, ◌or◌, same, begins}
 use Rattle.rast.specs.Doc.{is_empty_text, GatherSimpleQuotes}
 use Rattle.rast.proofs.BytesLaws.{and_left, and_right, and-true, never}
@@ -84,13 +86,6 @@ unfolding run_of
 run_none x [] e = refl
 run_none x (c ∷ s) e = run_ends x c s (sym (begins-one x c s) ∙ e)
 
-pub begins-some : (x : ℕ) (l : Bytes) (i : ℕ) → begins (x ∷ []) (drop i l) ≡ true → i < length l
-begins-some x l i e = go (drop i l) (length-drop i l) e
-  where
-    go : (d : Bytes) → length d ≡ length l - i → begins (x ∷ []) d ≡ true → i < length l
-    go [] k e = never (sym e ∙ begins-nothing x [])
-    go (c ∷ s) k e = omega arith
-
 pub begins-run : (x k : ℕ) (d : Bytes) → begins (replicate k x) d ≡ leb k (run_of x d)
 unfolding run_of ◌and◌
 begins-run x zero d = begins-none d ∙ sym (leb-zero (run_of x d))
@@ -158,6 +153,15 @@ module _ (l : Bytes) where
       let m = line-more l j h k in
       record { order = omega (arith, p.order); inside = omega arith; line = omega (arith, p.order, p.line) }
 
+  -- byte by byte through a block: a newline was found before, or is this byte, or neither
+  pub passed-byte : {i count k : ℕ} (found : Bool) → (found ≡ false → Passed l i (i + k)) → i + count ≤ length l → k < count
+      → (found || eqb (get_or (take (i + count - i) (drop i l)) k 0) 10) ≡ false → Passed l i (i + (k + 1))
+  passed-byte true p h n e = never e
+  passed-byte {i} {count} {k} false p h n e =
+      let same-byte : get_or (take (i + count - i) (drop i l)) k 0 ≡ get_or l (i + k) 0 = get_or-take (i + count - i) (drop i l) k 0 (omega arith) ∙ get_or-drop i l k 0 in
+      let more : i + (k + 1) ≡ i + k + 1 = omega arith in
+      rw more (passed-more (p refl) (omega arith) (subst (λ (w : ℕ). w ≡ 10 → ⊥) same-byte (eqb-false _ 10 e)))
+
   pub passed_then : {i j k : ℕ} → Passed l i j → Passed l j k → Passed l i k
   passed_then p q = record { order = omega (arith, p.order, q.order); inside = q.inside; line = omega (arith, p.order, q.order, p.line, q.line) }
 
@@ -192,9 +196,6 @@ module _ (l : Bytes) where
 -- ---- the first newline of a block
 
 module _ (l : Bytes) (at : ℕ) where
-  pub nearest-none : at ≤ length l → Nearest l at 0 255
-  nearest-none h = record { none = λ e. rw (add-zero at) (passed_none l at h); some = λ k. absurd (let z : ⊥ = omega arith in z); most = omega arith }
-
   nearest-as : {n r f : ℕ} → r ≡ f → Nearest l at n f → Nearest l at n r
   nearest-as {n} e k = subst (λ (x : ℕ). Nearest l at n x) (sym e) k
 
@@ -205,7 +206,7 @@ module _ (l : Bytes) (at : ℕ) where
 
   -- one byte more: p is its place if it is a newline, and r the lesser of p and what was found before
   module _ (i f p r : ℕ) (n : Nearest l at i f) (inside : at + i < length l) (short : i < 255)
-      (place : (get_or l (at + i) 0 ≡ 10 → p ≡ i) × ((get_or l (at + i) 0 ≡ 10 → ⊥) → p ≡ 255)) (choice : (p < f → r ≡ p) × (f ≤ p → r ≡ f)) where
+      (place : (get_or l (at + i) 0 ≡ 10 → p ≡ i) × ((get_or l (at + i) 0 ≡ 10 → ⊥) → p ≡ 255)) (choice : r ≡ min f p) where
     nearest-found : get_or l (at + i) 0 ≡ 10 → f ≡ 255 → Nearest l at (i + 1) i
     nearest-found e k = record { none = λ q. absurd (let z : ⊥ = omega arith in z); some = λ q. (omega arith, n.none k, e); most = omega arith }
 
@@ -214,25 +215,31 @@ module _ (l : Bytes) (at : ℕ) where
         let e : at + (i + 1) ≡ at + i + 1 = omega arith in
         record { none = λ q. rw e (passed-more l (n.none k) inside h); some = λ q. absurd (let z : ⊥ = omega arith in z); most = omega arith }
 
+    chosen : p < f → r ≡ p
+    chosen h = omega (arith, choice)
+
+    kept : f ≤ p → r ≡ f
+    kept h = omega (arith, choice)
+
     pub nearest-more : Nearest l at (i + 1) r
     nearest-more = go (eqb (get_or l (at + i) 0) 10) refl (ltb f 255) refl
       where
         go : (b : Bool) → eqb (get_or l (at + i) 0) 10 ≡ b → (t : Bool) → ltb f 255 ≡ t → Nearest l at (i + 1) r
         go true e true d =
             let k = ltb-true f 255 d in
-            nearest-as (choice.1 (omega (arith, (n.some k).0, place.0 (eqb-true _ 10 e)))) (nearest-kept k n)
+            nearest-as (kept (omega (arith, (n.some k).0, place.0 (eqb-true _ 10 e)))) (nearest-kept k n)
         go true e false d =
-            let q = eqb-true _ 10 e in
+            let q = eqb-true (get_or l (at + i) 0) 10 e in
             let k : f ≡ 255 = omega (arith, ltb-false f 255 d, n.most) in
             let pi = place.0 q in
-            nearest-as (choice.0 (omega arith) ∙ pi) (nearest-found q k)
+            nearest-as (chosen (omega arith) ∙ pi) (nearest-found q k)
         go false e true d =
             let k = ltb-true f 255 d in
-            nearest-as (choice.1 (omega (arith, place.1 (eqb-false _ 10 e)))) (nearest-kept k n)
+            nearest-as (kept (omega (arith, place.1 (eqb-false _ 10 e)))) (nearest-kept k n)
         go false e false d =
             let q = eqb-false (get_or l (at + i) 0) 10 e in
             let k : f ≡ 255 = omega (arith, ltb-false f 255 d, n.most) in
-            nearest-as (choice.1 (omega (arith, place.1 q))) (nearest-passed q k)
+            nearest-as (kept (omega (arith, place.1 q))) (nearest-passed q k)
 
   -- what was found is the line's length
   pub nearest-line : {n f : ℕ} → Nearest l at n f → (f ≡ 255 → ⊥) → (f ≡ line_length (drop at l)) × (at + f ≤ length l)

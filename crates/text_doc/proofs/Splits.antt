@@ -1,9 +1,9 @@
 -- The steps at a place of a doc.
+use Rattle.std.specs.Prelude.{Option, Some, None}
 use Prim.Native.Nat.{ℕ, zero, suc, ◌+◌, ◌≤◌, ◌<◌}
 use mathlib.Core.Path.{◌≡◌, refl, ap, sym, ◌∙◌, subst}
 use mathlib.Core.Bool.{Bool, true, false}
 use mathlib.Core.List.{◌∷◌, ◌++◌}
-use mathlib.Core.Option.{Option, some, none}
 use native.Mathlib.Omega.{arith}
 use native.Mathlib.Numerals.{add-one}
 use borrow.Author.Tests.{eq-eqb}
@@ -114,7 +114,7 @@ module _ (doc : Bytes) (at : ℕ) where
       unfolding piece_text copied marker
       bar-splits h k l = record {
         splits = λ ind. rw (marker-none fence h, sym (drop-drop 4 at doc))
-            (at_head (λ (d : Bytes). 4 < length d → 4 ≤ run_of 32 d → C ind d true none ≡ ascii "|   " ++ C ind (drop 4 d) false none)
+            (at_head (λ (d : Bytes). 4 < length d → 4 ≤ run_of 32 d → C ind d true None ≡ ascii "|   " ++ C ind (drop 4 d) false None)
             (bar ind c s space) (omega (arith, length-drop at doc)) (omega arith));
         inside = omega arith;
         onward = omega arith;
@@ -135,7 +135,7 @@ module _ (doc : Bytes) (at : ℕ) where
       close-splits fence h k l =
           copy-splits fence true false fence 0 l h
           (λ ind. rw (marker-some fence h)
-          (at_head (λ (d : Bytes). fence ≤ run_of 96 d → C ind d true (some (replicate fence 96)) ≡ take fence d ++ C ind (drop fence d) false none)
+          (at_head (λ (d : Bytes). fence ≤ run_of 96 d → C ind d true (Some (replicate fence 96)) ≡ take fence d ++ C ind (drop fence d) false None)
           (fence-closes ind c s no-newline no-space fence) k))
 
       -- a fence that opens code: what is behind it decides
@@ -158,7 +158,7 @@ module _ (doc : Bytes) (at : ℕ) where
         unnamed-splits e = record {
           splits = λ ind. rw (sym (drop-drop count at doc))
               (at_head (λ (d : Bytes). count ≡ run_of 96 d → 3 ≤ count → count ≤ length d
-              → unnamed (drop count d) ≡ true → C ind d true none ≡ take count d ++ ascii "dafny" ++ C ind (drop count d) false (marker count))
+              → unnamed (drop count d) ≡ true → C ind d true None ≡ take count d ++ ascii "dafny" ++ C ind (drop count d) false (marker count))
               (unnamed-opens ind c s no-newline no-space count) size many fits (rw (drop-drop count at doc) e));
           inside = inside;
           onward = omega arith;
@@ -171,7 +171,7 @@ module _ (doc : Bytes) (at : ℕ) where
               let p : at + count + 2 ≡ at + (count + 2) = omega arith in
               rw (p, sym (drop-drop (count + 2) at doc))
               (at_head (λ (d : Bytes). count ≡ run_of 96 d → 3 ≤ count → count ≤ length d
-              → unnamed (drop count d) ≡ false → rust (drop count d) ≡ true → C ind d true none ≡ take count d ++ C ind (drop (count + 2) d) false (marker count))
+              → unnamed (drop count d) ≡ false → rust (drop count d) ≡ true → C ind d true None ≡ take count d ++ C ind (drop (count + 2) d) false (marker count))
               (rust-opens ind c s no-newline no-space count) size many fits (rw (drop-drop count at doc) e) (rw (drop-drop count at doc) k));
           inside = inside;
           onward = omega arith;
@@ -182,5 +182,5 @@ module _ (doc : Bytes) (at : ℕ) where
         other-splits e k =
             copy-splits count true false 0 count inside (omega arith)
             (λ ind. at_head (λ (d : Bytes). count ≡ run_of 96 d → 3 ≤ count → count ≤ length d
-            → unnamed (drop count d) ≡ false → rust (drop count d) ≡ false → C ind d true none ≡ take count d ++ C ind (drop count d) false (marker count))
+            → unnamed (drop count d) ≡ false → rust (drop count d) ≡ false → C ind d true None ≡ take count d ++ C ind (drop count d) false (marker count))
             (other-opens ind c s no-newline no-space count) size many fits (rw (drop-drop count at doc) e) (rw (drop-drop count at doc) k))

@@ -1,9 +1,9 @@
 -- The conversion step by step: for each branch of the source's body, what a step lays and what remains.
+use Rattle.std.specs.Prelude.{Option, Some, None}
 use Prim.Native.Nat.{ℕ, zero, suc, ◌+◌, ◌≤◌, ◌<◌}
 use mathlib.Core.Path.{◌≡◌, refl, ap, sym, ◌∙◌}
 use mathlib.Core.Bool.{Bool, true, false}
 use mathlib.Core.List.{[], ◌∷◌, ◌++◌}
-use mathlib.Core.Option.{Option, some, none}
 use native.Mathlib.Omega.{arith}
 use borrow.Author.Tests.{lt-ltb, le-leb, lt-leb, ltb-true, eq-eqb, ne_eqb, eqb-true}
 use lib.Dec.{eqb, leb, ltb}
@@ -16,12 +16,12 @@ use Rattle.rast.proofs.BytesLaws.{never}
 use Rattle.text_doc.specs.Steps.{run_of, line_length, marker}
 use Rattle.text_doc.proofs.Runs.{begins-one, begins-front, begins-run, run_on, run_ends, take-run, gather, line_on, line-ends}
 
-pub marker-none : (n : ℕ) → n ≡ 0 → marker n ≡ none
+pub marker-none : (n : ℕ) → n ≡ 0 → marker n ≡ None
 unfolding marker
 marker-none zero h = refl
 marker-none (suc n) h = absurd (let z : ⊥ = omega arith in z)
 
-pub marker-some : (n : ℕ) → 0 < n → marker n ≡ some (replicate n 96)
+pub marker-some : (n : ℕ) → 0 < n → marker n ≡ Some (replicate n 96)
 unfolding marker
 marker-some zero h = absurd (let z : ⊥ = omega arith in z)
 marker-some (suc n) h = refl
@@ -56,8 +56,8 @@ module _ (ind : Bytes) where
   inside c s m h = go (eqb c 32) refl m
     where
       go : (t : Bool) → eqb c 32 ≡ t → (m : Option Bytes) → C (c ∷ s) false m ≡ c ∷ C s false m
-      go true e none = other-space ind c s (begins-one 10 c s ∙ h) false (begins-one 32 c s ∙ e) refl ∙ rw (eqb-true c 32 e)
-      go true e (some m) = in-code-space ind c s (begins-one 10 c s ∙ h) false m (begins-one 32 c s ∙ e) ∙ rw (eqb-true c 32 e)
+      go true e None = other-space ind c s (begins-one 10 c s ∙ h) false (begins-one 32 c s ∙ e) refl ∙ rw (eqb-true c 32 e)
+      go true e (Some m) = in-code-space ind c s (begins-one 10 c s ∙ h) false m (begins-one 32 c s ∙ e) ∙ rw (eqb-true c 32 e)
       go false e m = inside-line ind c s (begins-one 10 c s ∙ h) (begins-one 32 c s ∙ e) m
 
   -- up to the line's end the bytes stay
@@ -73,13 +73,13 @@ module _ (ind : Bytes) where
 
   -- ---- spaces at a line's start
 
-  pub code-spaces : (d m : Bytes) → C d true (some m) ≡ take (run_of 32 d) d ++ C (drop (run_of 32 d) d) true (some m)
+  pub code-spaces : (d m : Bytes) → C d true (Some m) ≡ take (run_of 32 d) d ++ C (drop (run_of 32 d) d) true (Some m)
   unfolding run_of ascii
   code-spaces [] m = refl
   code-spaces (c ∷ s) m = go (eqb c 32) refl (code-spaces s m)
     where
-      go : (t : Bool) → eqb c 32 ≡ t → C s true (some m) ≡ take (run_of 32 s) s ++ C (drop (run_of 32 s) s) true (some m)
-          → C (c ∷ s) true (some m) ≡ take (run_of 32 (c ∷ s)) (c ∷ s) ++ C (drop (run_of 32 (c ∷ s)) (c ∷ s)) true (some m)
+      go : (t : Bool) → eqb c 32 ≡ t → C s true (Some m) ≡ take (run_of 32 s) s ++ C (drop (run_of 32 s) s) true (Some m)
+          → C (c ∷ s) true (Some m) ≡ take (run_of 32 (c ∷ s)) (c ∷ s) ++ C (drop (run_of 32 (c ∷ s)) (c ∷ s)) true (Some m)
       go true e ih =
           let p = eqb-true c 32 e in
           let n : begins (ascii "\n") (c ∷ s) ≡ false = begins-one 10 c s ∙ ne_eqb c 10 (λ q. let z : ⊥ = omega arith in z) in
@@ -87,13 +87,13 @@ module _ (ind : Bytes) where
       go false e ih = rw (run_ends 32 c s e)
 
   -- outside code, where there are not four of them or they end the doc
-  pub few-spaces : (d : Bytes) → (4 < length d → run_of 32 d < 4) → C d true none ≡ take (run_of 32 d) d ++ C (drop (run_of 32 d) d) true none
+  pub few-spaces : (d : Bytes) → (4 < length d → run_of 32 d < 4) → C d true None ≡ take (run_of 32 d) d ++ C (drop (run_of 32 d) d) true None
   unfolding run_of ascii ◌and◌
   few-spaces [] h = refl
   few-spaces (c ∷ s) h = go (eqb c 32) refl (few-spaces s)
     where
-      go : (t : Bool) → eqb c 32 ≡ t → ((4 < length s → run_of 32 s < 4) → C s true none ≡ take (run_of 32 s) s ++ C (drop (run_of 32 s) s) true none)
-          → C (c ∷ s) true none ≡ take (run_of 32 (c ∷ s)) (c ∷ s) ++ C (drop (run_of 32 (c ∷ s)) (c ∷ s)) true none
+      go : (t : Bool) → eqb c 32 ≡ t → ((4 < length s → run_of 32 s < 4) → C s true None ≡ take (run_of 32 s) s ++ C (drop (run_of 32 s) s) true None)
+          → C (c ∷ s) true None ≡ take (run_of 32 (c ∷ s)) (c ∷ s) ++ C (drop (run_of 32 (c ∷ s)) (c ∷ s)) true None
       go true e ih =
           let p = eqb-true c 32 e in
           let n : begins (ascii "\n") (c ∷ s) ≡ false = begins-one 10 c s ∙ ne_eqb c 10 (λ q. let z : ⊥ = omega arith in z) in
@@ -108,7 +108,7 @@ module _ (ind : Bytes) where
     abbrev d : Bytes
     d = c ∷ s
 
-    pub bar : c ≡ 32 → 4 < length d → 4 ≤ run_of 32 d → C d true none ≡ ascii "|   " ++ C (drop 4 d) false none
+    pub bar : c ≡ 32 → 4 < length d → 4 ≤ run_of 32 d → C d true None ≡ ascii "|   " ++ C (drop 4 d) false None
     unfolding ascii ◌and◌
     bar p l r =
         let n : begins (ascii "\n") d ≡ false = begins-one 10 c s ∙ ne_eqb c 10 (λ q. let z : ⊥ = omega arith in z) in
@@ -134,14 +134,14 @@ module _ (ind : Bytes) where
       unfolding ascii begins ◌and◌
       three l = rw l at (begins-run 96 3 d)
 
-      pub no-fence-opens : run_of 96 d < 3 → C d true none ≡ c ∷ C s false none
+      pub no-fence-opens : run_of 96 d < 3 → C d true None ≡ c ∷ C s false None
       no-fence-opens h = go (leb 3 (length d)) refl
         where
-          go : (t : Bool) → leb 3 (length d) ≡ t → C d true none ≡ c ∷ C s false none
+          go : (t : Bool) → leb 3 (length d) ≡ t → C d true None ≡ c ∷ C s false None
           go true e = no-fence ind c s nl sp e (three e ∙ lt-leb 3 (run_of 96 d) h)
           go false e = too_short ind c s nl sp e
 
-      pub no-fence-closes : (k : ℕ) → run_of 96 d < k → C d true (some (replicate k 96)) ≡ c ∷ C s false (some (replicate k 96))
+      pub no-fence-closes : (k : ℕ) → run_of 96 d < k → C d true (Some (replicate k 96)) ≡ c ∷ C s false (Some (replicate k 96))
       no-fence-closes k h = in_code ind c s nl sp m (longer (begins (m ++ ascii "\n") d) refl) short
         where
           m : Bytes
@@ -154,12 +154,12 @@ module _ (ind : Bytes) where
           longer true e = never (sym (begins-front m (ascii "\n") d e) ∙ short)
           longer false e = e
 
-      pub fence-closes : (k : ℕ) → k ≤ run_of 96 d → C d true (some (replicate k 96)) ≡ take k d ++ C (drop k d) false none
+      pub fence-closes : (k : ℕ) → k ≤ run_of 96 d → C d true (Some (replicate k 96)) ≡ take k d ++ C (drop k d) false None
       fence-closes k h = go (begins (replicate k 96 ++ ascii "\n") d) refl
           ∙ rw (length-replicate {A = ℕ} k 96, take-run 96 k d h)
         where
           go : (t : Bool) → begins (replicate k 96 ++ ascii "\n") d ≡ t
-              → C d true (some (replicate k 96)) ≡ replicate k 96 ++ C (drop (length {A = ℕ} (replicate k 96)) d) false none
+              → C d true (Some (replicate k 96)) ≡ replicate k 96 ++ C (drop (length {A = ℕ} (replicate k 96)) d) false None
           go true e = code-ends-line ind c s nl sp (replicate k 96) e
           go false e = code-ends ind c s nl sp (replicate k 96) e (begins-run 96 k d ∙ le-leb k (run_of 96 d) h)
 
@@ -174,7 +174,7 @@ module _ (ind : Bytes) where
         count : length (GatherSimpleQuotes d []) ≡ n
         count = rw quotes (length-replicate n 96)
 
-        code : marker n ≡ some (replicate n 96)
+        code : marker n ≡ Some (replicate n 96)
         code = marker-some n (omega arith)
 
         long : leb 3 (length d) ≡ true
@@ -189,11 +189,11 @@ module _ (ind : Bytes) where
         abbrev rust : Bool
         rust = leb 3 (length (drop n d)) and same (take 2 (drop n d)) (ascii "rs") and (begins (ascii " ") (drop 2 (drop n d)) or begins (ascii "\n") (drop 2 (drop n d)))
 
-        pub unnamed-opens : unnamed ≡ true → C d true none ≡ take n d ++ ascii "dafny" ++ C (drop n d) false (marker n)
+        pub unnamed-opens : unnamed ≡ true → C d true None ≡ take n d ++ ascii "dafny" ++ C (drop n d) false (marker n)
         unnamed-opens e = rw (front, code) (rw (count, quotes) at (unnamed-fence ind c s nl sp long fence (rw count e)))
 
-        pub rust-opens : unnamed ≡ false → rust ≡ true → C d true none ≡ take n d ++ C (drop (n + 2) d) false (marker n)
+        pub rust-opens : unnamed ≡ false → rust ≡ true → C d true None ≡ take n d ++ C (drop (n + 2) d) false (marker n)
         rust-opens e k = rw (front, code) (rw (count, quotes) at (rust-fence ind c s nl sp long fence (rw count e) (rw count k)))
 
-        pub other-opens : unnamed ≡ false → rust ≡ false → C d true none ≡ take n d ++ C (drop n d) false (marker n)
+        pub other-opens : unnamed ≡ false → rust ≡ false → C d true None ≡ take n d ++ C (drop n d) false (marker n)
         other-opens e k = rw (front, code) (rw (count, quotes) at (other-fence ind c s nl sp long fence (rw count e) (rw count k)))

@@ -1,6 +1,5 @@
 -- Converting a doc step by step: what a step lays, and what remains behind it.
-use Rattle.std.specs.Prelude.{ℕ, zero, suc, ◌+◌, ◌-◌, ◌≤◌, ◌<◌, ◌≡◌, Bool, true, false, [], ◌∷◌, ◌++◌, eqb, length, get_or, take, drop, replicate}
-use Rattle.std.proofs.Math.Option.{Option, some, none}
+use Rattle.std.specs.Prelude.{Option, Some, None, ℕ, zero, suc, ◌+◌, ◌-◌, ◌≤◌, ◌<◌, ◌≡◌, Bool, true, false, [], ◌∷◌, ◌++◌, eqb, length, get_or, take, drop, replicate}
 use Rattle.rast.specs.Bytes.{Bytes, ascii}
 use Rattle.rast.specs.Doc.{DocStringPrefix, ConvertDocstring}
 use Rattle.text_doc.specs.declared.DocPiece.{DocPiece}
@@ -40,8 +39,8 @@ pub record NoFence (count fence : ℕ) : Type 0 where
 
 -- a code marker is a fence's backticks, so its length is all that is kept of it, and 0 is none
 unfoldable pub marker : ℕ → Option Bytes
-marker zero = none
-marker (suc n) = some (replicate (suc n) 96)
+marker zero = None
+marker (suc n) = Some (replicate (suc n) 96)
 
 -- from here on the line stays, or a space or a fence at its start does not
 pub record Stays (doc : Bytes) (at : ℕ) (started : Bool) (fence : ℕ) : Type 0 where

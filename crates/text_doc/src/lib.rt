@@ -1,8 +1,7 @@
 // Doc comments: `ConvertDocstring` on bytes. One pass writes the text, or only counts it.
 #![tactic(auto)]
 
-ghost use Rattle.std.specs.Prelude.{◌≡◌, true, false, [], ◌∷◌, ◌++◌, ◌+◌, ◌^◌, ◌≤◌, ◌<◌, leb, length, take, drop, get_or};
-ghost use Rattle.std.proofs.Math.Option.{none};
+ghost use Rattle.std.specs.Prelude.{◌≡◌, None, true, false, [], ◌∷◌, ◌++◌, ◌+◌, ◌^◌, ◌≤◌, ◌<◌, leb, length, take, drop, get_or};
 ghost use Rattle.rast.specs.Bytes.{ascii, ◌and◌, ◌or◌, same, begins};
 ghost use Rattle.rast.specs.Indent.{indent};
 ghost use Rattle.rast.specs.Doc.{ConvertDocstring, ToDocstringPrefix};
@@ -11,7 +10,8 @@ ghost use Rattle.buffer.specs.Wrote.{Wrote};
 ghost use Rattle.text_doc.specs.Steps.{run_of, line_length, Passed, Nearest, Fence, NoFence, Stays, Changes, copied, piece_text, Splits, copy_step};
 
 // Where the conversion stands: at a byte, at a line's start or not, and in code (behind a fence of `fence` backticks) or not (0).
-#[derive(Clone, Copy)]
+// Kept: an `Option` for 0 is no plainer: it lets a fence of no backticks through, which the contracts of the steps would then have to rule out.
+#[derive(Clone, Copy, Debug, PartialEq, Eq)]
 struct Cursor {
     at: usize,
     started: bool,
@@ -19,7 +19,7 @@ struct Cursor {
 }
 
 // What is laid next: a new line, the mark for four spaces, a fence that gains a name, or bytes as they stand.
-#[derive(Clone, Copy)]
+#[derive(Clone, Copy, Debug, PartialEq, Eq)]
 enum DocPiece {
     Newline,
     Bar,
@@ -28,7 +28,7 @@ enum DocPiece {
 }
 
 // A piece, and where the conversion goes on behind it.
-#[derive(Clone, Copy)]
+#[derive(Clone, Copy, Debug, PartialEq, Eq)]
 struct Step {
     piece: DocPiece,
     next: Cursor,
@@ -78,24 +78,12 @@ fn run(doc: &[u8], at: usize, byte: u8) -> usize
     requires { at ≤ length doc.now }
     ensures { (result ≡ run_of byte (drop at doc.now)) × (at + result ≤ length doc.now) }
 {
-    let mut i = at;
-    let count = loop {
-        if !stands(doc, i, byte) {
-            break i - at;
+    for i in at..doc.len() {
+        if doc[i] != byte {
+            return i - at;
         }
-        i += 1;
-    };
-    count
-}
-
-// 1 at a newline, else what was found before.
-fn newline_or(found: u8, byte: u8) -> u8
-    ensures { result ≡ 0 → (found ≡ 0) × (byte ≡ 10 → ⊥) }
-{
-    if byte == b'\n' {
-        return 1;
     }
-    found
+    doc.len() - at
 }
 
 // A newline stands among the next `count` bytes. The loop has no early exit, so that it compiles to wide compares.
@@ -103,16 +91,15 @@ fn newline_among(doc: &[u8], at: usize, count: usize) -> bool
     requires { at + count ≤ length doc.now }
     ensures { result ≡ false → Passed doc.now at (at + count) }
 {
-    let mut found: u8 = 0;
-    let mut i = 0;
-    while i < count {
-        found = newline_or(found, doc[at + i]);
-        i += 1;
+    let mut found = false;
+    for byte in &doc[at..at + count] {
+        found |= *byte == b'\n';
     }
-    found != 0
+    found
 }
 
 // Past the blocks of `size` bytes from `at` on that have no newline.
+// Kept: a turn of `while` passes a block; `chunks_exact` is no plainer, since the place behind the block is counted beside it all the same.
 fn skip_blocks(doc: &[u8], at: usize, size: usize) -> usize
     requires { (at ≤ length doc.now) × (0 < size) }
     ensures { Passed doc.now at result }
@@ -150,17 +137,16 @@ fn newline_from(doc: &[u8], at: usize) -> usize
     requires { at ≤ length doc.now }
     ensures { Passed doc.now at result × (result < length doc.now → get_or doc.now result 0 ≡ 10) }
 {
-    let mut i = at;
-    while i < doc.len() {
+    for i in at..doc.len() {
         if doc[i] == b'\n' {
             return i;
         }
-        i += 1;
     }
-    i
+    doc.len()
 }
 
 // The place `i`, if a newline stands there, else 255.
+// Kept: an `Option` for 255 was tried, and is slower: rustc -O makes wide compares of 64 such bytes, and none of 64 such options.
 fn newline_place(i: u8, byte: u8) -> u8
     ensures { (byte ≡ 10 → result ≡ i) × ((byte ≡ 10 → ⊥) → result ≡ 255) }
 {
@@ -170,15 +156,6 @@ fn newline_place(i: u8, byte: u8) -> u8
     255
 }
 
-fn least(a: u8, b: u8) -> u8
-    ensures { (b < a → result ≡ b) × (a ≤ b → result ≡ a) }
-{
-    if b < a {
-        return b;
-    }
-    a
-}
-
 // How many of the next 64 bytes stand before the first newline, 255 if there is none. The least place of a newline is found by wide compares too, and costs
 // no jump that is hard to foresee.
 fn near_length(doc: &[u8], at: usize) -> usize
@@ -186,10 +163,8 @@ fn near_length(doc: &[u8], at: usize) -> usize
     ensures { Nearest doc.now at 64 result }
 {
     let mut found: u8 = 255;
-    let mut i: u8 = 0;
-    while i < 64 {
-        found = least(found, newline_place(i, doc[at + i as usize]));
-        i += 1;
+    for i in 0..64u8 {
+        found = found.min(newline_place(i, doc[at + i as usize]));
     }
     found as usize
 }
@@ -405,9 +380,10 @@ fn lay_piece(
 }
 
 // `ConvertDocstring`, with its two default arguments.
+// Kept: a turn of `while` takes as many bytes as its step says; no range or iterator has that.
 fn lay_converted(write: bool, doc: &[u8], level: u32, out: &mut [u8], pos: usize) -> usize
-    requires { Fits write out.old pos (ConvertDocstring doc.now (indent level) true none) }
-    ensures { Laid write out.old pos (ConvertDocstring doc.now (indent level) true none) out.new result }
+    requires { Fits write out.old pos (ConvertDocstring doc.now (indent level) true None) }
+    ensures { Laid write out.old pos (ConvertDocstring doc.now (indent level) true None) out.new result }
 {
     let mut place = Cursor {
         at: 0,

@@ -1,6 +1,8 @@
 -- Fields and lists of fields, from the texts of their parts.
+use Rattle.std.specs.Prelude.{Ok, Err, Result, IsErrAnd}
 use Prim.Native.Nat.{ℕ, ◌+◌, ◌*◌, ◌≤◌, ◌<◌}
 use mathlib.Core.Path.{◌≡◌, refl, ap, sym, ◌∙◌, subst}
+use mathlib.Core.Logic.{◌⊎◌, inl, inr}
 use mathlib.Core.Bool.{Bool, true, false}
 use mathlib.Core.List.{List, ◌∷◌, ◌++◌, append_assoc}
 use native.Mathlib.Numerals.{add-one}
@@ -15,13 +17,14 @@ use Rattle.rast.specs.DeclarationToString.{Visibility-to_string, Formal-to_strin
 use Rattle.buffer.specs.Wrote.{Wrote}
 use Rattle.buffer.proofs.Laws.{wrote_as}
 use Rattle.text_doc.proofs.Laying.{indent-length, line-size}
+use Rattle.encoding.specs.declared.Refusal.{Refusal}
 use Rattle.encoding.specs.Reading.{Reading, got}
 use Rattle.encoding.specs.Scans.{map_reading}
 use Rattle.encoding.specs.Tables.{name_bytes, name_count}
 use Rattle.encoding.specs.Types.{type_at}
 use Rattle.encoding.specs.Declarations.{read_list, read_visibility, read_formal, read_field, read_nameless_field}
-use Rattle.text_pass.specs.declared.PartEnd.TheVariants.{At}
-use Rattle.text_pass.specs.Passes.{last, ◌then◌, run, Came, came, Along}
+use Rattle.encoding.proofs.Reading.{handed-on}
+use Rattle.text_pass.specs.Passes.{last, ◌then◌, run, Came, came, Went, Along}
 use Rattle.text_pass.specs.Texts.{visibility_at}
 use Rattle.text_pass.proofs.Passes.{Runs, came-to}
 use Rattle.text_pass.proofs.Leaves.{CountFirst, counted-first}
@@ -39,6 +42,12 @@ indent-more level = rw (add-one level)
 pub comma-line : (level : ℕ) → separator_text (indent level) true ≡ ascii "," ++ (ascii "\n" ++ indent (level + 1))
 unfolding separator_text ascii
 comma-line level = rw (indent-more level)
+
+-- what stands between fields on lines of their own
+pub lined-gap : {entry : Entry} (level : ℕ) → (entry ≡ Named) ⊎ (entry ≡ Lined) → entry_gap entry level ≡ separator_text (indent level) true
+unfolding entry_gap
+lined-gap level (inl e) = rw e
+lined-gap level (inr e) = rw e
 
 -- ---- the lengths of fixed texts
 
@@ -69,7 +78,11 @@ wrote_of f e w = wrote_as (ap f (sym e)) w
 
 -- what was left of a text is written: so is the text
 pub along-came : {o o₁ o₂ : List ℕ} {p p₁ n q : ℕ} {whole left : Reading Bytes} → Along true o p whole o₁ p₁ left → Came true o₁ p₁ left o₂ n q → Came true o p whole o₂ n q
-along-came {o₂ = o₂} {n = n} {q = q} a c = came-to (a.ends o₂ (At n q) (came c)) refl
+along-came {o₂ = o₂} {n = n} {q = q} a c = came-to (a.ends o₂ (Ok (n, q)) (came c)) refl
+
+-- a `?` hands on what is said of a part that stopped
+pub went-handed : {write : Bool} {o o' : List ℕ} {p : ℕ} {x : Reading Bytes} {r s : Result (ℕ × ℕ) Refusal} {k : Refusal} → r ≡ Err k → IsErrAnd s (λ u. u ≡ k) → Went write o p x o' r → Went write o p x o' s
+went-handed {write} {o} {o'} {p} {x} d e w = subst (λ (z : Result (ℕ × ℕ) Refusal). Went write o p x o' z) (d ∙ sym (handed-on e)) w
 
 -- ---- texts
 

@@ -1,2 +1,3 @@
 -- Laws of fields: their texts from those of their parts.
 pub mod Fields
+pub mod Turns

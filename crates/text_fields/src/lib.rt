@@ -11,13 +11,12 @@ ghost use Rattle.text_formal.specs.Labels.{Labelled, LabelWritten};
 ghost use Rattle.text_fields.specs.Texts.{are_named, entry_gap, list_front, list_end, no_fields, rest_at, field_at, entries_at, some_at, list_at};
 
 use accepted_types::Spot;
-use encoding::WordScan;
+use encoding::Refusal;
 use text_formal::Label;
-use text_pass::PartEnd;
 use text_type::Part;
 
 // What a list is of: named fields, which stand on lines of their own, or fields without names, one behind the other or on lines of their own.
-#[derive(Clone, Copy)]
+#[derive(Clone, Copy, Debug, PartialEq, Eq)]
 pub enum Entry {
     Named,
     Inline,
@@ -28,12 +27,10 @@ pub enum Entry {
 fn is_named(entry: Entry) -> bool
     ensures { result ≡ are_named entry }
 {
-    match entry {
-        Entry::Named => true,
-        Entry::Inline => false,
-        Entry::Lined => false,
-    }
+    matches!(entry, Entry::Named)
 }
+
+// Kept: one function for counting and for writing a part is no plainer: counting may refuse and has no buffer, and writing is never refused.
 
 // ---- counting
 
@@ -45,14 +42,14 @@ fn count_label(
     named: bool,
     at: usize,
     pos: usize,
-) -> Label
+) -> Result<Label, Refusal>
     requires { Checked words.now pairs.now text.now }
     ensures { Labelled (type_text_at words.now pairs.now text.now) pos (rest_at words.now pairs.now text.now named at) result }
 {
     if named {
         return text_formal::count_label(words, pairs, text, at, pos);
     }
-    Label::Open { next: at, pos }
+    Ok(Label::Open { next: at, pos })
 }
 
 // A field behind its visibility: its name and type, or its type alone. All types of fields are counted by this one call.
@@ -63,14 +60,14 @@ fn count_rest(
     named: bool,
     at: usize,
     pos: usize,
-) -> PartEnd
+) -> Result<(usize, usize), Refusal>
     requires { Checked words.now pairs.now text.now }
     ensures { Counts pos (rest_at words.now pairs.now text.now named at) result }
 {
-    match count_label(words, pairs, text, named, at, pos) {
+    let label = count_label(words, pairs, text, named, at, pos)?;
+    match label {
         Label::Open { next, pos: p } => text_pass::count_field_type(words, pairs, text, next, p),
-        Label::Whole { next, pos: p } => PartEnd::At { next, pos: p },
-        Label::NoLabel(r) => PartEnd::Stopped(r),
+        Label::Whole { next, pos: p } => Ok((next, p)),
     }
 }
 
@@ -82,14 +79,11 @@ fn count_field(
     named: bool,
     at: usize,
     pos: usize,
-) -> PartEnd
+) -> Result<(usize, usize), Refusal>
     requires { Checked words.now pairs.now text.now }
     ensures { Counts pos (field_at words.now pairs.now text.now named at) result }
 {
-    let visibility = text_pass::count_visibility(words, at, pos);
-    let PartEnd::At { next, pos: p } = visibility else {
-        return visibility;
-    };
+    let (next, p) = text_pass::count_visibility(words, at, pos)?;
     count_rest(words, pairs, text, named, next, p)
 }
 
@@ -99,9 +93,8 @@ fn gap_length(entry: Entry, level: u32) -> usize
     ensures { (result ≡ length (entry_gap entry level)) × (result < 2 ^ 40) }
 {
     match entry {
-        Entry::Named => 6 + 4 * level as usize,
         Entry::Inline => 2,
-        Entry::Lined => 6 + 4 * level as usize,
+        Entry::Named | Entry::Lined => 6 + 4 * level as usize,
     }
 }
 
@@ -147,26 +140,22 @@ fn count_entries(
     n: u32,
     at: usize,
     pos: usize,
-) -> PartEnd
+) -> Result<(usize, usize), Refusal>
     requires { Checked words.now pairs.now text.now × (0 < n) × (level < 2 ^ 31) }
     ensures { Counts pos (entries_at words.now pairs.now text.now entry level n at) result }
 {
     let named = is_named(entry);
     let mut place = at;
     let mut p = pos;
-    let mut left = n;
-    loop {
-        let one = count_field(words, pairs, text, named, place, p);
-        let PartEnd::At { next, pos: end } = one else {
-            return one;
-        };
-        left -= 1;
-        if left == 0 {
-            return one;
+    for i in 0..n {
+        if 0 < i {
+            p = buffer::count_few(p, gap_length(entry, level));
         }
+        let (next, end) = count_field(words, pairs, text, named, place, p)?;
         place = next;
-        p = buffer::count_few(end, gap_length(entry, level));
+        p = end;
     }
+    Ok((place, p))
 }
 
 // `n` fields with what stands around them.
@@ -179,20 +168,14 @@ fn count_some(
     n: u32,
     at: usize,
     pos: usize,
-) -> PartEnd
+) -> Result<(usize, usize), Refusal>
     requires { Checked words.now pairs.now text.now × (0 < n) × (level < 2 ^ 31) }
     ensures { Counts pos (some_at words.now pairs.now text.now entry level n at) result }
 {
     let named = is_named(entry);
     let p = buffer::count_few(pos, front_length(named, level));
-    let list = count_entries(words, pairs, text, entry, level, n, at, p);
-    let PartEnd::At { next, pos: end } = list else {
-        return list;
-    };
-    PartEnd::At {
-        next,
-        pos: buffer::count_few(end, end_length(named, level)),
-    }
+    let (next, end) = count_entries(words, pairs, text, entry, level, n, at, p)?;
+    Ok((next, buffer::count_few(end, end_length(named, level))))
 }
 
 // The fields behind the word that says whether they have names.
@@ -204,22 +187,15 @@ pub fn count_list(
     level: u32,
     at: usize,
     pos: usize,
-) -> PartEnd
+) -> Result<(usize, usize), Refusal>
     requires { Checked words.now pairs.now text.now × (level < 2 ^ 31) }
     ensures { Counts pos (list_at words.now pairs.now text.now entry level at) result }
 {
-    match encoding::scan_word(words, at) {
-        WordScan::Word { value, next } => {
-            if value == 0 {
-                return PartEnd::At {
-                    next,
-                    pos: buffer::count_few(pos, none_length(is_named(entry))),
-                };
-            }
-            count_some(words, pairs, text, entry, level, value, next, pos)
-        }
-        WordScan::NoWord(r) => PartEnd::Stopped(r),
+    let (value, next) = encoding::scan_word(words, at)?;
+    if value == 0 {
+        return Ok((next, buffer::count_few(pos, none_length(is_named(entry)))));
     }
+    count_some(words, pairs, text, entry, level, value, next, pos)
 }
 
 // ---- writing what was accepted
@@ -296,9 +272,8 @@ fn write_gap(entry: Entry, level: u32, out: &mut [u8], pos: usize) -> usize
     ensures { Wrote out.old pos (entry_gap entry level) out.new result }
 {
     match entry {
-        Entry::Named => write_comma_line(level, out, pos),
         Entry::Inline => buffer::put(b", ", out, pos),
-        Entry::Lined => write_comma_line(level, out, pos),
+        Entry::Named | Entry::Lined => write_comma_line(level, out, pos),
     }
 }
 
@@ -318,18 +293,14 @@ fn write_entries(
     ensures { Came true out.old pos (entries_at words.now pairs.now text.now entry level n at) out.new result.next result.pos }
 {
     let named = is_named(entry);
-    let mut place = at;
-    let mut p = pos;
-    let mut left = n;
-    loop {
-        let spot = write_field(words, pairs, text, named, place, out, p);
-        left -= 1;
-        if left == 0 {
-            return spot;
+    let mut spot = Spot { next: at, pos };
+    for i in 0..n {
+        if 0 < i {
+            spot.pos = write_gap(entry, level, out, spot.pos);
         }
-        place = spot.next;
-        p = write_gap(entry, level, out, spot.pos);
+        spot = write_field(words, pairs, text, named, spot.next, out, spot.pos);
     }
+    spot
 }
 
 // What stands before the first field.
@@ -412,8 +383,8 @@ pub fn write_list(
             pos: write_none(is_named(entry), out, pos),
         };
     }
-    // Both were only handed on so far: `all_numbers` says why they are made again.
-    let pairs = encoding::all_numbers(pairs);
-    let text = encoding::all_bytes(text);
+    // Both were only handed on so far: `encoding::all` says why they are made again.
+    let pairs = encoding::all(pairs);
+    let text = encoding::all(text);
     write_some(words, pairs, text, entry, level, n, at + 1, out, pos)
 }

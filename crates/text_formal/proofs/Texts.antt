@@ -1,4 +1,5 @@
 -- The text of a field's name and type, by the case that the code takes.
+use Rattle.std.specs.Prelude.{Ok, Err, Result, IsErrAnd}
 use Prim.Native.Nat.{ℕ, ◌+◌, ◌<◌}
 use mathlib.Core.Path.{◌≡◌, refl, ap, sym, ◌∙◌, subst}
 use mathlib.Core.Bool.{Bool, true, false}
@@ -22,7 +23,7 @@ use Rattle.encoding.specs.Tested.{Good, name_length}
 use Rattle.encoding.specs.Types.{type_at}
 use Rattle.encoding.specs.Declarations.{read_name, read_formal}
 use Rattle.encoding.proofs.Tables.{impossible, name-length}
-use Rattle.encoding.proofs.Reading.{map-got, map-stop}
+use Rattle.encoding.proofs.Reading.{handed-on, map-got, map-stop}
 use Rattle.accepted_types.specs.declared.Spot.{Spot}
 use Rattle.text_type.specs.declared.Part.{Part}
 use Rattle.text_type.specs.declared.Part.TheVariants.{Rest, Done}
@@ -33,7 +34,7 @@ use Rattle.text_pass.proofs.Passes.{Runs, ReadyChain, came-bytes, counts-bytes, 
 use Rattle.text_pass.proofs.Leaves.{BelowThere, below_of, read_of}
 use Rattle.text_pass.proofs.Splits.{map-made}
 use Rattle.text_formal.specs.declared.Label.{Label}
-use Rattle.text_formal.specs.declared.Label.TheVariants.{Open, Whole, NoLabel}
+use Rattle.text_formal.specs.declared.Label.TheVariants.{Open, Whole}
 use Rattle.text_formal.specs.declared.Receiver.{Receiver}
 use Rattle.text_formal.specs.declared.Receiver.TheVariants.{ByValue, ByRef, ByMut, Typed}
 use Rattle.text_formal.specs.Labels.{Labelled, opened, whole, unread, LabelWritten, front, all}
@@ -103,6 +104,20 @@ receiver_text x t ByRef = ascii "&" ++ x
 receiver_text x t ByMut = ascii "&mut " ++ x
 receiver_text x t Typed = x ++ (ascii ": " ++ Type-to_string t)
 
+-- what stands before the name, where the name shows without its type
+unfoldable pub receiver_front : Receiver → Bytes
+receiver_front ByValue = []
+receiver_front ByRef = ascii "&"
+receiver_front ByMut = ascii "&mut "
+receiver_front Typed = []
+
+fronted : (x : Bytes) (t : Ty Bytes) (r : Receiver) → (r ≡ Typed → ⊥) → receiver_text x t r ≡ receiver_front r ++ x
+unfolding receiver_text receiver_front
+fronted x t ByValue h = refl
+fronted x t ByRef h = refl
+fronted x t ByMut h = refl
+fronted x t Typed h = absurd (h refl)
+
 self-cases : (x : Bytes) (t : Ty Bytes) (a b c d : Bool) → cases x t true a b c d ≡ receiver_text x t (pick a ByValue (pick b ByRef (pick c ByMut (pick d ByValue Typed))))
 unfolding cases receiver_text ◌and◌
 self-cases x t true b c d = refl
@@ -152,6 +167,9 @@ module _ (ws pairs : List ℕ) (text : Bytes) where
       receiver-text d =
           map-got (λ u. Formal-to_string (formal named u)) e
           ∙ ap (λ (b : Bytes). got b n) (self-text named t self ∙ ap (receiver_text named t) (sym d))
+
+      pub receiver-name : {r : Receiver} → r ≡ receiver_of t → (r ≡ Typed → ⊥) → formal_of ws pairs text x at ≡ got (receiver_front r ++ named) n
+      receiver-name {r} d h = receiver-text d ∙ ap (λ (b : Bytes). got b n) (fronted named t r h)
 
       pub self-and-type : Typed ≡ receiver_of t → formal_of ws pairs text x at ≡ typed_at ws pairs text x at
       unfolding run receiver_text
@@ -203,15 +221,15 @@ module _ (ws pairs : List ℕ) (text : Bytes) {o : List ℕ} {pos : ℕ} where
 -- ---- how far a field was counted
 
 module _ {rest : ℕ → Reading Bytes} {p : ℕ} where
-  pub labelled-as : {x y : Reading Bytes} {r : Label} → x ≡ y → Labelled rest p x r → Labelled rest p y r
+  pub labelled-as : {x y : Reading Bytes} {r : Result Label Refusal} → x ≡ y → Labelled rest p x r → Labelled rest p y r
   labelled-as {r = r} e l = subst (λ (z : Reading Bytes). Labelled rest p z r) e l
 
   -- all of a text of known bytes is counted
-  pub label-bytes : {x : Reading Bytes} {b : Bytes} {n q : ℕ} → x ≡ got b n → clamp q ≡ clamp (p + length b) → Labelled rest p x (Whole n q)
+  pub label-bytes : {x : Reading Bytes} {b : Bytes} {n q : ℕ} → x ≡ got b n → clamp q ≡ clamp (p + length b) → Labelled rest p x (Ok (Whole n q))
   label-bytes e c = labelled-as (sym e) (whole (counts-bytes c))
 
   module _ {x : Reading Bytes} where
-    pub label-open : {r : Label} {n q : ℕ} → Labelled rest p x r → r ≡ Open n q → Along false [] p x [] q (rest n)
+    pub label-open : {r : Result Label Refusal} {n q : ℕ} → Labelled rest p x r → r ≡ Ok (Open n q) → Along false [] p x [] q (rest n)
     label-open {n = n} {q = q} (opened {n = m} {p' = p'} a) e =
         let u : m ≡ n = cc in
         let v : p' ≡ q = cc in
@@ -219,7 +237,7 @@ module _ {rest : ℕ → Reading Bytes} {p : ℕ} where
     label-open (whole c) e = impossible (cc)
     label-open (unread d) e = impossible (cc)
 
-    pub label-whole : {r : Label} {n q : ℕ} → Labelled rest p x r → r ≡ Whole n q → Came false [] p x [] n q
+    pub label-whole : {r : Result Label Refusal} {n q : ℕ} → Labelled rest p x r → r ≡ Ok (Whole n q) → Came false [] p x [] n q
     label-whole (opened a) e = impossible (cc)
     label-whole {n = n} {q = q} (whole {n = m} {p' = p'} c) e =
         let u : m ≡ n = cc in
@@ -227,10 +245,14 @@ module _ {rest : ℕ → Reading Bytes} {p : ℕ} where
         subst (λ (z : ℕ). Came false [] p x [] z q) u (subst (λ (z : ℕ). Came false [] p x [] m z) v c)
     label-whole (unread d) e = impossible (cc)
 
-    pub label-none : {r : Label} {k : Refusal} → Labelled rest p x r → r ≡ NoLabel k → x ≡ stop k
+    pub label-none : {r : Result Label Refusal} {k : Refusal} → Labelled rest p x r → r ≡ Err k → x ≡ stop k
     label-none (opened a) e = impossible (cc)
     label-none (whole c) e = impossible (cc)
     label-none {k = k} (unread {k = m} d) e = let u : m ≡ k = cc in d ∙ ap stop u
+
+    -- the refusal that a `?` hands on
+    pub label-handed : {r : Result Label Refusal} {k : Refusal} → IsErrAnd r (λ u. u ≡ k) → x ≡ stop k → Labelled rest p x r
+    label-handed e d = subst (λ (z : Result Label Refusal). Labelled rest p x z) (sym (handed-on e)) (unread d)
 
 -- ---- how far a field was written
 

@@ -6,11 +6,10 @@ ghost use Rattle.rast.specs.DeclarationToString.{is_self_owned};
 ghost use Rattle.encoding.specs.Tables.{name_bytes, name_count};
 ghost use Rattle.encoding.specs.Tested.{Good};
 ghost use Rattle.encoding.specs.Types.{type_at};
-ghost use Rattle.text_measure.specs.declared.Measure.TheVariants.{Measured};
 ghost use Rattle.text_measure.specs.Lengths.{measure_of};
 ghost use Rattle.accepted_types.specs.Accepted.{Readable};
 ghost use Rattle.unwrap.specs.Asked.{Judges};
-ghost use Rattle.std.specs.Prelude.{◌≡◌, true, false, ◌<◌};
+ghost use Rattle.std.specs.Prelude.{Ok, ◌≡◌, true, false, ◌<◌};
 ghost use Rattle.rast.specs.Bytes.{ascii, same};
 ghost use Rattle.text_pass.specs.Passes.{Checked, Ready};
 ghost use Rattle.text_pass.specs.Texts.{type_text_at};
@@ -19,23 +18,21 @@ ghost use Rattle.text_formal.specs.Labels.{Labelled, LabelWritten};
 ghost use Rattle.text_formal.specs.Receivers.{receiver_of, NoReceiver, BorrowKind, is_self_borrowed_as, Tells};
 
 use accepted_types::Spot;
+use encoding::Refusal;
 use encoding::words::{
     BORROWED, BORROWED_MUT, SELF_NAME, SELF_ROOT, T_IDENTIFIER, TYPE_FROM_PATH, UNDERSCORE,
 };
-use encoding::{Refusal, WordScan};
-use text_measure::Measure;
 use text_type::Part;
 
-// How far a named field was counted, in the words and in the text: up to its type, or whole; or the refusal that was met.
-#[derive(Clone, Copy)]
+// How far a named field was counted, in the words and in the text: up to its type, or whole.
+#[derive(Clone, Copy, Debug, PartialEq, Eq)]
 pub enum Label {
     Open { next: usize, pos: usize },
     Whole { next: usize, pos: usize },
-    NoLabel(Refusal),
 }
 
 // How a field named `self` shows: the name alone, behind `&` or `&mut `, or with its type.
-#[derive(Clone, Copy)]
+#[derive(Clone, Copy, Debug, PartialEq, Eq)]
 enum Receiver {
     ByValue,
     ByRef,
@@ -80,10 +77,8 @@ fn is_underscore(words: &[u32], pairs: &[u32], text: &[u8], at: usize) -> bool
         return false;
     }
     match encoding::scan_below(words, encoding::name_count(pairs), at + 1) {
-        WordScan::Word { value, next: _ } => encoding::is_name(
-            pairs, text, value, UNDERSCORE, b"_",
-        ),
-        WordScan::NoWord(_) => false,
+        Ok((value, _)) => encoding::is_name(pairs, text, value, UNDERSCORE, b"_"),
+        Err(_) => false,
     }
 }
 
@@ -108,6 +103,7 @@ fn self_form(words: &[u32], pairs: &[u32], text: &[u8], at: usize) -> Receiver
 }
 
 // Whether an accepted type is `_`.
+// Kept: one function for this and `is_underscore` is no plainer, it would take a flag that says whether the type was accepted, and test what is known here.
 fn is_accepted_underscore(words: &[u32], pairs: &[u32], text: &[u8], at: usize) -> bool
     requires { Good pairs.now text.now × Readable (type_at words.now pairs.now text.now at) }
     ensures { Tells (type_at words.now pairs.now text.now at) at result }
@@ -123,7 +119,7 @@ fn is_accepted_underscore(words: &[u32], pairs: &[u32], text: &[u8], at: usize) 
 // A name, before the type at `at`.
 fn count_open(words: &[u32], pairs: &[u32], text: &[u8], name: u32, at: usize, pos: usize) -> Label
     requires { Checked words.now pairs.now text.now × (name < name_count pairs.now) }
-    ensures { Labelled (type_text_at words.now pairs.now text.now) pos (typed_at words.now pairs.now text.now name at) result }
+    ensures { Labelled (type_text_at words.now pairs.now text.now) pos (typed_at words.now pairs.now text.now name at) (Ok result) }
 {
     Label::Open {
         next: at,
@@ -148,7 +144,7 @@ fn may_receive(words: &[u32], pairs: &[u32], text: &[u8], name: u32, at: usize) 
 // A field that is no receiver.
 fn count_typed(words: &[u32], pairs: &[u32], text: &[u8], name: u32, at: usize, pos: usize) -> Label
     requires { Checked words.now pairs.now text.now × (name < name_count pairs.now) × NoReceiver (name_bytes pairs.now text.now name) (type_at words.now pairs.now text.now at) }
-    ensures { Labelled (type_text_at words.now pairs.now text.now) pos (formal_of words.now pairs.now text.now name at) result }
+    ensures { Labelled (type_text_at words.now pairs.now text.now) pos (formal_of words.now pairs.now text.now name at) (Ok result) }
 {
     if is_underscore(words, pairs, text, at) {
         return Label::Whole {
@@ -170,8 +166,8 @@ fn count_measured(
     at: usize,
     pos: usize,
 ) -> Label
-    requires { Checked words.now pairs.now text.now × (name < name_count pairs.now) × (Measured end bytes ≡ measure_of (type_at words.now pairs.now text.now at)) }
-    ensures { Labelled (type_text_at words.now pairs.now text.now) pos (typed_at words.now pairs.now text.now name at) result }
+    requires { Checked words.now pairs.now text.now × (name < name_count pairs.now) × (Ok (end, bytes) ≡ measure_of (type_at words.now pairs.now text.now at)) }
+    ensures { Labelled (type_text_at words.now pairs.now text.now) pos (typed_at words.now pairs.now text.now name at) (Ok result) }
 {
     let open = buffer::count_few(pos, encoding::name_length(pairs, name) + 2);
     Label::Whole {
@@ -191,53 +187,55 @@ fn count_receiver(
     at: usize,
     pos: usize,
 ) -> Label
-    requires { Checked words.now pairs.now text.now × (name < name_count pairs.now) × (same (name_bytes pairs.now text.now name) (ascii "self") ≡ true) × (Measured end bytes ≡ measure_of (type_at words.now pairs.now text.now at)) }
-    ensures { Labelled (type_text_at words.now pairs.now text.now) pos (formal_of words.now pairs.now text.now name at) result }
+    requires { Checked words.now pairs.now text.now × (name < name_count pairs.now) × (same (name_bytes pairs.now text.now name) (ascii "self") ≡ true) × (Ok (end, bytes) ≡ measure_of (type_at words.now pairs.now text.now at)) }
+    ensures { Labelled (type_text_at words.now pairs.now text.now) pos (formal_of words.now pairs.now text.now name at) (Ok result) }
 {
-    match self_form(words, pairs, text, at) {
-        Receiver::ByValue => Label::Whole {
-            next: end,
-            pos: buffer::count_few(pos, encoding::name_length(pairs, name)),
-        },
-        Receiver::ByRef => Label::Whole {
-            next: end,
-            pos: buffer::count_few(pos, encoding::name_length(pairs, name) + 1),
-        },
-        Receiver::ByMut => Label::Whole {
-            next: end,
-            pos: buffer::count_few(pos, encoding::name_length(pairs, name) + 5),
-        },
-        Receiver::Typed => count_measured(words, pairs, text, name, end, bytes, at, pos),
+    let front = match self_form(words, pairs, text, at) {
+        Receiver::ByValue => 0,
+        Receiver::ByRef => 1,
+        Receiver::ByMut => 5,
+        Receiver::Typed => {
+            return count_measured(words, pairs, text, name, end, bytes, at, pos);
+        }
+    };
+    Label::Whole {
+        next: end,
+        pos: buffer::count_few(pos, front + encoding::name_length(pairs, name)),
     }
 }
 
 // A field named `self`. Its type is measured before it is looked at, and not again where it shows.
-fn count_self(words: &[u32], pairs: &[u32], text: &[u8], name: u32, at: usize, pos: usize) -> Label
+fn count_self(
+    words: &[u32],
+    pairs: &[u32],
+    text: &[u8],
+    name: u32,
+    at: usize,
+    pos: usize,
+) -> Result<Label, Refusal>
     requires { Checked words.now pairs.now text.now × (name < name_count pairs.now) × (same (name_bytes pairs.now text.now name) (ascii "self") ≡ true) }
     ensures { Labelled (type_text_at words.now pairs.now text.now) pos (formal_of words.now pairs.now text.now name at) result }
 {
-    match text_measure::measure_type(words, pairs, text, at) {
-        Measure::Measured { next, bytes } => count_receiver(
-            words, pairs, text, name, next, bytes, at, pos,
-        ),
-        Measure::Stopped(r) => Label::NoLabel(r),
-    }
+    let (next, bytes) = text_measure::measure_type(words, pairs, text, at)?;
+    Ok(count_receiver(words, pairs, text, name, next, bytes, at, pos))
 }
 
 // A field's name and type, `Formal.ToString`, or all of it but the type.
-pub fn count_label(words: &[u32], pairs: &[u32], text: &[u8], at: usize, pos: usize) -> Label
+pub fn count_label(
+    words: &[u32],
+    pairs: &[u32],
+    text: &[u8],
+    at: usize,
+    pos: usize,
+) -> Result<Label, Refusal>
     requires { Checked words.now pairs.now text.now }
     ensures { Labelled (type_text_at words.now pairs.now text.now) pos (formal_at words.now pairs.now text.now at) result }
 {
-    match encoding::scan_below(words, encoding::name_count(pairs), at) {
-        WordScan::Word { value, next } => {
-            if may_receive(words, pairs, text, value, next) {
-                return count_self(words, pairs, text, value, next, pos);
-            }
-            count_typed(words, pairs, text, value, next, pos)
-        }
-        WordScan::NoWord(r) => Label::NoLabel(r),
+    let (name, next) = encoding::scan_below(words, encoding::name_count(pairs), at)?;
+    if may_receive(words, pairs, text, name, next) {
+        return count_self(words, pairs, text, name, next, pos);
     }
+    Ok(count_typed(words, pairs, text, name, next, pos))
 }
 
 // ---- writing what was accepted
@@ -275,27 +273,18 @@ fn write_receiver(
     requires { Checked words.now pairs.now text.now × (name < name_count pairs.now) × (same (name_bytes pairs.now text.now name) (ascii "self") ≡ true) × Ready true out.old pos (formal_of words.now pairs.now text.now name at) }
     ensures { LabelWritten (type_text_at words.now pairs.now text.now) out.old pos (formal_of words.now pairs.now text.now name at) out.new result }
 {
-    match self_form(words, pairs, text, at) {
-        Receiver::ByValue => Part::Done(Spot {
-            next: accepted_types::skip_type(words, pairs, text, at),
-            pos: encoding::put_name(pairs, text, name, out, pos),
-        }),
-        Receiver::ByRef => {
-            let p = buffer::put(b"&", out, pos);
-            Part::Done(Spot {
-                next: accepted_types::skip_type(words, pairs, text, at),
-                pos: encoding::put_name(pairs, text, name, out, p),
-            })
+    let p = match self_form(words, pairs, text, at) {
+        Receiver::ByValue => pos,
+        Receiver::ByRef => buffer::put(b"&", out, pos),
+        Receiver::ByMut => buffer::put(b"&mut ", out, pos),
+        Receiver::Typed => {
+            return write_open(words, pairs, text, name, at, out, pos);
         }
-        Receiver::ByMut => {
-            let p = buffer::put(b"&mut ", out, pos);
-            Part::Done(Spot {
-                next: accepted_types::skip_type(words, pairs, text, at),
-                pos: encoding::put_name(pairs, text, name, out, p),
-            })
-        }
-        Receiver::Typed => write_open(words, pairs, text, name, at, out, pos),
-    }
+    };
+    Part::Done(Spot {
+        next: accepted_types::skip_type(words, pairs, text, at),
+        pos: encoding::put_name(pairs, text, name, out, p),
+    })
 }
 
 // A field's name and type, `Formal.ToString`, or all of it but the type. One function for all names but `self`: with one more the slices would be copied for each

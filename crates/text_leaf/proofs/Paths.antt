@@ -1,12 +1,13 @@
 -- Laws of a path's text, name by name.
 use Prim.Native.Nat.{ℕ, suc, ◌+◌, ◌-◌, ◌≤◌, ◌<◌}
-use mathlib.Core.Path.{◌≡◌}
+use mathlib.Core.Path.{◌≡◌, ◌∙◌}
 use mathlib.Core.List.{List, ◌++◌, map, flatten, append_assoc}
 use native.Mathlib.Omega.{arith}
 use native.Mathlib.Numerals.{add-one}
 use borrow.Author.Tests.{ne_eqb}
-use lib.ListN.{length, get_or, take, drop}
+use lib.ListN.{length, get_or, take, drop, length-take, length-drop}
 use lib.Seq.{drop-cons}
+use Rattle.std.proofs.lemmas.List.{get_or-take, get_or-drop}
 use Rattle.rast.specs.Bytes.{Bytes, ascii}
 use Rattle.rast.specs.ToString.{Path-to_string, size_text}
 use Rattle.rast.proofs.SourceEquations.{path-text as segments-text}
@@ -18,6 +19,16 @@ use Rattle.text_leaf.specs.Texts.{member_text, end_text}
 -- the text of the names, each behind its colons
 abbrev pub members_text : List Bytes → Bytes
 members_text xs = flatten (map member_text xs)
+
+-- the names from `start` to `end` as a slice
+module _ (ws : List ℕ) (start end i : ℕ) where
+  pub part_at : i < length (take (end - start) (drop start ws)) → (start + i < end) × (get_or (take (end - start) (drop start ws)) i 0 ≡ get_or ws (start + i) 0)
+  part_at h =
+      let k : i < end - start = omega (arith, length-take (end - start) (drop start ws)) in
+      (omega arith, get_or-take (end - start) (drop start ws) i 0 k ∙ get_or-drop start ws i 0)
+
+  pub part-done : start ≤ end → end ≤ length ws → length (take (end - start) (drop start ws)) ≤ i → end ≤ start + i
+  part-done h k l = omega (arith, length-take (end - start) (drop start ws), length-drop start ws)
 
 -- the names from i to the end
 pub members-from : (name : ℕ → Bytes) (ws : List ℕ) (i end : ℕ) → i < end → end ≤ length ws

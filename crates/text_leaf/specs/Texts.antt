@@ -1,6 +1,5 @@
 -- Pieces of text around a name, and the ends of a short text.
-use Rattle.std.specs.Prelude.{ℕ, ◌-◌, ◌/◌, ◌%◌, ◌≤◌, ◌≡◌, [], ◌∷◌, ◌++◌, length, take, drop}
-use Rattle.std.proofs.Math.Option.{Option}
+use Rattle.std.specs.Prelude.{Option, ℕ, ◌-◌, ◌/◌, ◌%◌, ◌≤◌, ◌≡◌, [], ◌∷◌, ◌++◌, length, take, drop}
 use Rattle.rast.specs.Bytes.{Bytes, ascii}
 use Rattle.rast.specs.ToString.{size_text}
 

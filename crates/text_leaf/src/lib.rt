@@ -33,7 +33,7 @@ pub fn put_primitive(kind: u32, out: &mut [u8], pos: usize) -> usize
 }
 
 // A text of two to four letters: their number, the first two and the last two, each two as one number with the first letter low.
-#[derive(Clone, Copy)]
+#[derive(Clone, Copy, Debug, PartialEq, Eq)]
 struct Ends {
     count: usize,
     front: u16,
@@ -45,8 +45,8 @@ fn with_ends(count: usize, first: u8, second: u8, third: u8, fourth: u8) -> Ends
 {
     Ends {
         count,
-        front: first as u16 + 256 * second as u16,
-        back: third as u16 + 256 * fourth as u16,
+        front: u16::from_le_bytes([first, second]),
+        back: u16::from_le_bytes([third, fourth]),
     }
 }
 
@@ -74,11 +74,13 @@ fn put_two(two: u16, out: &mut [u8], pos: usize)
     requires { pos + 2 ≤ length out.old }
     ensures { out.new ≡ sets out.old pos (two_bytes two) }
 {
-    out[pos] = (two % 256) as u8;
-    out[pos + 1] = (two / 256) as u8;
+    let [low, high] = two.to_le_bytes();
+    out[pos] = low;
+    out[pos + 1] = high;
 }
 
-// A plain type of a field. `put_primitive` lays its letters out at each call; in `text_type` this one would make the functions around it too large to be inlined.
+// A plain type of a field.
+// Kept: slower as one function with `put_primitive` (docs/DECISIONS.md, "Plain types have two writers"), which lays its letters out at each call; in `text_type` this one would make the functions around it too large to be inlined.
 pub fn put_plain(kind: u32, out: &mut [u8], pos: usize) -> usize
     requires { (kind < plain_kinds) × (pos + length (Primitive-to_string (get_or primitives kind PrimitiveU8)) ≤ length out.old) }
     ensures { Wrote out.old pos (Primitive-to_string (get_or primitives kind PrimitiveU8)) out.new result }
@@ -141,10 +143,8 @@ pub fn put_path(
     let end = start + path.count as usize;
     let FixedNames { letters, starts } = encoding::fixed_names();
     let mut p = put_root(path.root, out, pos);
-    let mut i = start;
-    while i < end {
-        p = put_member(&letters, &starts, pairs, text, words[i], out, p);
-        i += 1;
+    for &name in &words[start..end] {
+        p = put_member(&letters, &starts, pairs, text, name, out, p);
     }
     p
 }

@@ -1,4 +1,5 @@
 -- The steps of the pass, as the code makes them.
+use Rattle.std.specs.Prelude.{Ok, Err, Result}
 use Prim.Native.Nat.{ℕ, suc, ◌+◌, ◌*◌, ◌-◌, ◌^◌, ◌≤◌, ◌<◌}
 use mathlib.Core.Path.{◌≡◌, refl, ap, sym, ◌∙◌}
 use mathlib.Core.Bool.{Bool, true, false}
@@ -21,13 +22,11 @@ use Rattle.encoding.specs.HeadWords.{kids}
 use Rattle.encoding.specs.Types.{read_types, read_type, type_at}
 use Rattle.encoding.proofs.Inside.{HeadLies, head-lies}
 use Rattle.encoding.proofs.Tables.{impossible}
-use Rattle.text_measure.specs.declared.Measure.{Measure}
-use Rattle.text_measure.specs.declared.Measure.TheVariants.{Measured, Stopped}
-use Rattle.text_measure.specs.declared.OwnScan.{OwnScan}
-use Rattle.text_measure.specs.declared.OwnScan.TheVariants.{Leaf, Node, NoNode}
+use Rattle.text_measure.specs.declared.Own.{Own}
+use Rattle.text_measure.specs.declared.Own.TheVariants.{Leaf, Node}
 use Rattle.text_measure.specs.declared.Pass.{Pass}
 use Rattle.text_measure.specs.declared.Step.{Step}
-use Rattle.text_measure.specs.declared.Step.TheVariants.{On, Ended, Halt}
+use Rattle.text_measure.specs.declared.Step.TheVariants.{On, Ended}
 use Rattle.text_measure.specs.Lengths.{measure_of, own_length, mode_of, CutDown, Scanned, leaf, node, none}
 use Rattle.text_measure.specs.Levels.{shown_length, levels_at, rest_at, stacked, rest_of, leaving, beside, under, level_of, pushed, Outward, Kept, Stepped, on, ended, halt}
 use Rattle.text_measure.proofs.Rests.{level-due, level-mode, stacked-push, stacked-top, rest-above, rest_ended, rest-deep, rest-stop, rest-down, rest-cut}
@@ -58,7 +57,7 @@ picked true n = omega arith
 picked false n = omega arith
 
 module _ {ws pairs : List ℕ} (mode : ℕ) {x : Reading Head} where
-  pub own-leaf : {r : OwnScan} {n b : ℕ} → Scanned ws pairs x r → r ≡ Leaf n b → OwnLeaf ws pairs mode x n b
+  pub own-leaf : {r : Result Own Refusal} {n b : ℕ} → Scanned ws pairs x r → r ≡ Ok (Leaf n b) → OwnLeaf ws pairs mode x n b
   own-leaf {n = n'} {b = b'} (leaf {h} {n} {b} e k l s) d =
       let f : n' ≡ n = cc in
       let g : b' ≡ b = cc in
@@ -66,7 +65,7 @@ module _ {ws pairs : List ℕ} (mode : ℕ) {x : Reading Head} where
   own-leaf (node e k b m o f s) d = impossible (cc)
   own-leaf (none e) d = impossible (cc)
 
-  pub own-node : {r : OwnScan} {n k b m : ℕ} → Scanned ws pairs x r → r ≡ Node n k b m → OwnNode ws pairs mode x n k b m
+  pub own-node : {r : Result Own Refusal} {n k b m : ℕ} → Scanned ws pairs x r → r ≡ Ok (Node n k b m) → OwnNode ws pairs mode x n k b m
   own-node (leaf e k l s) d = impossible (cc)
   own-node {n = n'} {k = k'} {b = b'} {m = m'} (node {h} {n} {k} {b} {m} e i j l o f s) d =
       let en : n' ≡ n = cc in
@@ -77,20 +76,20 @@ module _ {ws pairs : List ℕ} (mode : ℕ) {x : Reading Head} where
   own-node (none e) d = impossible (cc)
 
 module _ {ws pairs : List ℕ} {x : Reading Head} where
-  pub own-stop : {r : OwnScan} {k : Refusal} → Scanned ws pairs x r → r ≡ NoNode k → x ≡ stop k
+  pub own-stop : {r : Result Own Refusal} {k : Refusal} → Scanned ws pairs x r → r ≡ Err k → x ≡ stop k
   own-stop (leaf e k l s) d = impossible (cc)
   own-stop (node e k b m o f s) d = impossible (cc)
   own-stop {k = k} (none {r} e) d = let f : r ≡ k = cc in rw f at e
 
 -- ---- the whole pass
 
-abbrev measured : Reading ℕ → Measure
-measured (got n p) = Measured p n
-measured (stop r) = Stopped r
+abbrev measured : Reading ℕ → Result (ℕ × ℕ) Refusal
+measured (got n p) = Ok (p, n)
+measured (stop r) = Err r
 
 start_of : (x : Reading (Ty Bytes)) → measure_of x ≡ measured ((x >>= λ t q. got (cons t nil) q) >>= λ ts q. got (0 + shown_length 1 1 ts) q)
 unfolding shown_length
-start_of (got t n) = let e : length (Type-to_string t) ≡ 0 + (length (Type-to_string t) + 0) = omega arith in ap (Measured n) e
+start_of (got t n) = let e : length (Type-to_string t) ≡ 0 + (length (Type-to_string t) + 0) = omega arith in ap (λ z. Ok (n, z)) e
 start_of (stop r) = refl
 
 module _ (ws pairs : List ℕ) (text : Bytes) where
@@ -128,7 +127,7 @@ module _ (levels : List ℕ) (p : Pass) where
 -- ---- a step
 
 module _ (ws pairs : List ℕ) (text : Bytes) (good : Good pairs text) (levels : List ℕ) (p : Pass) (kept : Kept ws levels p) where
-  pub step-stop : {r : Refusal} → read_head (name_count pairs) ws p.place ≡ stop r → Stepped ws pairs text levels p levels (Halt r)
+  pub step-stop : {r : Refusal} → read_head (name_count pairs) ws p.place ≡ stop r → Stepped ws pairs text levels p levels (Err r)
   unfolding rest_of
   step-stop {r} e =
       let h = kept.some in
@@ -173,13 +172,13 @@ module _ (ws pairs : List ℕ) (text : Bytes) (good : Good pairs text) (levels :
         (rw (o.no_kids, ← o.same_bytes) at (head-down o.head o.read)) ∙ (rw (i, level-due (p.due - 1) p.mode, level-mode (p.due - 1) p.mode) at up)
 
     module _ {q : Pass} (w : Outward levels (beside p n b) q) where
-      pub step_past : 0 < q.due → Stepped ws pairs text levels p levels (On q)
+      pub step_past : 0 < q.due → Stepped ws pairs text levels p levels (Ok (On q))
       step_past h =
           let s = bytes-kept n b (lies o.read).starts o.short in
           on {p' = q} (record { room = kept.room; place = omega (arith, w.place, (lies o.read).ends); bytes = omega (arith, w.place, w.bytes); depth = omega (arith, w.depth, kept.depth); some = h; due = w.due })
           (w.rest ws pairs text ∙ sym head-leaf) (omega (arith, w.place, (lies o.read).starts))
 
-      pub step-ended : q.due ≡ 0 → q.depth ≡ 0 → Stepped ws pairs text levels p levels (Ended q)
+      pub step-ended : q.due ≡ 0 → q.depth ≡ 0 → Stepped ws pairs text levels p levels (Ok (Ended q))
       step-ended e z = ended {p' = q} (head-leaf ∙ sym (w.rest ws pairs text) ∙ rest-none levels q e z ws pairs text)
 
   module _ (fits : length ws ≤ 8192) {n k b m : ℕ} (o : OwnNode ws pairs p.mode (read_head (name_count pairs) ws p.place) n k b m) where
@@ -192,14 +191,14 @@ module _ (ws pairs : List ℕ) (text : Bytes) (good : Good pairs text) (levels :
         (rest-cut ws pairs text good (64 - (p.depth + 1)) _ o.same-kids _ n _ fits (omega (arith, (lies o.read).starts)) (lies o.read).ends ∙ sym (head-down o.head o.read))
 
     -- no type may follow at the last level
-    pub step-deep : p.depth ≡ 63 → Stepped ws pairs text levels p levels (Halt TooDeep)
+    pub step-deep : p.depth ≡ 63 → Stepped ws pairs text levels p levels (Err TooDeep)
     step-deep e =
         let h = o.some in
         let f : k ≡ suc (k - 1) = omega arith in
         let i : 64 - (p.depth + 1) ≡ 0 = omega arith in
         halt {r = TooDeep} (sym head-node ∙ rw (f, i) (rest-deep ws pairs text good _ (k - 1) _ n _))
 
-    pub step-under : (p.depth ≡ 63 → ⊥) → {levels' : List ℕ} {q : Pass} → levels' ≡ pushed levels p → q ≡ under p n k b m → Stepped ws pairs text levels p levels' (On q)
+    pub step-under : (p.depth ≡ 63 → ⊥) → {levels' : List ℕ} {q : Pass} → levels' ≡ pushed levels p → q ≡ under p n k b m → Stepped ws pairs text levels p levels' (Ok (On q))
     unfolding rest_of
     step-under d same-levels same =
         rw (same-levels, same) (on {p' = under p n k b m}
@@ -209,18 +208,18 @@ module _ (ws pairs : List ℕ) (text : Bytes) (good : Good pairs text) (levels :
 -- ---- what a step says
 
 module _ {ws pairs : List ℕ} {text : Bytes} {levels : List ℕ} {p : Pass} {levels' : List ℕ} where
-  pub went_on : {r : Step} {q : Pass} → Stepped ws pairs text levels p levels' r → r ≡ On q
+  pub went_on : {r : Result Step Refusal} {q : Pass} → Stepped ws pairs text levels p levels' r → r ≡ Ok (On q)
       → Kept ws levels' q × (rest_of ws pairs text levels' q ≡ rest_of ws pairs text levels p) × (p.place < q.place)
   went_on {q = q} (on {p'} k e l) d = let f : q ≡ p' = cc in rw f (k, e, l)
   went_on (ended e) d = impossible (cc)
   went_on (halt e) d = impossible (cc)
 
-  pub came-to-end : {r : Step} {q : Pass} → Stepped ws pairs text levels p levels' r → r ≡ Ended q → rest_of ws pairs text levels p ≡ got q.bytes q.place
+  pub came-to-end : {r : Result Step Refusal} {q : Pass} → Stepped ws pairs text levels p levels' r → r ≡ Ok (Ended q) → rest_of ws pairs text levels p ≡ got q.bytes q.place
   came-to-end (on k e l) d = impossible (cc)
   came-to-end {q = q} (ended {p'} e) d = let f : p' ≡ q = cc in rw f at e
   came-to-end (halt e) d = impossible (cc)
 
-  pub was-halted : {r : Step} {k : Refusal} → Stepped ws pairs text levels p levels' r → r ≡ Halt k → rest_of ws pairs text levels p ≡ stop k
+  pub was-halted : {r : Result Step Refusal} {k : Refusal} → Stepped ws pairs text levels p levels' r → r ≡ Err k → rest_of ws pairs text levels p ≡ stop k
   was-halted (on k e l) d = impossible (cc)
   was-halted (ended e) d = impossible (cc)
   was-halted {k = k} (halt {r} e) d = let f : r ≡ k = cc in rw f at e

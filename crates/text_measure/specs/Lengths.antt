@@ -1,5 +1,5 @@
 -- How many bytes each head adds to the texts of its types, and the code's answers that say so.
-use Rattle.std.specs.Prelude.{ℕ, ◌+◌, ◌*◌, ◌-◌, ◌^◌, ◌≤◌, ◌<◌, ◌≡◌, List, [], ◌∷◌, eqb, length, get_or, take, drop}
+use Rattle.std.specs.Prelude.{Ok, Err, Result, ℕ, ◌+◌, ◌*◌, ◌-◌, ◌^◌, ◌≤◌, ◌<◌, ◌≡◌, List, [], ◌∷◌, eqb, length, get_or, take, drop}
 use Rattle.rast.specs.Bytes.{Bytes}
 use Rattle.rast.specs.Tree.{Ty, U8}
 use Rattle.rast.specs.ToString.{Path-to_string, Primitive-to_string, Type-to_string}
@@ -13,22 +13,18 @@ use Rattle.encoding.specs.Reading.{Reading, got, stop, ◌>>=◌, read_names}
 use Rattle.encoding.specs.Tested.{name_length}
 use Rattle.encoding.specs.HeadWords.{kids}
 use Rattle.encoding.specs.Types.{primitives, root_of, path_of}
-use Rattle.text_measure.specs.declared.Measure.{Measure}
-use Rattle.text_measure.specs.declared.Measure.TheVariants.{Measured, Stopped}
-use Rattle.text_measure.specs.declared.PathMeasure.{PathMeasure}
-use Rattle.text_measure.specs.declared.PathMeasure.TheVariants.{MeasuredPath, NoPath}
-use Rattle.text_measure.specs.declared.OwnScan.{OwnScan}
-use Rattle.text_measure.specs.declared.OwnScan.TheVariants.{Leaf, Node, NoNode}
+use Rattle.text_measure.specs.declared.Own.{Own}
+use Rattle.text_measure.specs.declared.Own.TheVariants.{Leaf, Node}
 
 -- where a type ends and how long its text is
-abbrev pub measure_of : Reading (Ty Bytes) → Measure
-measure_of (got t n) = Measured n (length (Type-to_string t))
-measure_of (stop r) = Stopped r
+abbrev pub measure_of : Reading (Ty Bytes) → Result (ℕ × ℕ) Refusal
+measure_of (got t n) = Ok (n, length (Type-to_string t))
+measure_of (stop r) = Err r
 
 -- where a path ends and how long its text is
-abbrev pub path_measure_of : List ℕ → (ℕ → Bytes) → Reading PathAt → PathMeasure
-path_measure_of ws name (got p n) = MeasuredPath p n (length (Path-to_string (path_of ws name p)))
-path_measure_of ws name (stop r) = NoPath r
+abbrev pub path_measure_of : List ℕ → (ℕ → Bytes) → Reading PathAt → Result (PathAt × ℕ × ℕ) Refusal
+path_measure_of ws name (got p n) = Ok (p, n, length (Path-to_string (path_of ws name p)))
+path_measure_of ws name (stop r) = Err r
 
 -- `::` and a name, for each of the names; `len` says how long a name is
 unfoldable pub names_length : (ℕ → ℕ) → List ℕ → ℕ
@@ -94,13 +90,13 @@ pub data CutDown (k n : ℕ) : Type 0 where
   many : max_words ≤ k → max_words ≤ n → CutDown k n
 
 -- the answer says what the reading of a path says, and its bytes are few enough that no sum over the words overflows
-pub data PathScanned (ws pairs : List ℕ) (x : Reading PathAt) : PathMeasure → Type 0 where
-  read : {p : PathAt} {n b : ℕ} → x ≡ got p n → b ≡ path_length ws (name_length pairs) p → b ≤ 2 ^ 46 → PathScanned ws pairs x (MeasuredPath p n b)
-  unread : {r : Refusal} → x ≡ stop r → PathScanned ws pairs x (NoPath r)
+pub data PathScanned (ws pairs : List ℕ) (x : Reading PathAt) : Result (PathAt × ℕ × ℕ) Refusal → Type 0 where
+  read : {p : PathAt} {n b : ℕ} → x ≡ got p n → b ≡ path_length ws (name_length pairs) p → b ≤ 2 ^ 46 → PathScanned ws pairs x (Ok (p, n, b))
+  unread : {r : Refusal} → x ≡ stop r → PathScanned ws pairs x (Err r)
 
 -- the answer says what the reading of a head says, with few enough types and bytes that no sum over the words overflows
-pub data Scanned (ws pairs : List ℕ) (x : Reading Head) : OwnScan → Type 0 where
-  leaf : {h : Head} {n b : ℕ} → x ≡ got h n → kids h ≡ 0 → b ≡ own_length ws (name_length pairs) h → b ≤ 2 ^ 46 → Scanned ws pairs x (Leaf n b)
+pub data Scanned (ws pairs : List ℕ) (x : Reading Head) : Result Own Refusal → Type 0 where
+  leaf : {h : Head} {n b : ℕ} → x ≡ got h n → kids h ≡ 0 → b ≡ own_length ws (name_length pairs) h → b ≤ 2 ^ 46 → Scanned ws pairs x (Ok (Leaf n b))
   node : {h : Head} {n k b m : ℕ} → x ≡ got h n → CutDown k (kids h) → b ≡ own_length ws (name_length pairs) h → m ≡ mode_of h → 0 < k → k ≤ 2 ^ 15 → b ≤ 2 ^ 46
-      → Scanned ws pairs x (Node n k b m)
-  none : {r : Refusal} → x ≡ stop r → Scanned ws pairs x (NoNode r)
+      → Scanned ws pairs x (Ok (Node n k b m))
+  none : {r : Refusal} → x ≡ stop r → Scanned ws pairs x (Err r)

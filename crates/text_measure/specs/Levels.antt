@@ -1,5 +1,5 @@
 -- The pass over the words of a type: what is left to read, from the levels that are open.
-use Rattle.std.specs.Prelude.{ℕ, zero, suc, ◌+◌, ◌*◌, ◌-◌, ◌^◌, ◌/◌, ◌%◌, ◌≤◌, ◌<◌, ◌≡◌, List, [], ◌∷◌, eqb, length, get_or, set}
+use Rattle.std.specs.Prelude.{Ok, Err, Result, ℕ, zero, suc, ◌+◌, ◌*◌, ◌-◌, ◌^◌, ◌/◌, ◌%◌, ◌≤◌, ◌<◌, ◌≡◌, List, [], ◌∷◌, eqb, length, get_or, set}
 use Rattle.rast.specs.Bytes.{Bytes}
 use Rattle.rast.specs.Tree.{Ty, Tys, nil, cons}
 use Rattle.rast.specs.ToString.{Type-to_string}
@@ -11,7 +11,7 @@ use Rattle.encoding.specs.Tables.{name_bytes, name_count}
 use Rattle.encoding.specs.Types.{read_types, read_type}
 use Rattle.text_measure.specs.declared.Pass.{Pass}
 use Rattle.text_measure.specs.declared.Step.{Step}
-use Rattle.text_measure.specs.declared.Step.TheVariants.{On, Ended, Halt}
+use Rattle.text_measure.specs.declared.Step.TheVariants.{On, Ended}
 
 -- how long the texts are of those of k types that show: mode 0 none, 1 all, 2 the next one alone
 unfoldable pub shown_length : ℕ → ℕ → Tys Bytes → ℕ
@@ -96,8 +96,8 @@ pub record Kept (ws levels : List ℕ) (p : Pass) : Type 0 where
   pub due : p.due ≤ 2 ^ 15
 
 -- the pass goes on, and the same is left to it with fewer words; or it has read all that was left; or it is refused
-pub data Stepped (ws pairs : List ℕ) (text : Bytes) (levels : List ℕ) (p : Pass) (levels' : List ℕ) : Step → Type 0 where
+pub data Stepped (ws pairs : List ℕ) (text : Bytes) (levels : List ℕ) (p : Pass) (levels' : List ℕ) : Result Step Refusal → Type 0 where
   on : {p' : Pass} → Kept ws levels' p' → rest_of ws pairs text levels' p' ≡ rest_of ws pairs text levels p → p.place < p'.place
-      → Stepped ws pairs text levels p levels' (On p')
-  ended : {p' : Pass} → rest_of ws pairs text levels p ≡ got p'.bytes p'.place → Stepped ws pairs text levels p levels' (Ended p')
-  halt : {r : Refusal} → rest_of ws pairs text levels p ≡ stop r → Stepped ws pairs text levels p levels' (Halt r)
+      → Stepped ws pairs text levels p levels' (Ok (On p'))
+  ended : {p' : Pass} → rest_of ws pairs text levels p ≡ got p'.bytes p'.place → Stepped ws pairs text levels p levels' (Ok (Ended p'))
+  halt : {r : Refusal} → rest_of ws pairs text levels p ≡ stop r → Stepped ws pairs text levels p levels' (Err r)

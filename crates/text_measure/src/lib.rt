@@ -1,7 +1,7 @@
 // One pass over the words of a type, with no recursion: it accepts or refuses the type, and finds how long its text is.
 #![tactic(auto)]
 
-ghost use Rattle.std.specs.Prelude.{◌≡◌, ◌+◌, ◌*◌, ◌-◌, ◌^◌, ◌/◌, ◌≤◌, ◌<◌, eqb, length};
+ghost use Rattle.std.specs.Prelude.{Ok, ◌≡◌, ◌+◌, ◌*◌, ◌-◌, ◌^◌, ◌/◌, ◌≤◌, ◌<◌, eqb, length};
 ghost use Rattle.rast.specs.ToString.{Path-to_string};
 ghost use Rattle.encoding.specs.Words.{from_path_kind, flag_count, max_words, max_depth};
 ghost use Rattle.encoding.specs.Refusals.{pick};
@@ -19,30 +19,12 @@ use encoding::words::{
     INTERSECTION_TYPE, MAX_DEPTH, MAX_WORDS, PLAIN_KINDS, ROOTS, T_META_DATA, T_SYNONYM,
     TUPLE_TYPE, TYPE_APP, TYPE_FROM_PATH,
 };
-use encoding::{PathAt, Refusal, WordScan};
-
-// Where a type ends and how long its text is, or the refusal that is met first.
-#[derive(Clone, Copy)]
-pub enum Measure {
-    Measured { next: usize, bytes: usize },
-    Stopped(Refusal),
-}
-
-// A path: where its names stand, where it ends and how long its text is, or the refusal that is met first.
-#[derive(Clone, Copy)]
-pub enum PathMeasure {
-    MeasuredPath {
-        path: PathAt,
-        next: usize,
-        bytes: usize,
-    },
-    NoPath(Refusal),
-}
+use encoding::{PathAt, Refusal};
 
 // A head: where its own words end, how many bytes it adds to the texts of the types that follow, and if there are any, how many they are and which of them show
 // where it shows itself.
-#[derive(Clone, Copy)]
-enum OwnScan {
+#[derive(Clone, Copy, Debug, PartialEq, Eq)]
+enum Own {
     Leaf {
         next: usize,
         bytes: usize,
@@ -53,12 +35,12 @@ enum OwnScan {
         bytes: usize,
         below: u64,
     },
-    NoNode(Refusal),
 }
 
 // A pass that has come to `place` with `bytes` of text: `due` types are still to be read at the innermost of `depth` open levels, and `mode` says which of them show:
 // 0 none, inside a synonym's base; 1 all; 2 the next one alone, a synonym's display. The accepting pass is described by it too.
-#[derive(Clone, Copy)]
+// Kept: an enum for `mode` is no plainer, since a level holds it as the low bit of a number: it would be made a number and back at each level.
+#[derive(Clone, Copy, Debug, PartialEq, Eq)]
 pub struct Pass {
     pub place: usize,
     pub bytes: usize,
@@ -67,12 +49,11 @@ pub struct Pass {
     pub mode: u64,
 }
 
-// What a step comes to: a further pass, the end, or a refusal.
-#[derive(Clone, Copy)]
+// What a step comes to: a further pass, or the end.
+#[derive(Clone, Copy, Debug, PartialEq, Eq)]
 pub enum Step {
     On(Pass),
     Ended(Pass),
-    Halt(Refusal),
 }
 
 // How long a path's root is.
@@ -90,10 +71,7 @@ fn root_length(root: u32) -> usize
 fn commas_length(count: u32) -> usize
     ensures { result ≡ 2 * (count - 1) }
 {
-    if count == 0 {
-        return 0;
-    }
-    2 * (count as usize - 1)
+    2 * count.saturating_sub(1) as usize
 }
 
 // The brackets of an array, and its size if it has one.
@@ -108,56 +86,47 @@ fn array_length(pairs: &[u32], size: u32) -> usize
 }
 
 // A path whose root and count were read, from its names: they are read and measured in one loop.
-fn measure_names(words: &[u32], pairs: &[u32], bound: usize, path: PathAt) -> PathMeasure
+fn measure_names(
+    words: &[u32],
+    pairs: &[u32],
+    bound: usize,
+    path: PathAt,
+) -> Result<(PathAt, usize, usize), Refusal>
     requires { (bound ≡ name_count pairs.now) × (length words.now ≤ max_words) × (path.start ≤ length words.now) }
     ensures { PathScanned words.now pairs.now (names_path bound words.now path) result }
 {
-    let mut i = path.start;
-    let end = i + path.count as usize;
+    let end = path.start + path.count as usize;
     let mut bytes = root_length(path.root);
-    while i < end {
-        match encoding::scan_below(words, bound, i) {
-            WordScan::Word { value, next } => {
-                bytes += 2 + encoding::name_length(pairs, value);
-                i = next;
-            }
-            WordScan::NoWord(r) => {
-                return PathMeasure::NoPath(r);
-            }
-        }
+    for i in path.start..end {
+        let (value, _) = encoding::scan_below(words, bound, i)?;
+        bytes += 2 + encoding::name_length(pairs, value);
     }
-    PathMeasure::MeasuredPath {
-        path,
-        next: end,
-        bytes,
-    }
+    Ok((path, end, bytes))
 }
 
 // The path at `at`.
-fn path_at(words: &[u32], pairs: &[u32], bound: usize, at: usize) -> PathMeasure
+fn path_at(
+    words: &[u32],
+    pairs: &[u32],
+    bound: usize,
+    at: usize,
+) -> Result<(PathAt, usize, usize), Refusal>
     requires { (bound ≡ name_count pairs.now) × (length words.now ≤ max_words) }
     ensures { PathScanned words.now pairs.now (read_path bound words.now at) result }
 {
-    match encoding::scan_below(words, ROOTS, at) {
-        WordScan::Word {
-            value: root,
-            next: p,
-        } => match encoding::scan_word(words, p) {
-            WordScan::Word {
-                value: count,
-                next: start,
-            } => {
-                let path = PathAt { root, start, count };
-                measure_names(words, pairs, bound, path)
-            }
-            WordScan::NoWord(r) => PathMeasure::NoPath(r),
-        },
-        WordScan::NoWord(r) => PathMeasure::NoPath(r),
-    }
+    let (root, p) = encoding::scan_below(words, ROOTS, at)?;
+    let (count, start) = encoding::scan_word(words, p)?;
+    let path = PathAt { root, start, count };
+    measure_names(words, pairs, bound, path)
 }
 
 // Where the path at `at` ends and how long its text is, or the refusal that is met first.
-pub fn measure_path(words: &[u32], pairs: &[u32], text: &[u8], at: usize) -> PathMeasure
+pub fn measure_path(
+    words: &[u32],
+    pairs: &[u32],
+    text: &[u8],
+    at: usize,
+) -> Result<(PathAt, usize, usize), Refusal>
     requires { Good pairs.now text.now × (length words.now ≤ max_words) }
     ensures { result ≡ path_measure_of words.now (name_bytes pairs.now text.now) (read_path (name_count pairs.now) words.now at) }
 {
@@ -165,51 +134,41 @@ pub fn measure_path(words: &[u32], pairs: &[u32], text: &[u8], at: usize) -> Pat
 }
 
 // A head with no type behind it.
-fn own_leaf(next: usize, bytes: usize) -> OwnScan
-    ensures { result ≡ OwnScan.Leaf next bytes }
+fn own_leaf(next: usize, bytes: usize) -> Result<Own, Refusal>
+    ensures { result ≡ Ok (Own.Leaf next bytes) }
 {
-    OwnScan::Leaf { next, bytes }
+    Ok(Own::Leaf { next, bytes })
 }
 
 // A head with types behind it.
-fn own_node(next: usize, kids: u64, bytes: usize, below: u64) -> OwnScan
-    ensures { result ≡ OwnScan.Node next kids bytes below }
+fn own_node(next: usize, kids: u64, bytes: usize, below: u64) -> Result<Own, Refusal>
+    ensures { result ≡ Ok (Own.Node next kids bytes below) }
 {
-    OwnScan::Node {
+    Ok(Own::Node {
         next,
         kids,
         bytes,
         below,
-    }
+    })
 }
 
 // A name's head, from the words behind its kind; the heads below likewise.
-fn own_name(words: &[u32], pairs: &[u32], bound: usize, at: usize) -> OwnScan
+fn own_name(words: &[u32], pairs: &[u32], bound: usize, at: usize) -> Result<Own, Refusal>
     requires { bound ≡ name_count pairs.now }
     ensures { Scanned words.now pairs.now (worded Name (read_below bound words.now at)) result }
 {
-    match encoding::scan_below(words, bound, at) {
-        WordScan::Word { value, next } => {
-            let bytes = encoding::name_length(pairs, value);
-            own_leaf(next, bytes)
-        }
-        WordScan::NoWord(r) => OwnScan::NoNode(r),
-    }
+    let (value, next) = encoding::scan_below(words, bound, at)?;
+    let bytes = encoding::name_length(pairs, value);
+    own_leaf(next, bytes)
 }
 
 // A path's head.
-fn own_path(words: &[u32], pairs: &[u32], bound: usize, at: usize) -> OwnScan
+fn own_path(words: &[u32], pairs: &[u32], bound: usize, at: usize) -> Result<Own, Refusal>
     requires { (bound ≡ name_count pairs.now) × (length words.now ≤ max_words) }
     ensures { Scanned words.now pairs.now (path_head bound words.now at) result }
 {
-    match path_at(words, pairs, bound, at) {
-        PathMeasure::MeasuredPath {
-            path: _,
-            next,
-            bytes,
-        } => own_leaf(next, bytes),
-        PathMeasure::NoPath(r) => OwnScan::NoNode(r),
-    }
+    let (_, next, bytes) = path_at(words, pairs, bound, at)?;
+    own_leaf(next, bytes)
 }
 
 // The most types that find words.
@@ -219,78 +178,56 @@ const MOST_TYPES: u32 = MAX_WORDS as u32;
 pub fn cut(count: u32) -> u64
     ensures { CutDown result count × (result ≤ max_words) }
 {
-    if MOST_TYPES < count {
-        return MAX_WORDS as u64;
-    }
-    count as u64
+    count.min(MOST_TYPES) as u64
 }
 
 // The head of a type with arguments.
-fn own_apply(words: &[u32], pairs: &[u32], at: usize) -> OwnScan
+fn own_apply(words: &[u32], pairs: &[u32], at: usize) -> Result<Own, Refusal>
     ensures { Scanned words.now pairs.now (worded Apply (read_word words.now at)) result }
 {
-    match encoding::scan_word(words, at) {
-        WordScan::Word { value, next } => own_node(next, cut(value) + 1, 2 * value as usize, 1),
-        WordScan::NoWord(r) => OwnScan::NoNode(r),
-    }
+    let (value, next) = encoding::scan_word(words, at)?;
+    own_node(next, cut(value) + 1, 2 * value as usize, 1)
 }
 
 // A tuple's head.
-fn own_tuple(words: &[u32], pairs: &[u32], at: usize) -> OwnScan
+fn own_tuple(words: &[u32], pairs: &[u32], at: usize) -> Result<Own, Refusal>
     ensures { Scanned words.now pairs.now (worded Tuple (read_word words.now at)) result }
 {
-    match encoding::scan_word(words, at) {
-        WordScan::Word { value, next } => {
-            if value == 0 {
-                return own_leaf(next, 2);
-            }
-            own_node(next, cut(value), 2 * value as usize, 1)
-        }
-        WordScan::NoWord(r) => OwnScan::NoNode(r),
+    let (value, next) = encoding::scan_word(words, at)?;
+    if value == 0 {
+        return own_leaf(next, 2);
     }
+    own_node(next, cut(value), 2 * value as usize, 1)
 }
 
 // A function's head.
-fn own_function(words: &[u32], pairs: &[u32], at: usize) -> OwnScan
+fn own_function(words: &[u32], pairs: &[u32], at: usize) -> Result<Own, Refusal>
     ensures { Scanned words.now pairs.now (worded Function (read_word words.now at)) result }
 {
-    match encoding::scan_word(words, at) {
-        WordScan::Word { value, next } => own_node(
-            next,
-            cut(value) + 1,
-            20 + commas_length(value),
-            1,
-        ),
-        WordScan::NoWord(r) => OwnScan::NoNode(r),
-    }
+    let (value, next) = encoding::scan_word(words, at)?;
+    own_node(next, cut(value) + 1, 20 + commas_length(value), 1)
 }
 
 // An array's head.
-fn own_array(words: &[u32], pairs: &[u32], bound: usize, at: usize) -> OwnScan
+fn own_array(words: &[u32], pairs: &[u32], bound: usize, at: usize) -> Result<Own, Refusal>
     requires { bound ≡ name_count pairs.now }
     ensures { Scanned words.now pairs.now (worded ArrayOf (read_below (bound + 1) words.now at)) result }
 {
-    match encoding::scan_below(words, bound + 1, at) {
-        WordScan::Word { value, next } => {
-            let bytes = array_length(pairs, value);
-            own_node(next, 1, bytes, 1)
-        }
-        WordScan::NoWord(r) => OwnScan::NoNode(r),
-    }
+    let (value, next) = encoding::scan_below(words, bound + 1, at)?;
+    let bytes = array_length(pairs, value);
+    own_node(next, 1, bytes, 1)
 }
 
 // The head of metadata, which adds nothing.
-fn own_meta(words: &[u32], pairs: &[u32], at: usize) -> OwnScan
+fn own_meta(words: &[u32], pairs: &[u32], at: usize) -> Result<Own, Refusal>
     ensures { Scanned words.now pairs.now (worded Meta (read_below flag_count words.now at)) result }
 {
-    match encoding::scan_below(words, FLAGS, at) {
-        WordScan::Word { value: _, next } => own_node(next, 1, 0, 1),
-        WordScan::NoWord(r) => OwnScan::NoNode(r),
-    }
+    let (_, next) = encoding::scan_below(words, FLAGS, at)?;
+    own_node(next, 1, 0, 1)
 }
 
 // The head of kind `w`, neither a plain type nor a name, whose further words begin at `at`.
-fn own_after(words: &[u32], pairs: &[u32], bound: usize, w: u32, at: usize) -> OwnScan
+fn own_after(words: &[u32], pairs: &[u32], bound: usize, w: u32, at: usize) -> Result<Own, Refusal>
     requires { (from_path_kind ≤ w) × (bound ≡ name_count pairs.now) × (length words.now ≤ max_words) }
     ensures { Scanned words.now pairs.now (head_after bound words.now w at) result }
 {
@@ -307,18 +244,18 @@ fn own_after(words: &[u32], pairs: &[u32], bound: usize, w: u32, at: usize) -> O
         ARRAY => own_array(words, pairs, bound, at),
         T_SYNONYM => own_node(at, 2, 0, 2),
         T_META_DATA => own_meta(words, pairs, at),
-        _ => OwnScan::NoNode(Refusal::UnknownWord),
+        _ => Err(Refusal::UnknownWord),
     }
 }
 
 // The head at `at`. Plain types and names, the most frequent heads, need no jump by a table. They are told from the others by an order: a test for equality would
 // become one more entry of the table.
-fn scan_own(words: &[u32], pairs: &[u32], bound: usize, at: usize) -> OwnScan
+fn scan_own(words: &[u32], pairs: &[u32], bound: usize, at: usize) -> Result<Own, Refusal>
     requires { (bound ≡ name_count pairs.now) × (length words.now ≤ max_words) }
     ensures { Scanned words.now pairs.now (read_head bound words.now at) result }
 {
     if words.len() <= at {
-        return OwnScan::NoNode(Refusal::EndsEarly);
+        return Err(Refusal::EndsEarly);
     }
     let w = words[at];
     if w < TYPE_FROM_PATH {
@@ -330,18 +267,11 @@ fn scan_own(words: &[u32], pairs: &[u32], bound: usize, at: usize) -> OwnScan
     own_after(words, pairs, bound, w, at + 1)
 }
 
-// What shows counts, and nothing else does.
-fn bytes_if(mode: u64, bytes: usize) -> usize
-    ensures { result ≡ pick (eqb mode 0) 0 bytes }
+// What counts where a head shows, and what counts where it does not.
+fn shown_or<T: Copy>(mode: u64, shown: T, hidden: T) -> T
+    ensures { result ≡ pick (eqb mode 0) hidden shown }
 {
-    if mode == 0 { 0 } else { bytes }
-}
-
-// The mode below a head: none of its types shows where it does not.
-fn mode_if(mode: u64, below: u64) -> u64
-    ensures { result ≡ pick (eqb mode 0) 0 below }
-{
-    if mode == 0 { 0 } else { below }
+    if mode == 0 { hidden } else { shown }
 }
 
 // How many types are due at a level. A parameter is known to fit its type, an element of a lent array is not.
@@ -373,6 +303,7 @@ fn settle(levels: &[u16; MAX_DEPTH], pass: Pass) -> Pass
     ensures { Outward levels.now pass result × (result.due ≡ 0 → result.depth ≡ 0) }
 {
     let mut p = pass;
+    // Kept: no plainer as a `for`, since no range is counted: a turn takes up a level, and how many have ended is not known before.
     while p.due == 0 {
         if p.depth == 0 {
             return p;
@@ -390,7 +321,7 @@ fn past_leaf(pass: Pass, next: usize, bytes: usize) -> Pass
     let mode = pass.mode;
     Pass {
         place: next,
-        bytes: pass.bytes + bytes_if(mode, bytes),
+        bytes: pass.bytes + shown_or(mode, bytes, 0),
         depth: pass.depth,
         due: pass.due - 1,
         mode: mode % 2,
@@ -415,10 +346,10 @@ fn enter(
     levels[depth] = (2 * after + mode % 2) as u16;
     Pass {
         place: next,
-        bytes: pass.bytes + bytes_if(mode, bytes),
+        bytes: pass.bytes + shown_or(mode, bytes, 0),
         depth: depth + 1,
         due: kids,
-        mode: mode_if(mode, below),
+        mode: shown_or(mode, below, 0),
     }
 }
 
@@ -433,41 +364,45 @@ fn advance(
     bound: usize,
     levels: &mut [u16; MAX_DEPTH],
     pass: Pass,
-) -> Step
+) -> Result<Step, Refusal>
     requires { (bound ≡ name_count pairs.now) × Good pairs.now text.now × (length words.now ≤ max_words)
         × Kept words.now levels.old pass }
     ensures { Stepped words.now pairs.now text.now levels.old pass levels.new result }
 {
-    match scan_own(words, pairs, bound, pass.place) {
-        OwnScan::Leaf { next, bytes } => {
+    match scan_own(words, pairs, bound, pass.place)? {
+        Own::Leaf { next, bytes } => {
             let p = settle(levels, past_leaf(pass, next, bytes));
             if p.due == 0 {
-                return Step::Ended(p);
+                return Ok(Step::Ended(p));
             }
-            Step::On(p)
+            Ok(Step::On(p))
         }
-        OwnScan::Node {
+        Own::Node {
             next,
             kids,
             bytes,
             below,
         } => {
             if pass.depth == DEEPEST {
-                return Step::Halt(Refusal::TooDeep);
+                return Err(Refusal::TooDeep);
             }
-            Step::On(enter(levels, pass, next, kids, bytes, below))
+            Ok(Step::On(enter(levels, pass, next, kids, bytes, below)))
         }
-        OwnScan::NoNode(r) => Step::Halt(r),
     }
 }
 
 // Where the type at `at` ends and how long its text is, or the refusal that is met first.
-pub fn measure_type(words: &[u32], pairs: &[u32], text: &[u8], at: usize) -> Measure
+pub fn measure_type(
+    words: &[u32],
+    pairs: &[u32],
+    text: &[u8],
+    at: usize,
+) -> Result<(usize, usize), Refusal>
     requires { Good pairs.now text.now × (length words.now ≤ max_words) }
     ensures { result ≡ measure_of (type_at words.now pairs.now text.now at) }
 {
     if words.len() < at {
-        return Measure::Stopped(Refusal::EndsEarly);
+        return Err(Refusal::EndsEarly);
     }
     let bound = encoding::name_count(pairs);
     let mut levels = [0u16; MAX_DEPTH];
@@ -478,19 +413,14 @@ pub fn measure_type(words: &[u32], pairs: &[u32], text: &[u8], at: usize) -> Mea
         due: 1,
         mode: 1,
     };
+    // Kept: no plainer as a `for`, since no range is counted: a turn reads a head, and `advance` says which is the last.
     loop {
-        match advance(words, pairs, text, bound, &mut levels, pass) {
+        match advance(words, pairs, text, bound, &mut levels, pass)? {
             Step::On(p) => {
                 pass = p;
             }
             Step::Ended(p) => {
-                return Measure::Measured {
-                    next: p.place,
-                    bytes: p.bytes,
-                };
-            }
-            Step::Halt(r) => {
-                return Measure::Stopped(r);
+                return Ok((p.place, p.bytes));
             }
         }
     }

@@ -5,10 +5,10 @@ ghost use Rattle.std.specs.Prelude.{◌<◌};
 ghost use Rattle.text_pass.specs.Passes.{Checked, Ready, Went};
 ghost use Rattle.text_parameters.specs.Texts.{some_constraints, constraints_at, parameter_at, some_parameters, parameters_at};
 
-use encoding::WordScan;
-use text_pass::PartEnd;
+use encoding::Refusal;
 
 // `n` constraints, one at least.
+// Kept: the twin of `lay_parameters`. One function over a closure is no plainer: its contract says of every buffer what the closure asks and does, in more lines than it saves.
 fn lay_constraints(
     write: bool,
     words: &[u32],
@@ -18,25 +18,19 @@ fn lay_constraints(
     at: usize,
     out: &mut [u8],
     pos: usize,
-) -> PartEnd
+) -> Result<(usize, usize), Refusal>
     requires { Checked words.now pairs.now text.now × (0 < n) × Ready write out.old pos (some_constraints words.now pairs.now text.now n at) }
     ensures { Went write out.old pos (some_constraints words.now pairs.now text.now n at) out.new result }
 {
     let mut place = at;
     let mut p = pos;
-    let mut left = n;
-    loop {
-        let one = text_pass::lay_type(write, words, pairs, text, place, out, p);
-        let PartEnd::At { next, pos: end } = one else {
-            return one;
-        };
-        left -= 1;
-        if left == 0 {
-            return one;
+    for i in 0..n {
+        (place, p) = text_pass::lay_type(write, words, pairs, text, place, out, p)?;
+        if i + 1 < n {
+            p = buffer::lay(write, b" + ", out, p);
         }
-        place = next;
-        p = buffer::lay(write, b" + ", out, end);
     }
+    Ok((place, p))
 }
 
 // The constraints of a parameter, their count first. None have no text.
@@ -48,20 +42,16 @@ fn lay_constraint_list(
     at: usize,
     out: &mut [u8],
     pos: usize,
-) -> PartEnd
+) -> Result<(usize, usize), Refusal>
     requires { Checked words.now pairs.now text.now × Ready write out.old pos (constraints_at words.now pairs.now text.now at) }
     ensures { Went write out.old pos (constraints_at words.now pairs.now text.now at) out.new result }
 {
-    match encoding::scan_word(words, at) {
-        WordScan::Word { value, next } => {
-            if value == 0 {
-                return PartEnd::At { next, pos };
-            }
-            let p = buffer::lay(write, b": ", out, pos);
-            lay_constraints(write, words, pairs, text, value, next, out, p)
-        }
-        WordScan::NoWord(r) => PartEnd::Stopped(r),
+    let (value, next) = encoding::scan_word(words, at)?;
+    if value == 0 {
+        return Ok((next, pos));
     }
+    let p = buffer::lay(write, b": ", out, pos);
+    lay_constraints(write, words, pairs, text, value, next, out, p)
 }
 
 // A parameter.
@@ -73,14 +63,11 @@ fn lay_parameter(
     at: usize,
     out: &mut [u8],
     pos: usize,
-) -> PartEnd
+) -> Result<(usize, usize), Refusal>
     requires { Checked words.now pairs.now text.now × Ready write out.old pos (parameter_at words.now pairs.now text.now at) }
     ensures { Went write out.old pos (parameter_at words.now pairs.now text.now at) out.new result }
 {
-    let name = text_pass::lay_name(write, words, pairs, text, at, out, pos);
-    let PartEnd::At { next, pos: p } = name else {
-        return name;
-    };
+    let (next, p) = text_pass::lay_name(write, words, pairs, text, at, out, pos)?;
     lay_constraint_list(write, words, pairs, text, next, out, p)
 }
 
@@ -94,25 +81,19 @@ fn lay_parameters(
     at: usize,
     out: &mut [u8],
     pos: usize,
-) -> PartEnd
+) -> Result<(usize, usize), Refusal>
     requires { Checked words.now pairs.now text.now × (0 < n) × Ready write out.old pos (some_parameters words.now pairs.now text.now n at) }
     ensures { Went write out.old pos (some_parameters words.now pairs.now text.now n at) out.new result }
 {
     let mut place = at;
     let mut p = pos;
-    let mut left = n;
-    loop {
-        let one = lay_parameter(write, words, pairs, text, place, out, p);
-        let PartEnd::At { next, pos: end } = one else {
-            return one;
-        };
-        left -= 1;
-        if left == 0 {
-            return one;
+    for i in 0..n {
+        (place, p) = lay_parameter(write, words, pairs, text, place, out, p)?;
+        if i + 1 < n {
+            p = buffer::lay(write, b", ", out, p);
         }
-        place = next;
-        p = buffer::lay(write, b", ", out, end);
     }
+    Ok((place, p))
 }
 
 // The parameters of a declaration, their count first. None have no text.
@@ -124,25 +105,15 @@ pub fn lay_parameter_list(
     at: usize,
     out: &mut [u8],
     pos: usize,
-) -> PartEnd
+) -> Result<(usize, usize), Refusal>
     requires { Checked words.now pairs.now text.now × Ready write out.old pos (parameters_at words.now pairs.now text.now at) }
     ensures { Went write out.old pos (parameters_at words.now pairs.now text.now at) out.new result }
 {
-    match encoding::scan_word(words, at) {
-        WordScan::Word { value, next } => {
-            if value == 0 {
-                return PartEnd::At { next, pos };
-            }
-            let p = buffer::lay(write, b"<", out, pos);
-            let list = lay_parameters(write, words, pairs, text, value, next, out, p);
-            let PartEnd::At { next: end, pos: q } = list else {
-                return list;
-            };
-            PartEnd::At {
-                next: end,
-                pos: buffer::lay(write, b">", out, q),
-            }
-        }
-        WordScan::NoWord(r) => PartEnd::Stopped(r),
+    let (value, next) = encoding::scan_word(words, at)?;
+    if value == 0 {
+        return Ok((next, pos));
     }
+    let p = buffer::lay(write, b"<", out, pos);
+    let (end, q) = lay_parameters(write, words, pairs, text, value, next, out, p)?;
+    Ok((end, buffer::lay(write, b">", out, q)))
 }

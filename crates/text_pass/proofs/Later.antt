@@ -1,4 +1,5 @@
 -- Laws of a part that is read at its place in the words and shown later.
+use Rattle.std.specs.Prelude.{Ok, Err, Result}
 use Prim.Native.Nat.{ℕ, ◌+◌}
 use mathlib.Core.Path.{◌≡◌, refl, ap, sym, ◌∙◌}
 use mathlib.Core.Bool.{Bool, true, false}
@@ -9,16 +10,12 @@ use Rattle.rast.specs.Bytes.{Bytes}
 use Rattle.buffer.specs.Laid.{clamp}
 use Rattle.buffer.proofs.Passes.{laid_as}
 use Rattle.encoding.specs.declared.Refusal.{Refusal}
-use Rattle.encoding.specs.declared.Scan.{Scan}
-use Rattle.encoding.specs.declared.Scan.TheVariants.{At as EndAt}
 use Rattle.encoding.specs.Reading.{Reading, got, stop, ◌>>=◌}
 use Rattle.encoding.specs.Scans.{ended, map_reading}
 use Rattle.encoding.proofs.Tables.{impossible}
 use Rattle.encoding.proofs.Types.{bind-got}
 use Rattle.encoding.proofs.Reading.{map-got, map-stop, scan-got}
 use Rattle.accepted_types.specs.Accepted.{Readable, EndsAt}
-use Rattle.text_pass.specs.declared.PartEnd.{PartEnd}
-use Rattle.text_pass.specs.declared.PartEnd.TheVariants.{Stopped}
 use Rattle.text_pass.specs.Passes.{Chain, ◌then◌, ◌later◌, run, Ready, Came, Went, came, stopped}
 use Rattle.text_pass.proofs.Passes.{AlongChain, ready-as, ready-count, went-as, stops-here, was-stopped, chain_fits, chain-laid}
 use Rattle.text_pass.proofs.Splits.{followed, run-followed}
@@ -26,7 +23,7 @@ use Rattle.text_pass.proofs.Splits.{followed, run-followed}
 -- ---- where a part ends that is not laid
 
 -- it was passed over, or counted
-pub scanned-ends : {A : Type 0} (text : A → Bytes) (x : Reading A) {s : Scan} {n : ℕ} → s ≡ ended x → s ≡ EndAt n → EndsAt (map_reading text x) n
+pub scanned-ends : {A : Type 0} (text : A → Bytes) (x : Reading A) {s : Result ℕ Refusal} {n : ℕ} → s ≡ ended x → s ≡ Ok n → EndsAt (map_reading text x) n
 scanned-ends text x e d = let r = scan-got x e d in record { value = text r.value; reads = map-got text r.reads }
 
 pub came-ends : {write : Bool} {o o' : List ℕ} {p n q : ℕ} {x : Reading Bytes} → Came write o p x o' n q → EndsAt x n
@@ -51,8 +48,8 @@ module _ {write : Bool} {o : List ℕ} {p : ℕ} {whole : Reading Bytes} {o₁ :
   }
 
   -- its refusal comes before those of what follows it in the words, though it is shown behind them
-  pub later-stop : {e : Refusal} → x ≡ stop e → Went write o p whole o₁ (Stopped e)
-  later-stop e = a.ends o₁ (Stopped _) (record { went = stops-here (later-refused x k e) })
+  pub later-stop : {e : Refusal} → x ≡ stop e → Went write o p whole o₁ (Err e)
+  later-stop e = a.ends o₁ (Err _) (record { went = stops-here (later-refused x k e) })
 
   -- a pass that writes can pass it over without a test
   pub later-there : write ≡ true → Readable x
@@ -65,7 +62,7 @@ module _ {write : Bool} {o : List ℕ} {p : ℕ} {whole : Reading Bytes} {o₁ :
 -- ---- where it is shown
 
 -- what was read once is not refused
-pub later-never : {A : Type 0} {write : Bool} {o o' : List ℕ} {p n : ℕ} {x : Reading Bytes} {r : PartEnd} {k : Refusal} → EndsAt x n → Went write o p x o' r → r ≡ Stopped k → A
+pub later-never : {A : Type 0} {write : Bool} {o o' : List ℕ} {p n : ℕ} {x : Reading Bytes} {r : Result (ℕ × ℕ) Refusal} {k : Refusal} → EndsAt x n → Went write o p x o' r → r ≡ Err k → A
 later-never e w d = impossible (let s = (was-stopped w d).0 in cc e.reads)
 
 -- it is read again from where it began, and the pass goes on where it had come to
@@ -80,7 +77,7 @@ module _ {write : Bool} {o : List ℕ} {p : ℕ} {whole : Reading Bytes} {o₁ :
 -- ---- counted in the order of the words
 
 -- a count depends on the length of a text alone
-counts-size : {o o' : List ℕ} {p : ℕ} {r : PartEnd} (x y : Reading Bytes) → map_reading length x ≡ map_reading length y → Went false o p x o' r → Went false o p y o' r
+counts-size : {o o' : List ℕ} {p : ℕ} {r : Result (ℕ × ℕ) Refusal} (x y : Reading Bytes) → map_reading length x ≡ map_reading length y → Went false o p x o' r → Went false o p y o' r
 unfolding map_reading
 counts-size {o} {o'} {p} x (got c m) e (came {n = n} {p' = q} d) =
     let f : got (length d.bytes) n ≡ got (length c) m = sym (map-got length d.reads) ∙ e in

@@ -1,4 +1,5 @@
 -- Laws of names, docs, types and paths: from what the code's scans say to the texts.
+use Rattle.std.specs.Prelude.{Ok, Err, Result}
 use Prim.Native.Nat.{ℕ, suc, ◌+◌, ◌-◌, ◌≤◌, ◌<◌}
 use mathlib.Core.Path.{◌≡◌, refl, ap, sym, ◌∙◌, subst}
 use mathlib.Core.Bool.{Bool, true, false}
@@ -19,10 +20,8 @@ use Rattle.encoding.specs.Words.{plain_kinds, identifier_kind, borrowed_kind, ma
 use Rattle.encoding.specs.declared.Refusal.{Refusal}
 use Rattle.encoding.specs.declared.Refusal.TheVariants.{EndsEarly}
 use Rattle.encoding.specs.declared.Head.TheVariants.{Name, Ref}
-use Rattle.encoding.specs.declared.WordScan.{WordScan}
-use Rattle.encoding.specs.declared.WordScan.TheVariants.{Word, NoWord}
 use Rattle.encoding.specs.Reading.{Reading, got, stop, ◌>>=◌, read_word, read_below}
-use Rattle.encoding.specs.Scans.{word_scan, map_reading}
+use Rattle.encoding.specs.Scans.{scan_of, map_reading}
 use Rattle.encoding.specs.Tables.{fixed_names, name_bytes, name_count}
 use Rattle.encoding.specs.Tested.{Good}
 use Rattle.encoding.specs.Heads.{head_after, read_head}
@@ -32,17 +31,13 @@ use Rattle.encoding.proofs.Tables.{impossible, name-fixed}
 use Rattle.encoding.proofs.Heads.{head_at, head-end, plain-head}
 use Rattle.encoding.proofs.Types.{node_of}
 use Rattle.encoding.proofs.Inside.{word-there, below-there}
-use Rattle.encoding.proofs.Reading.{word_got, word-stop, word_in, map-got, map-stop}
-use Rattle.text_measure.specs.declared.Measure.{Measure}
-use Rattle.text_measure.specs.declared.Measure.TheVariants.{Measured, Stopped as Refused}
+use Rattle.encoding.proofs.Reading.{read-got, read-stop, word_in, map-got, map-stop}
 use Rattle.text_measure.specs.Lengths.{measure_of}
 use Rattle.text_measure.proofs.Measured.{measured-got, measured-stop}
 use Rattle.accepted_types.specs.declared.Spot.{Spot}
 use Rattle.accepted_types.specs.Accepted.{Readable}
 use Rattle.text_type.specs.Written.{Room, Written}
 use Rattle.accepted_types.proofs.Accepted.{type-here}
-use Rattle.text_pass.specs.declared.PartEnd.{PartEnd}
-use Rattle.text_pass.specs.declared.PartEnd.TheVariants.{At, Stopped}
 use Rattle.text_pass.specs.Passes.{Chain, last, ◌then◌, run, Checked, Ready, Came, Went, Counts, came}
 use Rattle.text_pass.specs.Texts.{visibility_at, name_at, type_text_at, doc_at}
 use Rattle.text_pass.proofs.Passes.{Runs, AlongChain, came-to, came-as, came-at, came-bytes, chain_fits, chain-laid, chain-start, counts-bytes, last-came, last-ready, ready-as, ready-bytes, stops-here, went-as, went-last, went-runs, went_then}
@@ -51,11 +46,11 @@ use Rattle.text_pass.proofs.Splits.{map-made, text-before, counted-got, counted_
 -- ---- what a scan says
 
 -- a word below the number of names
-pub scanned-word : (ws : List ℕ) (bound at : ℕ) {b : ℕ} {r : WordScan} {x n : ℕ} → b ≡ bound → r ≡ word_scan (read_below b ws at) → r ≡ Word x n → read_below bound ws at ≡ got x n
-scanned-word ws bound at {b} q e d = ap (λ (c : ℕ). read_below c ws at) (sym q) ∙ word_got (read_below b ws at) e d
+pub scanned-word : (ws : List ℕ) (bound at : ℕ) {b : ℕ} {r : Result (ℕ × ℕ) Refusal} {x n : ℕ} → b ≡ bound → r ≡ scan_of (read_below b ws at) → r ≡ Ok (x, n) → read_below bound ws at ≡ got x n
+scanned-word ws bound at {b} q e d = ap (λ (c : ℕ). read_below c ws at) (sym q) ∙ read-got (read_below b ws at) e d
 
-pub scanned-none : (ws : List ℕ) (bound at : ℕ) {b : ℕ} {r : WordScan} {k : Refusal} → b ≡ bound → r ≡ word_scan (read_below b ws at) → r ≡ NoWord k → read_below bound ws at ≡ stop k
-scanned-none ws bound at {b} q e d = ap (λ (c : ℕ). read_below c ws at) (sym q) ∙ word-stop (read_below b ws at) e d
+pub scanned-none : (ws : List ℕ) (bound at : ℕ) {b : ℕ} {r : Result (ℕ × ℕ) Refusal} {k : Refusal} → b ≡ bound → r ≡ scan_of (read_below b ws at) → r ≡ Err k → read_below bound ws at ≡ stop k
+scanned-none ws bound at {b} q e d = ap (λ (c : ℕ). read_below c ws at) (sym q) ∙ read-stop (read_below b ws at) e d
 
 -- ---- what was accepted is there
 
@@ -89,11 +84,11 @@ pub record OneWord (b : ℕ) (ws : List ℕ) (at : ℕ) (x : Reading Bytes) (mak
 
 module _ {b : ℕ} {ws : List ℕ} {at : ℕ} {x : Reading Bytes} {make : ℕ → Bytes} (f : OneWord b ws at x make) where
   -- what a scan of the word says
-  module _ {c : ℕ} (q : c ≡ b) {s : WordScan} (e : s ≡ word_scan (read_below c ws at)) {write : Bool} {o : List ℕ} {p : ℕ} where
-    pub scanned-went : {v n : ℕ} {o' : List ℕ} {p' : ℕ} → s ≡ Word v n → Laid write o p (make v) o' p' → Went write o p x o' (At n p')
+  module _ {c : ℕ} (q : c ≡ b) {s : Result (ℕ × ℕ) Refusal} (e : s ≡ scan_of (read_below c ws at)) {write : Bool} {o : List ℕ} {p : ℕ} where
+    pub scanned-went : {v n : ℕ} {o' : List ℕ} {p' : ℕ} → s ≡ Ok (v, n) → Laid write o p (make v) o' p' → Went write o p x o' (Ok (n, p'))
     scanned-went d l = came (came-as (sym (f.when-read (scanned-word ws b at q e d))) (came-bytes _ l))
 
-    pub scanned-refused : {k : Refusal} → s ≡ NoWord k → Went write o p x o (Stopped k)
+    pub scanned-refused : {k : Refusal} → s ≡ Err k → Went write o p x o (Err k)
     scanned-refused d = stops-here (f.when-refused (scanned-none ws b at q e d))
 
   -- the text was accepted
@@ -140,10 +135,10 @@ room-type {o} {p} (got t n) m =
 room-type (stop k) m = impossible (let e = m.reads in cc)
 
 module _ {write : Bool} {o : List ℕ} {p : ℕ} (x : Reading (Ty Bytes)) where
-  pub went-written : {o' : List ℕ} (s : Spot) → write ≡ true → Written o p Type-to_string x o' s → Went write o p (map_reading Type-to_string x) o' (At s.next s.pos)
+  pub went-written : {o' : List ℕ} (s : Spot) → write ≡ true → Written o p Type-to_string x o' s → Went write o p (map_reading Type-to_string x) o' (Ok (s.next, s.pos))
   went-written s e w = came (record { bytes = Type-to_string w.value; reads = map-got Type-to_string w.reads; laid = laid-wrote e w.wrote })
 
-  pub went-measured : {r : Measure} {n b p' : ℕ} → write ≡ false → r ≡ measure_of x → r ≡ Measured n b → p' ≡ clamp (p + b) → Went write o p (map_reading Type-to_string x) o (At n p')
+  pub went-measured : {r : Result (ℕ × ℕ) Refusal} {n b p' : ℕ} → write ≡ false → r ≡ measure_of x → r ≡ Ok (n, b) → p' ≡ clamp (p + b) → Went write o p (map_reading Type-to_string x) o (Ok (n, p'))
   went-measured {b = b} w e d c =
       let s = measured-got x e d in
       came (record {
@@ -152,7 +147,7 @@ module _ {write : Bool} {o : List ℕ} {p : ℕ} (x : Reading (Ty Bytes)) where
         laid = laid-size w (clamp-of (p + b) c) s.size;
       })
 
-  pub went-refused : {r : Measure} {k : Refusal} → r ≡ measure_of x → r ≡ Refused k → Went write o p (map_reading Type-to_string x) o (Stopped k)
+  pub went-refused : {r : Result (ℕ × ℕ) Refusal} {k : Refusal} → r ≡ measure_of x → r ≡ Err k → Went write o p (map_reading Type-to_string x) o (Err k)
   went-refused e d = stops-here (map-stop Type-to_string (measured-stop x e d))
 
 -- ---- types of which the first word tells enough
@@ -186,7 +181,7 @@ module _ (deep : ℕ) (ws pairs : List ℕ) (text : Bytes) (at : ℕ) where
       → Came false [] p (text_within (suc deep) ws pairs text at) [] (at + 1) q
   plain-counts h k e c = came-as (sym (plain-text h k)) (came-bytes (at + 1) (laid-size refl c e))
 
-  pub named-counts : {p : ℕ} {r : PartEnd} → at < length ws → get_or ws at 0 ≡ identifier_kind → Counts p (name_at ws pairs text (at + 1)) r → Counts p (text_within (suc deep) ws pairs text at) r
+  pub named-counts : {p : ℕ} {r : Result (ℕ × ℕ) Refusal} → at < length ws → get_or ws at 0 ≡ identifier_kind → Counts p (name_at ws pairs text (at + 1)) r → Counts p (text_within (suc deep) ws pairs text at) r
   named-counts h k w = went-as (sym (named-text h k)) w
 
 -- ---- borrows
@@ -207,7 +202,7 @@ module _ (ws pairs : List ℕ) (text : Bytes) (at : ℕ) (h : at < length ws) (k
   unfolding read_type
   borrow-within = rw borrow-head (borrow-runs ws (name_bytes pairs text) (read_type (name_count pairs) ws (name_bytes pairs text) (max_depth - 1)) (at + 1))
 
-  pub borrow-counts : {p : ℕ} {r : PartEnd} → Counts (p + 1) (text_within (max_depth - 1) ws pairs text (at + 1)) r → Counts p (type_text_at ws pairs text at) r
+  pub borrow-counts : {p : ℕ} {r : Result (ℕ × ℕ) Refusal} → Counts (p + 1) (text_within (max_depth - 1) ws pairs text (at + 1)) r → Counts p (type_text_at ws pairs text at) r
   unfolding ascii
   borrow-counts w = went-runs borrow-within (went_then (counts-bytes refl) (went-last w))
 
@@ -292,15 +287,15 @@ counted-first f ws item at e = record {
 
 module _ {ws : List ℕ} {at : ℕ} {x : Reading Bytes} {none : Bytes} {some : ℕ → ℕ → Chain} (f : CountFirst ws at x none some) where
   -- what a scan of the count says
-  module _ {s : WordScan} (e : s ≡ word_scan (read_word ws at)) {write : Bool} {o : List ℕ} {p : ℕ} where
-    pub count_none : {n q : ℕ} {o' : List ℕ} {p' : ℕ} → s ≡ Word n q → n ≡ 0 → Laid write o p none o' p' → Came write o p x o' q p'
-    count_none d z l = came-as (sym (f.when-none (word_got (read_word ws at) e d) z)) (came-bytes _ l)
+  module _ {s : Result (ℕ × ℕ) Refusal} (e : s ≡ scan_of (read_word ws at)) {write : Bool} {o : List ℕ} {p : ℕ} where
+    pub count_none : {n q : ℕ} {o' : List ℕ} {p' : ℕ} → s ≡ Ok (n, q) → n ≡ 0 → Laid write o p none o' p' → Came write o p x o' q p'
+    count_none d z l = came-as (sym (f.when-none (read-got (read_word ws at) e d) z)) (came-bytes _ l)
 
-    pub count-some : {n q : ℕ} → s ≡ Word n q → (n ≡ 0 → ⊥) → Ready write o p x → AlongChain write o p x o p (some n q)
-    count-some d z r = chain-start (f.when-some (word_got (read_word ws at) e d) (omega arith)) r
+    pub count-some : {n q : ℕ} → s ≡ Ok (n, q) → (n ≡ 0 → ⊥) → Ready write o p x → AlongChain write o p x o p (some n q)
+    count-some d z r = chain-start (f.when-some (read-got (read_word ws at) e d) (omega arith)) r
 
-    pub count-refused : {k : Refusal} → s ≡ NoWord k → Went write o p x o (Stopped k)
-    count-refused d = stops-here (f.when-refused (word-stop (read_word ws at) e d))
+    pub count-refused : {k : Refusal} → s ≡ Err k → Went write o p x o (Err k)
+    count-refused d = stops-here (f.when-refused (read-stop (read_word ws at) e d))
 
   -- the text was accepted
   module _ {o : List ℕ} {p : ℕ} (r : Ready true o p x) where

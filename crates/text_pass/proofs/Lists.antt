@@ -1,4 +1,5 @@
 -- Laws of lists: with nothing between the items, and with some of the items shown.
+use Rattle.std.specs.Prelude.{Ok, Err, Result}
 use Prim.Native.Nat.{ℕ, zero, suc, ◌-◌, ◌<◌}
 use mathlib.Core.Path.{◌≡◌, refl, ap, sym, ◌∙◌}
 use mathlib.Core.Bool.{Bool, true, false}
@@ -14,8 +15,6 @@ use Rattle.encoding.specs.Reading.{Reading, got, stop, ◌>>=◌}
 use Rattle.encoding.specs.Scans.{map_reading}
 use Rattle.encoding.specs.Declarations.{read_list}
 use Rattle.accepted_types.specs.Accepted.{EndsAt}
-use Rattle.text_pass.specs.declared.PartEnd.{PartEnd}
-use Rattle.text_pass.specs.declared.PartEnd.TheVariants.{At, Stopped}
 use Rattle.text_pass.specs.Passes.{Chain, last, ◌then◌, run, listed, listed_some, Ready, Came, Went, came, Along}
 use Rattle.text_pass.proofs.Passes.{Runs, AlongChain, ready-as, ready-runs, went-as, went-runs, came-nothing, came-to, stops-here, chain_fits, chain-laid, chain_next, chain-ready, chain-stop, last-ready, last-went, along-start}
 use Rattle.text_pass.proofs.Splits.{map-alike, nothing-behind}
@@ -60,8 +59,8 @@ module _ (item : ℕ → Reading Bytes) where
 
 module _ {write : Bool} {o : List ℕ} {p : ℕ} {whole : Reading Bytes} {o₁ : List ℕ} {p₁ : ℕ} (item : ℕ → Reading Bytes) (left at : ℕ)
     (a : Along write o p whole o₁ p₁ (listed item [] left at)) where
-  pub along-end : left ≡ 0 → Went write o p whole o₁ (At at p₁)
-  along-end e = a.ends o₁ (At at p₁) (went-as (sym (each_none item left at e)) (came (came-nothing at)))
+  pub along-end : left ≡ 0 → Went write o p whole o₁ (Ok (at, p₁))
+  along-end e = a.ends o₁ (Ok (at, p₁)) (went-as (sym (each_none item left at e)) (came (came-nothing at)))
 
   pub along-each : {o₂ : List ℕ} {n p₂ : ℕ} → 0 < left → Came write o₁ p₁ (item at) o₂ n p₂ → Along write o p whole o₂ p₂ (listed item [] (left - 1) n)
   along-each h c = chain-along (chain_next (along-chain (each_first item left at h) a) c)
@@ -168,12 +167,12 @@ module _ {A : Type 0} {shows : A → Bool} {text : A → Bytes} {item : ℕ → 
 
   module _ {o₁ : List ℕ} {p₁ : ℕ} {gap : Bytes} {left place : ℕ} (t : SomeTurn shows text item first separator write o p n at o₁ p₁ gap left place) where
     pub some_end : left ≡ 0 → Came write o p (listed_some shows text item first separator n at) o₁ place p₁
-    some_end e = came-to (t.along.ends o₁ (At place p₁) (went-as (sym (some-none shows text item gap separator left place e)) (came (came-nothing place)))) refl
+    some_end e = came-to (t.along.ends o₁ (Ok (place, p₁)) (went-as (sym (some-none shows text item gap separator left place e)) (came (came-nothing place)))) refl
 
     module _ (h : 0 < left) where
       -- an item that is refused before it is known whether it shows
-      pub some-stop : {k : Refusal} → item place ≡ stop k → Went write o p (listed_some shows text item first separator n at) o₁ (Stopped k)
-      some-stop e = t.along.ends o₁ (Stopped _) (stops-here (some-refused shows text item gap separator left place h e))
+      pub some-stop : {k : Refusal} → item place ≡ stop k → Went write o p (listed_some shows text item first separator n at) o₁ (Err k)
+      some-stop e = t.along.ends o₁ (Err _) (stops-here (some-refused shows text item gap separator left place h e))
 
       -- one that does not show: the gap stays
       pub some-pass : {next : ℕ} → Showing shows (item place) false → EndsAt (item place) next → SomeTurn shows text item first separator write o p n at o₁ p₁ gap (left - 1) next
@@ -192,7 +191,7 @@ module _ {A : Type 0} {shows : A → Bool} {text : A → Bytes} {item : ℕ → 
           pub some_item : Ready write o₂ p₂ (map_reading text (item place))
           some_item = chain-ready (chain-laid shown-chain l)
 
-          pub some-item-stop : {o₃ : List ℕ} {r : PartEnd} {k : Refusal} → Went write o₂ p₂ (map_reading text (item place)) o₃ r → r ≡ Stopped k
+          pub some-item-stop : {o₃ : List ℕ} {r : Result (ℕ × ℕ) Refusal} {k : Refusal} → Went write o₂ p₂ (map_reading text (item place)) o₃ r → r ≡ Err k
               → Went write o p (listed_some shows text item first separator n at) o₃ r
           some-item-stop w e = chain-stop (chain-laid shown-chain l) w e
 

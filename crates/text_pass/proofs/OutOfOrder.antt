@@ -1,4 +1,5 @@
 -- Texts out of the order of the words, by example: a type that is read before a visibility and shown behind it, and a list of names of which the empty ones do not show.
+use Rattle.std.specs.Prelude.{Err, Result}
 use Prim.Native.Nat.{ℕ}
 use mathlib.Core.Path.{◌≡◌, refl}
 use mathlib.Core.Bool.{Bool, true, false}
@@ -19,8 +20,6 @@ use Rattle.encoding.specs.Heads.{head_after, read_head}
 use Rattle.encoding.specs.Types.{primitives, read_node, read_type, type_at}
 use Rattle.encoding.specs.Declarations.{visibility_of, read_visibility, read_name, read_list}
 use Rattle.accepted_types.specs.Accepted.{EndsAt}
-use Rattle.text_pass.specs.declared.PartEnd.{PartEnd}
-use Rattle.text_pass.specs.declared.PartEnd.TheVariants.{Stopped}
 use Rattle.text_pass.specs.Passes.{last, ◌then◌, ◌later◌, listed_some, Ready, Came, Went}
 use Rattle.text_pass.specs.Texts.{visibility_at, name_at, type_text_at}
 use Rattle.text_pass.proofs.Passes.{Runs, AlongChain, ready-count, chain-start, chain-ready, chain_next, chain-stop, last_fits, last-laid}
@@ -48,14 +47,14 @@ module _ (ws pairs : List ℕ) (text : Bytes) (at : ℕ) where
     start = chain-start field-runs r
 
     -- the type is passed over, by a scan (`scanned-ends`) or a count (`came-ends`); its refusal is met first
-    type-refused : {k : Refusal} → type_text_at ws pairs text at ≡ stop k → Went write o p field_at o (Stopped k)
+    type-refused : {k : Refusal} → type_text_at ws pairs text at ≡ stop k → Went write o p field_at o (Err k)
     type-refused e = later-stop start e
 
     module _ {n : ℕ} (e : EndsAt (type_text_at ws pairs text at) n) where
       visibility-needs : Ready write o p (visibility_at ws n)
       visibility-needs = chain-ready (later-next start e)
 
-      visibility-refused : {o₁ : List ℕ} {r : PartEnd} {k : Refusal} → Went write o p (visibility_at ws n) o₁ r → r ≡ Stopped k → Went write o p field_at o₁ r
+      visibility-refused : {o₁ : List ℕ} {r : Result (ℕ × ℕ) Refusal} {k : Refusal} → Went write o p (visibility_at ws n) o₁ r → r ≡ Err k → Went write o p field_at o₁ r
       visibility-refused w d = chain-stop (later-next start e) w d
 
       module _ {o₁ : List ℕ} {m p₁ : ℕ} (v : Came write o p (visibility_at ws n) o₁ m p₁) where

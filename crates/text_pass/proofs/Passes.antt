@@ -1,4 +1,5 @@
 -- Laws of a pass: one text behind the other.
+use Rattle.std.specs.Prelude.{Ok, Err, Result, IsErrAnd}
 use Prim.Native.Nat.{ℕ, zero, suc, ◌+◌, ◌-◌, ◌≤◌, ◌<◌}
 use mathlib.Core.Path.{◌≡◌, refl, ap, sym, ◌∙◌, subst}
 use mathlib.Core.Bool.{Bool, true, false}
@@ -13,39 +14,43 @@ use Rattle.buffer.proofs.Laws.{wrote_kept}
 use Rattle.buffer.proofs.Passes.{laid-nothing, laid_then, laid-wrote, laid-counted}
 use Rattle.encoding.specs.declared.Refusal.{Refusal}
 use Rattle.encoding.specs.Reading.{Reading, got, stop}
+use Rattle.encoding.proofs.Reading.{handed-on}
 use Rattle.encoding.proofs.Tables.{impossible}
 use Rattle.encoding.proofs.Types.{bind-got}
 use Rattle.text_type.specs.Written.{Room}
-use Rattle.text_pass.specs.declared.PartEnd.{PartEnd}
-use Rattle.text_pass.specs.declared.PartEnd.TheVariants.{At, Stopped}
 use Rattle.text_pass.specs.Passes.{Chain, last, ◌then◌, run, listed, Ready, Came, Went, Counts, came, stopped, Along}
 
 -- ---- from an answer to what it says
 
 module _ {write : Bool} {o : List ℕ} {p : ℕ} {x : Reading Bytes} {o' : List ℕ} where
-  pub came-to : {r : PartEnd} {n q : ℕ} → Went write o p x o' r → r ≡ At n q → Came write o p x o' n q
+  pub came-to : {r : Result (ℕ × ℕ) Refusal} {n q : ℕ} → Went write o p x o' r → r ≡ Ok (n, q) → Came write o p x o' n q
   came-to {n = n} {q = q} (came {n = m} {p' = p'} c) e =
-      let a : m ≡ n = cc in
-      let b : p' ≡ q = cc in
+      let pair : ◌≡◌ {A = ℕ × ℕ} (m, p') (n, q) = cc in
+      let a : m ≡ n = ap (λ (z : ℕ × ℕ). z.0) pair in
+      let b : p' ≡ q = ap (λ (z : ℕ × ℕ). z.1) pair in
       record { bytes = c.bytes; reads = c.reads ∙ ap (got c.bytes) a; laid = subst (λ (z : ℕ). Laid write o p c.bytes o' z) b c.laid }
   came-to (stopped d k) e = impossible (cc)
 
-  pub was-stopped : {r : PartEnd} {k : Refusal} → Went write o p x o' r → r ≡ Stopped k → (x ≡ stop k) × (write ≡ false → o' ≡ o)
+  pub was-stopped : {r : Result (ℕ × ℕ) Refusal} {k : Refusal} → Went write o p x o' r → r ≡ Err k → (x ≡ stop k) × (write ≡ false → o' ≡ o)
   was-stopped (came c) e = impossible (cc)
   was-stopped {k = k} (stopped {k = m} d h) e = let a : m ≡ k = cc in (d ∙ ap stop a, h)
 
+-- a `?` hands on what is said of a part that stopped
+pub went-handed : {write : Bool} {o o' : List ℕ} {p : ℕ} {x : Reading Bytes} {r s : Result (ℕ × ℕ) Refusal} {k : Refusal} → r ≡ Err k → IsErrAnd s (λ u. u ≡ k) → Went write o p x o' r → Went write o p x o' s
+went-handed {write} {o} {o'} {p} {x} d e w = subst (λ (z : Result (ℕ × ℕ) Refusal). Went write o p x o' z) (d ∙ sym (handed-on e)) w
+
 -- a text is refused where another is
-pub stops_as : {write : Bool} {o o' : List ℕ} {p : ℕ} {x y : Reading Bytes} {r : PartEnd} {k : Refusal} → (x ≡ stop k → y ≡ stop k) → Went write o p x o' r → r ≡ Stopped k → Went write o p y o' r
+pub stops_as : {write : Bool} {o o' : List ℕ} {p : ℕ} {x y : Reading Bytes} {r : Result (ℕ × ℕ) Refusal} {k : Refusal} → (x ≡ stop k → y ≡ stop k) → Went write o p x o' r → r ≡ Err k → Went write o p y o' r
 stops_as {write} {o} {o'} {p} {y = y} h w e =
     let s = was-stopped w e in
-    subst (λ (z : PartEnd). Went write o p y o' z) (sym e) (stopped (h s.0) s.1)
+    subst (λ (z : Result (ℕ × ℕ) Refusal). Went write o p y o' z) (sym e) (stopped (h s.0) s.1)
 
 -- ---- the same text, said in another way
 
 pub ready-as : {write : Bool} {o : List ℕ} {p : ℕ} {x y : Reading Bytes} → x ≡ y → Ready write o p x → Ready write o p y
 ready-as {write} {o} {p} e r = subst (λ (z : Reading Bytes). Ready write o p z) e r
 
-pub went-as : {write : Bool} {o o' : List ℕ} {p : ℕ} {x y : Reading Bytes} {r : PartEnd} → x ≡ y → Went write o p x o' r → Went write o p y o' r
+pub went-as : {write : Bool} {o o' : List ℕ} {p : ℕ} {x y : Reading Bytes} {r : Result (ℕ × ℕ) Refusal} → x ≡ y → Went write o p x o' r → Went write o p y o' r
 went-as {write} {o} {o'} {p} {r = r} e w = subst (λ (z : Reading Bytes). Went write o p z o' r) e w
 
 -- ---- a text of known bytes
@@ -63,23 +68,23 @@ module _ {write : Bool} where
   pub came-nothing : {o : List ℕ} {p : ℕ} (n : ℕ) → Came write o p (got [] n) o n p
   came-nothing {o} {p} n = came-bytes n (laid-nothing o p)
 
-  pub stops-here : {o : List ℕ} {p : ℕ} {x : Reading Bytes} {k : Refusal} → x ≡ stop k → Went write o p x o (Stopped k)
+  pub stops-here : {o : List ℕ} {p : ℕ} {x : Reading Bytes} {k : Refusal} → x ≡ stop k → Went write o p x o (Err k)
   stops-here e = stopped e (λ d. refl)
 
 -- ---- counting alone, and writing alone
 
-pub counts-went : {write : Bool} {o : List ℕ} {p : ℕ} {x : Reading Bytes} {r : PartEnd} → write ≡ false → Counts p x r → Went write o p x o r
+pub counts-went : {write : Bool} {o : List ℕ} {p : ℕ} {x : Reading Bytes} {r : Result (ℕ × ℕ) Refusal} → write ≡ false → Counts p x r → Went write o p x o r
 counts-went e (came c) = came (record { bytes = c.bytes; reads = c.reads; laid = laid-counted e (c.laid.counted refl).next })
 counts-went e (stopped d h) = stops-here d
 
-pub came-went : {write : Bool} {o o' : List ℕ} {p n q : ℕ} {x : Reading Bytes} → write ≡ true → Came true o p x o' n q → Went write o p x o' (At n q)
+pub came-went : {write : Bool} {o o' : List ℕ} {p n q : ℕ} {x : Reading Bytes} → write ≡ true → Came true o p x o' n q → Went write o p x o' (Ok (n, q))
 came-went e c = came (record { bytes = c.bytes; reads = c.reads; laid = laid-wrote e (c.laid.wrote refl) })
 
 pub ready-true : {write : Bool} {o : List ℕ} {p : ℕ} {x : Reading Bytes} → write ≡ true → Ready write o p x → Ready true o p x
 ready-true e r = record { room = λ d. r.room e }
 
 -- nothing stands before it
-pub counts-here : {p : ℕ} {x : Reading Bytes} {r : PartEnd} → Counts (p + 0) x r → Counts p x r
+pub counts-here : {p : ℕ} {x : Reading Bytes} {r : Result (ℕ × ℕ) Refusal} → Counts (p + 0) x r → Counts p x r
 counts-here {p} {x} {r} w = subst (λ (z : ℕ). Counts z x r) (add-zero p) w
 
 -- a pass that counts needs no room
@@ -107,7 +112,7 @@ pub record Runs (x : Reading Bytes) (c : Chain) : Type 0 where
 pub record ReadyChain (write : Bool) (o : List ℕ) (p : ℕ) (c : Chain) : Type 0 where
   pub ready : Ready write o p (run c)
 
-pub record WentChain (write : Bool) (o : List ℕ) (p : ℕ) (c : Chain) (o' : List ℕ) (r : PartEnd) : Type 0 where
+pub record WentChain (write : Bool) (o : List ℕ) (p : ℕ) (c : Chain) (o' : List ℕ) (r : Result (ℕ × ℕ) Refusal) : Type 0 where
   pub went : Went write o p (run c) o' r
 
 -- a text and the next, and what the two come to
@@ -151,14 +156,14 @@ module _ {write : Bool} {o : List ℕ} {p : ℕ} where
   pub ready-runs : {x : Reading Bytes} {c : Chain} → Runs x c → Ready write o p x → ReadyChain write o p c
   ready-runs e r = record { ready = ready-as e.same r }
 
-  pub went-runs : {x : Reading Bytes} {c : Chain} {o' : List ℕ} {r : PartEnd} → Runs x c → WentChain write o p c o' r → Went write o p x o' r
+  pub went-runs : {x : Reading Bytes} {c : Chain} {o' : List ℕ} {r : Result (ℕ × ℕ) Refusal} → Runs x c → WentChain write o p c o' r → Went write o p x o' r
   went-runs e w = went-as (sym e.same) w.went
 
   pub ready-last : {x : Reading Bytes} → ReadyChain write o p (last x) → Ready write o p x
   unfolding run
   ready-last r = r.ready
 
-  pub went-last : {x : Reading Bytes} {o' : List ℕ} {r : PartEnd} → Went write o p x o' r → WentChain write o p (last x) o' r
+  pub went-last : {x : Reading Bytes} {o' : List ℕ} {r : Result (ℕ × ℕ) Refusal} → Went write o p x o' r → WentChain write o p (last x) o' r
   unfolding run
   went-last w = record { went = w }
 
@@ -187,14 +192,14 @@ module _ {write : Bool} {o : List ℕ} {p : ℕ} where
             room = omega (arith, m.room, b.size, f, w.next, wrote_kept w);
           }
 
-  pub went_then : {x : Reading Bytes} {k : ℕ → Chain} {o' o'' : List ℕ} {n p' : ℕ} {r : PartEnd} → Came write o p x o' n p' → WentChain write o' p' (k n) o'' r → WentChain write o p (x then k) o'' r
+  pub went_then : {x : Reading Bytes} {k : ℕ → Chain} {o' o'' : List ℕ} {n p' : ℕ} {r : Result (ℕ × ℕ) Refusal} → Came write o p x o' n p' → WentChain write o' p' (k n) o'' r → WentChain write o p (x then k) o'' r
   went_then {x} {k} {o'} {o''} {n} {p'} c w = record { went = go w.went }
     where
-      go : {r : PartEnd} → Went write o' p' (run (k n)) o'' r → Went write o p (run (x then k)) o'' r
+      go : {r : Result (ℕ × ℕ) Refusal} → Went write o' p' (run (k n)) o'' r → Went write o p (run (x then k)) o'' r
       go (came d) = came (record { bytes = c.bytes ++ d.bytes; reads = then-got x k c.reads d.reads; laid = laid_then c.laid d.laid })
       go (stopped e h) = stopped (then-second x k c.reads e) (λ d. h d ∙ (c.laid.counted d).kept)
 
-  pub stops_then : {x : Reading Bytes} {k : ℕ → Chain} {o' : List ℕ} {r : PartEnd} {e : Refusal} → Went write o p x o' r → r ≡ Stopped e → WentChain write o p (x then k) o' r
+  pub stops_then : {x : Reading Bytes} {k : ℕ → Chain} {o' : List ℕ} {r : Result (ℕ × ℕ) Refusal} {e : Refusal} → Went write o p x o' r → r ≡ Err e → WentChain write o p (x then k) o' r
   stops_then {x} {k} w d = record { went = stops_as (then-first x k) w d }
 
 -- ---- part by part through a chain
@@ -202,7 +207,7 @@ module _ {write : Bool} {o : List ℕ} {p : ℕ} where
 -- how a pass over a text has come so far: a chain is left of it
 pub record AlongChain (write : Bool) (o : List ℕ) (p : ℕ) (whole : Reading Bytes) (o₁ : List ℕ) (p₁ : ℕ) (left : Chain) : Type 0 where
   pub ready : ReadyChain write o₁ p₁ left
-  pub ends : (o'' : List ℕ) (r : PartEnd) → WentChain write o₁ p₁ left o'' r → Went write o p whole o'' r
+  pub ends : (o'' : List ℕ) (r : Result (ℕ × ℕ) Refusal) → WentChain write o₁ p₁ left o'' r → Went write o p whole o'' r
 
 pub chain-start : {write : Bool} {o : List ℕ} {p : ℕ} {x : Reading Bytes} {c : Chain} → Runs x c → Ready write o p x → AlongChain write o p x o p c
 chain-start e r = record { ready = ready-runs e r; ends = λ o'' a w. went-runs e w }
@@ -216,7 +221,7 @@ module _ {write : Bool} {o : List ℕ} {p : ℕ} {whole : Reading Bytes} {o₁ :
     pub chain_next : {o₂ : List ℕ} {n p₂ : ℕ} → Came write o₁ p₁ x o₂ n p₂ → AlongChain write o p whole o₂ p₂ (k n)
     chain_next c = record { ready = ready-next a.ready c; ends = λ o'' r w. a.ends o'' r (went_then c w) }
 
-    pub chain-stop : {o₂ : List ℕ} {r : PartEnd} {e : Refusal} → Went write o₁ p₁ x o₂ r → r ≡ Stopped e → Went write o p whole o₂ r
+    pub chain-stop : {o₂ : List ℕ} {r : Result (ℕ × ℕ) Refusal} {e : Refusal} → Went write o₁ p₁ x o₂ r → r ≡ Err e → Went write o p whole o₂ r
     chain-stop {o₂} {r} w d = a.ends o₂ r (stops_then w d)
 
   -- the next part is fixed bytes
@@ -232,7 +237,7 @@ module _ {write : Bool} {o : List ℕ} {p : ℕ} {whole : Reading Bytes} {o₁ :
     pub last-ready : Ready write o₁ p₁ x
     last-ready = ready-last a.ready
 
-    pub last-went : {o₂ : List ℕ} {r : PartEnd} → Went write o₁ p₁ x o₂ r → Went write o p whole o₂ r
+    pub last-went : {o₂ : List ℕ} {r : Result (ℕ × ℕ) Refusal} → Went write o₁ p₁ x o₂ r → Went write o p whole o₂ r
     last-went {o₂} {r} w = a.ends o₂ r (went-last w)
 
     pub last-came : {o₂ : List ℕ} {n p₂ : ℕ} → Came write o₁ p₁ x o₂ n p₂ → Came write o p whole o₂ n p₂
@@ -281,10 +286,10 @@ module _ {write : Bool} {o : List ℕ} {p : ℕ} {whole : Reading Bytes} {o₁ :
   pub along-item : 0 < left → Ready write o₁ p₁ (item at)
   along-item h = ready-item item separator left at h a.ready
 
-  pub along-stop : {o₂ : List ℕ} {r : PartEnd} {k : Refusal} → 0 < left → Went write o₁ p₁ (item at) o₂ r → r ≡ Stopped k → Went write o p whole o₂ r
+  pub along-stop : {o₂ : List ℕ} {r : Result (ℕ × ℕ) Refusal} {k : Refusal} → 0 < left → Went write o₁ p₁ (item at) o₂ r → r ≡ Err k → Went write o p whole o₂ r
   along-stop {o₂} {r} h w e = a.ends o₂ r (stops_as (listed-stop item separator left at h) w e)
 
-  pub along-last : {o₂ : List ℕ} {r : PartEnd} → left ≡ 1 → Went write o₁ p₁ (item at) o₂ r → Went write o p whole o₂ r
+  pub along-last : {o₂ : List ℕ} {r : Result (ℕ × ℕ) Refusal} → left ≡ 1 → Went write o₁ p₁ (item at) o₂ r → Went write o p whole o₂ r
   along-last {o₂} {r} e w = a.ends o₂ r (went-as (sym (listed-last item separator left at e)) w)
 
   module _ {o₂ : List ℕ} {n p₂ : ℕ} (h : 1 < left) (c : Came write o₁ p₁ (item at) o₂ n p₂) where
@@ -314,7 +319,7 @@ module _ {item : ℕ → Reading Bytes} {separator : Bytes} {write : Bool} {o : 
   pub turn-item : Ready write o₁ p₁ (item place)
   turn-item = along-item item separator left place t.along t.some
 
-  pub turn-stop : {o₂ : List ℕ} {r : PartEnd} {k : Refusal} → Went write o₁ p₁ (item place) o₂ r → r ≡ Stopped k → Went write o p (listed item separator n at) o₂ r
+  pub turn-stop : {o₂ : List ℕ} {r : Result (ℕ × ℕ) Refusal} {k : Refusal} → Went write o₁ p₁ (item place) o₂ r → r ≡ Err k → Went write o p (listed item separator n at) o₂ r
   turn-stop w e = along-stop item separator left place t.along t.some w e
 
   module _ {o₂ : List ℕ} {next p₂ : ℕ} (c : Came write o₁ p₁ (item place) o₂ next p₂) where
@@ -326,3 +331,29 @@ module _ {item : ℕ → Reading Bytes} {separator : Bytes} {write : Bool} {o : 
 
     pub turn-next : {o₃ : List ℕ} {p₃ : ℕ} → (left - 1 ≡ 0 → ⊥) → Laid write o₂ p₂ separator o₃ p₃ → Turn item separator write o p n at o₃ p₃ (left - 1) next
     turn-next e l = record { some = omega (arith, t.some); along = along-next item separator left place t.along (omega (arith, t.some)) c l }
+
+-- i of n items are laid, with a separator behind each but the last
+pub record Turns (item : ℕ → Reading Bytes) (separator : Bytes) (write : Bool) (o : List ℕ) (p n at : ℕ) (o₁ : List ℕ) (p₁ i place : ℕ) : Type 0 where
+  pub going : i < n → Turn item separator write o p n at o₁ p₁ (n - i) place
+  pub done : i ≡ n → Came write o p (listed item separator n at) o₁ place p₁
+
+pub turns-start : {item : ℕ → Reading Bytes} {separator : Bytes} {write : Bool} {o : List ℕ} {p n at : ℕ} → 0 < n → Ready write o p (listed item separator n at) → Turns item separator write o p n at o p 0 at
+turns-start {n = n} h r =
+    let e : n - 0 ≡ n = omega arith in
+    record { going = λ k. rw e (turn-start h r); done = λ k. absurd (let z : ⊥ = omega arith in z) }
+
+module _ {item : ℕ → Reading Bytes} {separator : Bytes} {write : Bool} {o : List ℕ} {p n at : ℕ} {o₁ : List ℕ} {p₁ i place : ℕ} (t : Turns item separator write o p n at o₁ p₁ i place) where
+  pub turns-end : i ≤ n → n ≤ i → Came write o p (listed item separator n at) o₁ place p₁
+  turns-end h k = t.done (omega arith)
+
+  module _ (h : i < n) {o₂ : List ℕ} {next p₂ : ℕ} (c : Came write o₁ p₁ (item place) o₂ next p₂) where
+    pub turns-last : n ≤ i + 1 → Turns item separator write o p n at o₂ p₂ (i + 1) next
+    turns-last k = record { going = λ l. absurd (let z : ⊥ = omega arith in z); done = λ e. turn_last (t.going h) c (omega arith) }
+
+    pub turns_gap : i + 1 < n → Fits write o₂ p₂ separator
+    turns_gap k = turn_gap (t.going h) c (λ e. omega arith)
+
+    pub turns-next : {o₃ : List ℕ} {p₃ : ℕ} → i + 1 < n → Laid write o₂ p₂ separator o₃ p₃ → Turns item separator write o p n at o₃ p₃ (i + 1) next
+    turns-next k l =
+        let e : n - (i + 1) ≡ n - i - 1 = omega arith in
+        record { going = λ m. rw e (turn-next (t.going h) c (λ z. omega arith) l); done = λ z. absurd (let w : ⊥ = omega arith in w) }

@@ -1,5 +1,5 @@
 -- What a pass over a declaration does: it reads what stands at a place of the words, and writes or counts its text.
-use Rattle.std.specs.Prelude.{ℕ, zero, suc, ◌≤◌, ◌≡◌, Bool, true, false, List, [], ◌++◌, length}
+use Rattle.std.specs.Prelude.{Ok, Err, Result, ℕ, zero, suc, ◌≤◌, ◌≡◌, Bool, true, false, List, [], ◌++◌, length}
 use Rattle.rast.specs.Bytes.{Bytes}
 use Rattle.buffer.specs.Laid.{Laid}
 use Rattle.encoding.specs.Words.{max_words}
@@ -8,8 +8,6 @@ use Rattle.encoding.specs.Refusals.{pick}
 use Rattle.encoding.specs.Reading.{Reading, got, stop, ◌>>=◌}
 use Rattle.encoding.specs.Tested.{Good}
 use Rattle.text_type.specs.Written.{Room}
-use Rattle.text_pass.specs.declared.PartEnd.{PartEnd}
-use Rattle.text_pass.specs.declared.PartEnd.TheVariants.{At, Stopped}
 
 -- texts that stand one behind the other: each is read where the one before it ends. What is shown out of the order of the words is read by `later`, which shows nothing:
 -- what follows is given its bytes, and shows them as fixed bytes
@@ -54,15 +52,15 @@ pub record Came (write : Bool) (o : List ℕ) (p : ℕ) (x : Reading Bytes) (o' 
   pub laid : Laid write o p bytes o' p'
 
 -- a refusal leaves the buffer in a pass that counts; it is not met in one that writes
-pub data Went (write : Bool) (o : List ℕ) (p : ℕ) (x : Reading Bytes) (o' : List ℕ) : PartEnd → Type 0 where
-  came : {n p' : ℕ} → Came write o p x o' n p' → Went write o p x o' (At n p')
-  stopped : {k : Refusal} → x ≡ stop k → (write ≡ false → o' ≡ o) → Went write o p x o' (Stopped k)
+pub data Went (write : Bool) (o : List ℕ) (p : ℕ) (x : Reading Bytes) (o' : List ℕ) : Result (ℕ × ℕ) Refusal → Type 0 where
+  came : {n p' : ℕ} → Came write o p x o' n p' → Went write o p x o' (Ok (n, p'))
+  stopped : {k : Refusal} → x ≡ stop k → (write ≡ false → o' ≡ o) → Went write o p x o' (Err k)
 
 -- what a pass says that only counts, from p on: it has no buffer
-abbrev pub Counts : ℕ → Reading Bytes → PartEnd → Type 0
+abbrev pub Counts : ℕ → Reading Bytes → Result (ℕ × ℕ) Refusal → Type 0
 Counts p x r = Went false [] p x [] r
 
 -- how a pass over a text has come so far: what is left of it is the whole's end
 pub record Along (write : Bool) (o : List ℕ) (p : ℕ) (whole : Reading Bytes) (o' : List ℕ) (p' : ℕ) (left : Reading Bytes) : Type 0 where
   pub ready : Ready write o' p' left
-  pub ends : (o'' : List ℕ) (r : PartEnd) → Went write o' p' left o'' r → Went write o p whole o'' r
+  pub ends : (o'' : List ℕ) (r : Result (ℕ × ℕ) Refusal) → Went write o' p' left o'' r → Went write o p whole o'' r

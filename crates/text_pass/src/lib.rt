@@ -17,15 +17,7 @@ ghost use Rattle.text_pass.specs.Texts.{visibility_at, name_at, type_text_at, pa
 
 use accepted_types::Spot;
 use encoding::words::{BORROWED, EMPTY, FIRST_PAIR, PLAIN_KINDS, PUB, T_IDENTIFIER, VISIBILITIES};
-use encoding::{PathAt, Refusal, WordScan};
-use text_measure::{Measure, PathMeasure};
-
-// Where a pass has come to, in the words and in the text; or the refusal that it met.
-#[derive(Clone, Copy)]
-pub enum PartEnd {
-    At { next: usize, pos: usize },
-    Stopped(Refusal),
-}
+use encoding::{PathAt, Refusal};
 
 // A path that was read, with so many bytes of text.
 fn lay_known_path(
@@ -105,17 +97,15 @@ pub fn count_name(
     before: usize,
     at: usize,
     pos: usize,
-) -> PartEnd
+) -> Result<(usize, usize), Refusal>
     requires { Checked words.now pairs.now text.now × (before < 2 ^ 40) }
     ensures { Counts (pos + before) (name_at words.now pairs.now text.now at) result }
 {
-    match encoding::scan_below(words, encoding::name_count(pairs), at) {
-        WordScan::Word { value, next } => PartEnd::At {
-            next,
-            pos: buffer::count_few(pos, before + encoding::name_length(pairs, value)),
-        },
-        WordScan::NoWord(r) => PartEnd::Stopped(r),
-    }
+    let (value, next) = encoding::scan_below(words, encoding::name_count(pairs), at)?;
+    Ok((
+        next,
+        buffer::count_few(pos, before + encoding::name_length(pairs, value)),
+    ))
 }
 
 // The name at `at`, which was accepted.
@@ -142,32 +132,30 @@ pub fn lay_name(
     at: usize,
     out: &mut [u8],
     pos: usize,
-) -> PartEnd
+) -> Result<(usize, usize), Refusal>
     requires { Checked words.now pairs.now text.now × Ready write out.old pos (name_at words.now pairs.now text.now at) }
     ensures { Went write out.old pos (name_at words.now pairs.now text.now at) out.new result }
 {
     if write {
         let end = write_name(words, pairs, text, at, out, pos);
-        return PartEnd::At {
-            next: at + 1,
-            pos: end,
-        };
+        return Ok((at + 1, end));
     }
     count_name(words, pairs, text, 0, at, pos)
 }
 
 // The type at `at`, measured.
-fn count_type(words: &[u32], pairs: &[u32], text: &[u8], at: usize, pos: usize) -> PartEnd
+fn count_type(
+    words: &[u32],
+    pairs: &[u32],
+    text: &[u8],
+    at: usize,
+    pos: usize,
+) -> Result<(usize, usize), Refusal>
     requires { Checked words.now pairs.now text.now }
     ensures { Counts pos (type_text_at words.now pairs.now text.now at) result }
 {
-    match text_measure::measure_type(words, pairs, text, at) {
-        Measure::Measured { next, bytes } => PartEnd::At {
-            next,
-            pos: buffer::count_on(pos, bytes),
-        },
-        Measure::Stopped(r) => PartEnd::Stopped(r),
-    }
+    let (next, bytes) = text_measure::measure_type(words, pairs, text, at)?;
+    Ok((next, buffer::count_on(pos, bytes)))
 }
 
 // The type at `at`.
@@ -179,34 +167,37 @@ pub fn lay_type(
     at: usize,
     out: &mut [u8],
     pos: usize,
-) -> PartEnd
+) -> Result<(usize, usize), Refusal>
     requires { Checked words.now pairs.now text.now × Ready write out.old pos (type_text_at words.now pairs.now text.now at) }
     ensures { Went write out.old pos (type_text_at words.now pairs.now text.now at) out.new result }
 {
     if write {
         let spot = text_type::write_type(words, pairs, text, at, out, pos);
-        return PartEnd::At {
-            next: spot.next,
-            pos: spot.pos,
-        };
+        return Ok((spot.next, spot.pos));
     }
     count_type(words, pairs, text, at, pos)
 }
 
 // The borrow at `at`, counted. The measuring pass is given the whole of it, since the borrow is one of the 64 levels.
-fn count_borrow(words: &[u32], pairs: &[u32], text: &[u8], at: usize, pos: usize) -> PartEnd
+fn count_borrow(
+    words: &[u32],
+    pairs: &[u32],
+    text: &[u8],
+    at: usize,
+    pos: usize,
+) -> Result<(usize, usize), Refusal>
     requires { Checked words.now pairs.now text.now × (at < length words.now) × (get_or words.now at 0 ≡ borrowed_kind) }
     ensures { Counts pos (type_text_at words.now pairs.now text.now at) result }
 {
     if words.len() <= at + 1 {
-        return PartEnd::Stopped(Refusal::EndsEarly);
+        return Err(Refusal::EndsEarly);
     }
     let w = words[at + 1];
     if w < PLAIN_KINDS {
-        return PartEnd::At {
-            next: at + 2,
-            pos: buffer::count_few(pos, 1 + encoding::primitive_length(w)),
-        };
+        return Ok((
+            at + 2,
+            buffer::count_few(pos, 1 + encoding::primitive_length(w)),
+        ));
     }
     if w == T_IDENTIFIER {
         return count_name(words, pairs, text, 1, at + 2, pos);
@@ -215,19 +206,25 @@ fn count_borrow(words: &[u32], pairs: &[u32], text: &[u8], at: usize, pos: usize
 }
 
 // The type at `at` of a field, counted: most have a plain type, a name or a borrow of one, for which the measuring pass is not called.
-pub fn count_field_type(words: &[u32], pairs: &[u32], text: &[u8], at: usize, pos: usize) -> PartEnd
+pub fn count_field_type(
+    words: &[u32],
+    pairs: &[u32],
+    text: &[u8],
+    at: usize,
+    pos: usize,
+) -> Result<(usize, usize), Refusal>
     requires { Checked words.now pairs.now text.now }
     ensures { Counts pos (type_text_at words.now pairs.now text.now at) result }
 {
     if words.len() <= at {
-        return PartEnd::Stopped(Refusal::EndsEarly);
+        return Err(Refusal::EndsEarly);
     }
     let w = words[at];
     if w < PLAIN_KINDS {
-        return PartEnd::At {
-            next: at + 1,
-            pos: buffer::count_few(pos, encoding::primitive_length(w)),
-        };
+        return Ok((
+            at + 1,
+            buffer::count_few(pos, encoding::primitive_length(w)),
+        ));
     }
     if w == T_IDENTIFIER {
         return count_name(words, pairs, text, 0, at + 1, pos);
@@ -238,7 +235,8 @@ pub fn count_field_type(words: &[u32], pairs: &[u32], text: &[u8], at: usize, po
     count_type(words, pairs, text, at, pos)
 }
 
-// The type at `at` behind a borrow, which was accepted as part of it. The spot of the writer of types is taken apart, so that it need not go through memory.
+// The type at `at` behind a borrow, which was accepted as part of it.
+// Kept: the spot of the writer of types is taken apart, since handed on whole it goes through memory, which is slower.
 fn write_borrow(
     words: &[u32],
     pairs: &[u32],
@@ -270,8 +268,8 @@ fn write_borrow(
     }
 }
 
-// The type at `at` of a field, which was accepted: for a plain type, a name or a borrow of one, which most are, the writer of types is not called. What stands behind
-// a borrow has a function of its own with the same tests, since one function called from two places is slower.
+// The type at `at` of a field, which was accepted: for a plain type, a name or a borrow of one, which most are, the writer of types is not called.
+// Kept: the twin of `write_borrow`, for what stands behind a borrow. One function for both is slower, since called from two places it is not put in place (docs/DECISIONS.md).
 pub fn write_field_type(
     words: &[u32],
     pairs: &[u32],
@@ -316,35 +314,26 @@ pub fn lay_path(
     at: usize,
     out: &mut [u8],
     pos: usize,
-) -> PartEnd
+) -> Result<(usize, usize), Refusal>
     requires { Checked words.now pairs.now text.now × Ready write out.old pos (path_text_at words.now pairs.now text.now at) }
     ensures { Went write out.old pos (path_text_at words.now pairs.now text.now at) out.new result }
 {
-    match text_measure::measure_path(words, pairs, text, at) {
-        PathMeasure::MeasuredPath { path, next, bytes } => PartEnd::At {
-            next,
-            pos: lay_known_path(write, words, pairs, text, path, bytes, out, pos),
-        },
-        PathMeasure::NoPath(r) => PartEnd::Stopped(r),
-    }
+    let (path, next, bytes) = text_measure::measure_path(words, pairs, text, at)?;
+    Ok((
+        next,
+        lay_known_path(write, words, pairs, text, path, bytes, out, pos),
+    ))
 }
 
 // A visibility, counted.
-pub fn count_visibility(words: &[u32], at: usize, pos: usize) -> PartEnd
+pub fn count_visibility(words: &[u32], at: usize, pos: usize) -> Result<(usize, usize), Refusal>
     ensures { Counts pos (visibility_at words.now at) result }
 {
-    match encoding::scan_below(words, VISIBILITIES, at) {
-        WordScan::Word { value, next } => {
-            if value != PUB {
-                return PartEnd::At { next, pos };
-            }
-            PartEnd::At {
-                next,
-                pos: buffer::count_few(pos, 4),
-            }
-        }
-        WordScan::NoWord(r) => PartEnd::Stopped(r),
+    let (value, next) = encoding::scan_below(words, VISIBILITIES, at)?;
+    if value != PUB {
+        return Ok((next, pos));
     }
+    Ok((next, buffer::count_few(pos, 4)))
 }
 
 // A visibility that was accepted.
@@ -359,16 +348,19 @@ pub fn write_visibility(words: &[u32], at: usize, out: &mut [u8], pos: usize) ->
 }
 
 // A visibility.
-pub fn lay_visibility(write: bool, words: &[u32], at: usize, out: &mut [u8], pos: usize) -> PartEnd
+pub fn lay_visibility(
+    write: bool,
+    words: &[u32],
+    at: usize,
+    out: &mut [u8],
+    pos: usize,
+) -> Result<(usize, usize), Refusal>
     requires { Ready write out.old pos (visibility_at words.now at) }
     ensures { Went write out.old pos (visibility_at words.now at) out.new result }
 {
     if write {
         let end = write_visibility(words, at, out, pos);
-        return PartEnd::At {
-            next: at + 1,
-            pos: end,
-        };
+        return Ok((at + 1, end));
     }
     count_visibility(words, at, pos)
 }
@@ -381,20 +373,16 @@ pub fn count_doc(
     level: u32,
     at: usize,
     pos: usize,
-) -> PartEnd
+) -> Result<(usize, usize), Refusal>
     requires { Checked words.now pairs.now text.now }
     ensures { Counts pos (doc_at words.now pairs.now text.now level at) result }
 {
-    match encoding::scan_below(words, encoding::name_count(pairs), at) {
-        WordScan::Word { value, next } => {
-            let mut none = [0u8; 0];
-            PartEnd::At {
-                next,
-                pos: lay_known_doc(false, pairs, text, value, level, &mut none, pos),
-            }
-        }
-        WordScan::NoWord(r) => PartEnd::Stopped(r),
-    }
+    let (value, next) = encoding::scan_below(words, encoding::name_count(pairs), at)?;
+    let mut none = [0u8; 0];
+    Ok((
+        next,
+        lay_known_doc(false, pairs, text, value, level, &mut none, pos),
+    ))
 }
 
 // The doc comment at `at`, which was accepted.
@@ -423,16 +411,13 @@ pub fn lay_doc(
     at: usize,
     out: &mut [u8],
     pos: usize,
-) -> PartEnd
+) -> Result<(usize, usize), Refusal>
     requires { Checked words.now pairs.now text.now × Ready write out.old pos (doc_at words.now pairs.now text.now level at) }
     ensures { Went write out.old pos (doc_at words.now pairs.now text.now level at) out.new result }
 {
     if write {
         let end = write_doc(words, pairs, text, level, at, out, pos);
-        return PartEnd::At {
-            next: at + 1,
-            pos: end,
-        };
+        return Ok((at + 1, end));
     }
     count_doc(words, pairs, text, level, at, pos)
 }

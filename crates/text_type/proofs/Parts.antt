@@ -40,6 +40,9 @@ arguments-some f (suc n) m {ts} z r =
 pub record NodeRoom (ws pairs : List ℕ) (text : Bytes) (h : Head) (at : ℕ) (o : List ℕ) (p : ℕ) : Type 0 where
   pub there : Room o p Type-to_string (node_at ws pairs text h at)
 
+pub room_of_node : {ws pairs : List ℕ} {text : Bytes} {h : Head} {at : ℕ} {o : List ℕ} {p : ℕ} → Room o p Type-to_string (node_at ws pairs text h at) → NodeRoom ws pairs text h at o p
+room_of_node r = record { there = r }
+
 module _ {ws pairs : List ℕ} {text : Bytes} {o : List ℕ} {p : ℕ} where
   -- ---- a type application
 

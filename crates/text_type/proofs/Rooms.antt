@@ -27,6 +27,9 @@ Others w = ((((((((((Unit {0} × (w ≡ 14 → ⊥)) × (w ≡ 15 → ⊥)) × (
 pub record TypeRoom (ws pairs : List ℕ) (text : Bytes) (at : ℕ) (o : List ℕ) (p : ℕ) : Type 0 where
   pub there : Room o p Type-to_string (type_at ws pairs text at)
 
+pub room_of_type : {ws pairs : List ℕ} {text : Bytes} {at : ℕ} {o : List ℕ} {p : ℕ} → Room o p Type-to_string (type_at ws pairs text at) → TypeRoom ws pairs text at o p
+room_of_type h = record { there = h }
+
 module _ {ws pairs : List ℕ} {text : Bytes} {at : ℕ} {o : List ℕ} {p : ℕ} (r : TypeRoom ws pairs text at o p) where
   pub room-here : at < length ws
   room-here = type-here ws pairs text at r.there.reads

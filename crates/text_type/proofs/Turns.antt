@@ -205,3 +205,30 @@ module _ {ws pairs : List ℕ} {text : Bytes} {n at : ℕ} {o : List ℕ} {p : �
             some = h;
             ahead = omega (arith, l.ahead, b.next, type-ahead ws pairs text place item.reads);
           }
+
+-- of the n types at `at` all but `left` are written, and so is one more, to where the writer has come
+pub record ListTo (ws pairs : List ℕ) (text : Bytes) (n at : ℕ) (o : List ℕ) (p : ℕ) (o' : List ℕ) (s : Spot) (left : ℕ) : Type 0 where
+  pub before : List ℕ
+  pub pos : ℕ
+  pub place : ℕ
+  pub list : ListLeft ws pairs text n at o p before pos left place
+  pub item : Written before pos Type-to_string (type_at ws pairs text place) o' s
+
+pub list_first : (ws pairs : List ℕ) (text : Bytes) (n at : ℕ) {o o' : List ℕ} {p left : ℕ} {s : Spot} → 0 < n → Room o p comma_text (read_types (type_at ws pairs text) n at)
+    → Written o p Type-to_string (type_at ws pairs text at) o' s → left ≡ n → ListTo ws pairs text n at o p o' s left
+list_first ws pairs text n at {o} {p = p} h r w e = rw e (record { before = o; pos = p; place = at; list = list-start ws pairs text n at h r; item = w })
+
+module _ {ws pairs : List ℕ} {text : Bytes} {n at : ℕ} {o : List ℕ} {p : ℕ} {o₁ : List ℕ} {s : Spot} {left : ℕ} (v : ListTo ws pairs text n at o p o₁ s left) where
+  pub list_end : left ≡ 1 → Written o p comma_text (read_types (type_at ws pairs text) n at) o₁ s
+  list_end e = list_done v.list v.item (omega arith)
+
+  module _ (h : 1 < left) where
+    pub room-between : s.pos + length (ascii ", ") ≤ length o₁
+    room-between = comma-room v.list v.item (omega arith)
+
+    pub list_on : {o₂ : List ℕ} {p₂ : ℕ} → Wrote o₁ s.pos (ascii ", ") o₂ p₂ → ListLeft ws pairs text n at o p o₂ p₂ (left - 1) s.next
+    list_on c = list-again v.list v.item (omega arith) c
+
+    pub list_more : {o₂ o₃ : List ℕ} {p₂ left' : ℕ} {s' : Spot} → Wrote o₁ s.pos (ascii ", ") o₂ p₂ → Written o₂ p₂ Type-to_string (type_at ws pairs text s.next) o₃ s' → left' ≡ left - 1
+        → ListTo ws pairs text n at o p o₃ s' left'
+    list_more {o₂} {p₂ = p₂} c w e = rw e (record { before = o₂; pos = p₂; place = s.next; list = list_on c; item = w })

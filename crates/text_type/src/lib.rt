@@ -95,6 +95,7 @@ pub fn write_type(
 {
     let mut place = at;
     let mut p = pos;
+    // Kept: no plainer as a `for`, since no range is counted: a turn writes a head, and `write_head` says which is the last.
     loop {
         match write_head(words, pairs, text, place, out, p) {
             Part::Rest(spot) => {
@@ -152,7 +153,8 @@ fn write_head(
     }
 }
 
-// A type that stands in another: most are names or plain types, and need no further turn. Here they are written without a call of `write_leaf`, and the spot of
+// A type that stands in another: most are names or plain types, and need no further turn.
+// Kept: slower as one function with `write_leaf`, which would be called and not put in place (docs/DECISIONS.md, "Text"). Here they are written without a call of `write_leaf`, and the spot of
 // `write_type` is taken apart, so that it need not go through memory.
 #[cycle(write_apply_write_array_write_base_write_head_write_inputs_write_left_write_list_write_part_write_synonym_write_tuple_write_type)]
 fn write_part(
@@ -200,18 +202,12 @@ fn write_list(
     requires { (0 < n) × Good pairs.now text.now × Room out.old pos comma_text (read_types (type_at words.now pairs.now text.now) n at) }
     ensures { Written out.old pos comma_text (read_types (type_at words.now pairs.now text.now) n at) out.new result }
 {
-    let mut place = at;
-    let mut p = pos;
-    let mut left = n;
-    loop {
-        let spot = write_part(words, pairs, text, place, out, p);
-        left -= 1;
-        if left == 0 {
-            return spot;
-        }
-        place = spot.next;
-        p = buffer::put(b", ", out, spot.pos);
+    let mut spot = write_part(words, pairs, text, at, out, pos);
+    for _ in 1..n {
+        let p = buffer::put(b", ", out, spot.pos);
+        spot = write_part(words, pairs, text, spot.next, out, p);
     }
+    spot
 }
 
 // The type that is applied: most are paths, for which `write_type` is not called, since it hands its spot back in memory.

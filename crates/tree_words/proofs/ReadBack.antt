@@ -1,9 +1,9 @@
 -- Where the encoding of a tree stands, with names in the table and not too deep, that tree is read: the converse of `type-stands`.
+use Rattle.std.specs.Prelude.{Option, Some, None, Ok, Err, Result}
 use Prim.Native.Nat.{ℕ, zero, suc, ◌+◌, ◌-◌, ◌/◌, ◌%◌, ◌≤◌, ◌<◌}
 use mathlib.Core.Path.{◌≡◌, refl, ap, sym, ◌∙◌}
 use mathlib.Core.Bool.{Bool, true, false}
 use mathlib.Core.List.{List, [], ◌∷◌, ◌++◌, map, map-append, map-id}
-use mathlib.Core.Option.{Option, some, none}
 use native.Mathlib.Omega.{arith}
 use borrow.Author.Tests.{le-ltb, eq-eqb, ne_eqb}
 use lib.Dec.{ltb, eqb, leb}
@@ -13,10 +13,10 @@ use Rattle.rast.specs.Bytes.{Bytes, ◌or◌}
 use Rattle.rast.specs.Tree.{Path, Global, Crate, Self, PMemberSelect, MSels, PrimitiveTy, U8, U16, U32, U64, U128, I8, I16, I32, I64, I128, USIZE, Bool·, Ty, Tys, Primitive, TIdentifier, TypeFromPath, TypeApp, Borrowed, BorrowedMut, ImplType, DynType, TupleType, FnType, IntersectionType, Array, TSynonym, TMetaData, nil, cons, count}
 use Rattle.encoding.specs.declared.Head.{Head}
 use Rattle.encoding.specs.declared.Head.TheVariants.{Name, FromPath, Apply, Tuple, Function, ArrayOf, Meta}
-use Rattle.encoding.specs.declared.Check.TheVariants.{Passed, Failed}
+use Rattle.encoding.specs.declared.Refusal.{Refusal}
 use Rattle.encoding.specs.declared.Refusal.TheVariants.{Overlong, BadPair}
 use Rattle.encoding.specs.Words.{max_words, max_pairs, max_text, max_depth}
-use Rattle.encoding.specs.Refusals.{pick, given, unless}
+use Rattle.encoding.specs.Refusals.{pick, unless}
 use Rattle.encoding.specs.Reading.{Reading, got, ◌>>=◌, read_word, read_below, read_names, whole}
 use Rattle.encoding.specs.Tables.{overlong, good_pairs, check_tables, name_bytes, name_count}
 use Rattle.encoding.specs.Heads.{read_path, path_head, head_after, read_head}
@@ -67,8 +67,8 @@ flags-back true true = (omega arith, refl, refl)
 
 size-back : (b : ℕ) (s : Option ℕ) → NameBelow b (size s) → (token_word (size s) < b + 1) × (size_of (λ x. x) (token_word (size s)) ≡ s)
 unfolding token_word size_of
-size-back b none h = (omega arith, refl)
-size-back b (some x) h = (omega arith, let z : suc x - 1 ≡ x = omega arith in rw (ne_eqb (suc x) 0 (λ e. omega (arith, e)), z) refl)
+size-back b None h = (omega arith, refl)
+size-back b (Some x) h = (omega arith, let z : suc x - 1 ≡ x = omega arith in rw (ne_eqb (suc x) 0 (λ e. omega (arith, e)), z) refl)
 
 -- ---- paths
 
@@ -259,38 +259,41 @@ read-back b ws at t deep r h l = type-back b ws t h deep l at (at + words t) (r,
 -- ---- as an encoding
 
 -- the tables pass with other words, if these are not too many
-pub tables-kept : (ws vs pairs : List ℕ) (text : Bytes) → check_tables ws pairs text ≡ Passed → length vs ≤ max_words → check_tables vs pairs text ≡ Passed
+pub tables-kept : (ws vs pairs : List ℕ) (text : Bytes) → check_tables ws pairs text ≡ Ok tt → length vs ≤ max_words → check_tables vs pairs text ≡ Ok tt
 unfolding check_tables overlong
 tables-kept ws vs pairs text e h =
     rw (le-ltb max_words (length vs) h) (go (ltb max_words (length ws)) (ltb max_pairs (length pairs / 2)) (ltb max_text (length text)) (good_pairs pairs 0 (length text)) e)
   where
-    go : (x y z g : Bool) → pick (x or y or z) (Failed Overlong) (pick g Passed (Failed BadPair)) ≡ Passed → pick (false or y or z) (Failed Overlong) (pick g Passed (Failed BadPair)) ≡ Passed
+    checked : Bool → Bool → Result (Unit {0}) Refusal
+    checked long good = pick long (Err Overlong) (pick good (Ok tt) (Err BadPair))
+
+    go : (x y z g : Bool) → checked (x or y or z) g ≡ Ok tt → checked (false or y or z) g ≡ Ok tt
     go true y z g e = impossible (cc)
     go false y z g e = e
 
 -- what is read to the end of its words is what an encoding of these words holds
-pub whole-given : {A : Type 0} (vs pairs : List ℕ) (text : Bytes) (x : Reading A) {a : A} → check_tables vs pairs text ≡ Passed → x ≡ got a (length vs) → unless (check_tables vs pairs text) (whole (length vs) x) ≡ given a
+pub whole-given : {A : Type 0} (vs pairs : List ℕ) (text : Bytes) (x : Reading A) {a : A} → check_tables vs pairs text ≡ Ok tt → x ≡ got a (length vs) → unless (check_tables vs pairs text) (whole (length vs) x) ≡ Ok a
 unfolding unless whole
 whole-given vs pairs text x c e = rw (c, e, eq-eqb (length vs) (length vs) refl) refl
 
 pub run-self : (vs : List ℕ) → Run vs 0 vs
 run-self vs = record { ends = omega arith; words = take-length vs }
 
-module _ (ws pairs : List ℕ) (text : Bytes) (passed : check_tables ws pairs text ≡ Passed) (t : Ty ℕ)
+module _ (ws pairs : List ℕ) (text : Bytes) (passed : check_tables ws pairs text ≡ Ok tt) (t : Ty ℕ)
     (known : NamesBelow (name_count pairs) (tokens t)) (shallow : depth t ≤ max_depth) (few : words t ≤ max_words) where
   written-reads : tree_at (encode t) pairs 0 ≡ got t (length (encode t))
   written-reads = read-back (name_count pairs) (encode t) 0 t max_depth (run-self (encode t)) known shallow ∙ ap (got t) (let z : 0 + words t ≡ length (encode t) = omega (arith, encode-words t) in z)
 
-  written-passes : check_tables (encode t) pairs text ≡ Passed
+  written-passes : check_tables (encode t) pairs text ≡ Ok tt
   written-passes = tables-kept ws (encode t) pairs text passed (omega (arith, few, encode-words t))
 
   -- the words of a tree, with the pairs and the text of an encoding that is within the limits, are an encoding that is accepted, and hold the tree
-  pub written-tree : tree_of (encode t) pairs text ≡ given t
+  pub written-tree : tree_of (encode t) pairs text ≡ Ok t
   unfolding tree_of
   written-tree = whole-given (encode t) pairs text (tree_at (encode t) pairs 0) written-passes written-reads
 
   -- as the calls read it, names by their bytes
-  pub written-type : type_of (encode t) pairs text ≡ given (renamed (name_bytes pairs text) t)
+  pub written-type : type_of (encode t) pairs text ≡ Ok (renamed (name_bytes pairs text) t)
   unfolding type_of
   written-type =
       whole-given (encode t) pairs text (type_at (encode t) pairs text 0) written-passes (spelled (encode t) pairs text 0 ∙ map-got (renamed (name_bytes pairs text)) written-reads)

@@ -1,9 +1,9 @@
 -- Reading with other names is reading and then renaming. A renamed tree has the words of the tree, with the names renamed.
+use Rattle.std.specs.Prelude.{Some, None}
 use Prim.Native.Nat.{ℕ, zero, suc, ◌+◌, ◌-◌, ◌≤◌, ◌<◌}
 use mathlib.Core.Path.{◌≡◌, refl, ap, sym, ◌∙◌}
 use mathlib.Core.Bool.{Bool, true, false}
 use mathlib.Core.List.{List, [], ◌∷◌, ◌++◌, map, map-append}
-use mathlib.Core.Option.{some, none}
 use native.Mathlib.Omega.{arith}
 use native.Mathlib.Decide.{dec_lt}
 use lib.Dec.{eqb}
@@ -66,7 +66,7 @@ module _ {N M : Type 0} (f : N → M) (g : ℕ → N) where
   unfolding size_of renamed_size
   size-renamed s = go (eqb s 0) (s - 1)
     where
-      go : (a : Bool) (x : ℕ) → pick a none (some (f (g x))) ≡ renamed_size f (pick a none (some (g x)))
+      go : (a : Bool) (x : ℕ) → pick a None (Some (f (g x))) ≡ renamed_size f (pick a None (Some (g x)))
       go true x = refl
       go false x = refl
 

@@ -1,6 +1,5 @@
 -- Document 01's word format: the words of a path and of a type.
-use Rattle.std.specs.Prelude.{ℕ, suc, Bool, true, false, List, [], ◌∷◌, ◌++◌, map, length}
-use Rattle.std.proofs.Math.Option.{Option, some, none}
+use Rattle.std.specs.Prelude.{Option, Some, None, ℕ, suc, Bool, true, false, List, [], ◌∷◌, ◌++◌, map, length}
 use Rattle.rast.specs.Tree.{Path, Global, Crate, Self, PMemberSelect, PrimitiveTy, U8, U16, U32, U64, U128, I8, I16, I32, I64, I128, USIZE, Bool·, Ty, Tys, Primitive, TIdentifier, TypeFromPath, TypeApp, Borrowed, BorrowedMut, ImplType, DynType, TupleType, FnType, IntersectionType, Array, TSynonym, TMetaData, nil, cons, count}
 use Rattle.encoding.specs.Words.{identifier_kind, from_path_kind, type_app_kind, borrowed_kind, borrowed_mut_kind, impl_kind, dyn_kind, tuple_kind, fn_kind, intersection_kind, array_kind, synonym_kind, meta_data_kind, global_root, crate_root, self_root}
 
@@ -14,8 +13,8 @@ pub data Token (N : Type 0) : Type 0 where
 unfoldable pub token_word : Token ℕ → ℕ
 token_word (word k) = k
 token_word (name x) = x
-token_word (size none) = 0
-token_word (size (some x)) = suc x
+token_word (size None) = 0
+token_word (size (Some x)) = suc x
 
 -- kinds 0 to 11
 unfoldable pub primitive_word : PrimitiveTy → ℕ

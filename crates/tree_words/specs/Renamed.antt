@@ -1,5 +1,5 @@
 -- A tree with other names: f at each of its names. Trees that are rebuilt hold name numbers, and trees that are compared or asked hold bytes.
-use Rattle.std.proofs.Math.Option.{Option, some, none}
+use Rattle.std.specs.Prelude.{Option, Some, None}
 use Rattle.rast.specs.Tree.{Path, Global, Crate, Self, PMemberSelect, Ty, Tys, Primitive, TIdentifier, TypeFromPath, TypeApp, Borrowed, BorrowedMut, ImplType, DynType, TupleType, FnType, IntersectionType, Array, TSynonym, TMetaData, nil, cons}
 
 module _ {N M : Type 0} (f : N → M) where
@@ -10,8 +10,8 @@ module _ {N M : Type 0} (f : N → M) where
   renamed_path (PMemberSelect p x) = PMemberSelect (renamed_path p) (f x)
 
   unfoldable pub renamed_size : Option N → Option M
-  renamed_size none = none
-  renamed_size (some x) = some (f x)
+  renamed_size None = None
+  renamed_size (Some x) = Some (f x)
 
   -- each name by another; nothing else changes
   unfoldable mutual

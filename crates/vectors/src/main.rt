@@ -13,19 +13,13 @@
 #![tactic(auto)]
 
 ghost use Rattle.std.specs.Prelude.{◌≡◌, ◌≤◌, length};
-ghost use Rattle.std.specs.Io.{ReadsAtMost};
 ghost use Rattle.vectors.specs.Header.{header_of};
 
 use encoding::Refusal;
-use parts::PartAnswer;
-use rebuild_type::RebuildAnswer;
-use shapes::ShapeAnswer;
-use sound_type::SoundAnswer;
+use parts::Span;
 use std::io;
-use std::io::Read;
-use text_calls::TextAnswer;
-use visits::VisitAnswer;
 
+// Kept: numbers, since each call is what a record's first number says; `run_call` alone tells them apart, and refuses the others.
 const TYPE_TEXT: u32 = 1;
 
 const PATH_TEXT: u32 = 2;
@@ -53,8 +47,6 @@ const PART: u32 = 12;
 // What a buffer of words holds before the call: `.` bytes.
 const DOTS: u32 = 774778414;
 
-const LAST_SHAPE: u32 = 14;
-
 const LAST_PART: u32 = 10;
 
 // The most that a record may hold: a little more than the limits of an encoding and of a file, so that these can be passed.
@@ -72,7 +64,7 @@ const HEADER_BYTES: usize = 24;
 const WORD_BYTES: usize = 4 * MOST_WORDS;
 
 // The numbers before a record's words: the call, the level, and four lengths.
-#[derive(Clone, Copy)]
+#[derive(Clone, Copy, Debug, PartialEq, Eq)]
 struct Header {
     call: u32,
     level: u32,
@@ -95,29 +87,13 @@ fn header_of(bytes: &[u8; HEADER_BYTES]) -> Header
     }
 }
 
-// Reads until `bytes` is full or the input ends. The answer is how many bytes were read.
-fn read_bytes(rt: &impl Input, bytes: &mut [u8]) -> io::Result<usize>
-    ensures { ReadsAtMost result bytes.new }
-{
-    let mut input = rt.reader();
-    let mut done = 0;
-    while done < bytes.len() {
-        let more = input.read(&mut bytes[done..])?;
-        if more == 0 {
-            break;
-        }
-        done += more;
-    }
-    Ok(done)
-}
-
 // Fills `out` from standard input. False if the input ends before that.
 fn read_numbers(rt: &impl Input, out: &mut [u32]) -> io::Result<bool>
     requires { length out.old ≤ MOST_WORDS }
 {
     let mut bytes = [0u8; WORD_BYTES];
     let size = 4 * out.len();
-    if read_bytes(rt, &mut bytes[..size])? < size {
+    if file::read_bytes(&mut rt.reader(), &mut bytes[..size])? < size {
         return Ok(false);
     }
     little_endian::read_numbers(&bytes, 0, out);
@@ -126,7 +102,7 @@ fn read_numbers(rt: &impl Input, out: &mut [u32]) -> io::Result<bool>
 
 fn read_text(rt: &impl Input, out: &mut [u8]) -> io::Result<bool> {
     let size = out.len();
-    Ok(read_bytes(rt, out)? == size)
+    Ok(file::read_bytes(&mut rt.reader(), out)? == size)
 }
 
 fn print(rt: &impl Print, bytes: &[u8]) -> io::Result<()> {
@@ -139,7 +115,7 @@ fn print_numbered(rt: &impl Print, word: &str, number: u64) -> io::Result<()> {
 }
 
 fn print_refusal(rt: &impl Print, r: Refusal) -> io::Result<()> {
-    print_numbered(rt, "refused", encoding::refusal_number(r) as u64)
+    print_numbered(rt, "refused", u32::from(r) as u64)
 }
 
 // A line of decimals with a space between each two.
@@ -157,51 +133,26 @@ fn print_word(rt: &impl Print, i: usize, word: u32) -> io::Result<()> {
     print!(rt; "{word}")
 }
 
-fn print_text_answer(rt: &impl Print, answer: TextAnswer, buffer: &[u8]) -> io::Result<()> {
+// A line `done N` or `refused N`.
+fn print_count_answer(rt: &impl Print, answer: Result<usize, Refusal>) -> io::Result<()> {
     match answer {
-        TextAnswer::Length(n) => print_numbered(rt, "done", n as u64)?,
-        TextAnswer::Refused(r) => print_refusal(rt, r)?,
-    }
-    print(rt, buffer)?;
-    print(rt, b"\n")
-}
-
-fn print_sound_answer(rt: &impl Print, answer: SoundAnswer) -> io::Result<()> {
-    match answer {
-        SoundAnswer::Sound => print(rt, b"yes\n"),
-        SoundAnswer::Unsound => print(rt, b"no\n"),
-        SoundAnswer::Refused(r) => print_refusal(rt, r),
+        Ok(n) => print_numbered(rt, "done", n as u64),
+        Err(r) => print_refusal(rt, r),
     }
 }
 
-fn print_rebuild_answer(rt: &impl Print, answer: RebuildAnswer, buffer: &[u32]) -> io::Result<()> {
+fn print_truth_answer(rt: &impl Print, answer: Result<bool, Refusal>) -> io::Result<()> {
     match answer {
-        RebuildAnswer::Length(n) => print_numbered(rt, "done", n as u64)?,
-        RebuildAnswer::Refused(r) => print_refusal(rt, r)?,
-    }
-    print_words(rt, buffer)
-}
-
-fn print_visit_answer(rt: &impl Print, answer: VisitAnswer, buffer: &[u32]) -> io::Result<()> {
-    match answer {
-        VisitAnswer::Count(n) => print_numbered(rt, "done", n as u64)?,
-        VisitAnswer::Refused(r) => print_refusal(rt, r)?,
-    }
-    print_words(rt, buffer)
-}
-
-fn print_shape_answer(rt: &impl Print, answer: ShapeAnswer) -> io::Result<()> {
-    match answer {
-        ShapeAnswer::Yes => print(rt, b"yes\n"),
-        ShapeAnswer::No => print(rt, b"no\n"),
-        ShapeAnswer::Refused(r) => print_refusal(rt, r),
+        Ok(true) => print(rt, b"yes\n"),
+        Ok(false) => print(rt, b"no\n"),
+        Err(r) => print_refusal(rt, r),
     }
 }
 
-fn print_part_answer(rt: &impl Print, answer: PartAnswer) -> io::Result<()> {
+fn print_part_answer(rt: &impl Print, answer: Result<Span, Refusal>) -> io::Result<()> {
     match answer {
-        PartAnswer::Part { start, length } => println!(rt; "part {start} {length}"),
-        PartAnswer::Refused(r) => print_refusal(rt, r),
+        Ok(Span { start, length }) => println!(rt; "part {start} {length}"),
+        Err(r) => print_refusal(rt, r),
     }
 }
 
@@ -212,14 +163,12 @@ fn call_text(
     text: &[u8],
     level: u32,
     out: &mut [u8],
-) -> TextAnswer {
-    if call == TYPE_TEXT {
-        return text_calls::type_text(words, pairs, text, level, out);
+) -> Result<usize, Refusal> {
+    match call {
+        TYPE_TEXT => text_calls::type_text(words, pairs, text, level, out),
+        PATH_TEXT => text_calls::path_text(words, pairs, text, level, out),
+        _ => text_declaration_call::declaration_text(words, pairs, text, level, out),
     }
-    if call == PATH_TEXT {
-        return text_calls::path_text(words, pairs, text, level, out);
-    }
-    text_declaration_call::declaration_text(words, pairs, text, level, out)
 }
 
 // Makes a text call with a buffer of `.` bytes, and prints its answer.
@@ -235,7 +184,9 @@ fn run_text_call(
     let mut buffer = [b'.'; MOST_BUFFER];
     let size = h.buffer;
     let answer = call_text(h.call, words, pairs, text, h.level, &mut buffer[..size]);
-    print_text_answer(rt, answer, &buffer[..size])
+    print_count_answer(rt, answer)?;
+    print(rt, &buffer[..size])?;
+    print(rt, b"\n")
 }
 
 // Prints what `printdecl` would print for a file.
@@ -245,25 +196,25 @@ fn print_file(rt: &impl Print, file: &[u8]) -> io::Result<()> {
     print(rt, &out[..n])
 }
 
-fn call_rebuild(
+fn call_words(
     call: u32,
     words: &[u32],
     pairs: &[u32],
     text: &[u8],
     rules: &[u32],
     out: &mut [u32],
-) -> RebuildAnswer {
-    if call == TYPE_AT_INITIALIZATION {
-        return rebuild_initial::type_at_initialization(words, pairs, text, out);
+) -> Result<usize, Refusal> {
+    match call {
+        TYPE_AT_INITIALIZATION => rebuild_initial::type_at_initialization(words, pairs, text, out),
+        DECLARATION_REBUILD => rebuild_calls::declaration_rebuild(words, pairs, text, rules, out),
+        TYPE_VISIT => visits::type_visit(words, pairs, text, out),
+        DECLARATION_VISIT => visits::declaration_visit(words, pairs, text, out),
+        _ => rebuild_calls::type_rebuild(words, pairs, text, rules, out),
     }
-    if call == DECLARATION_REBUILD {
-        return rebuild_calls::declaration_rebuild(words, pairs, text, rules, out);
-    }
-    rebuild_calls::type_rebuild(words, pairs, text, rules, out)
 }
 
-// Makes a call that rebuilds, with a buffer of `.` bytes, and prints its answer.
-fn rebuild_by(
+// Makes a call whose answer is words, with a buffer of `.` bytes, and prints its answer. A call that lists positions takes no rules.
+fn run_words_call(
     rt: &impl Print,
     h: Header,
     words: &[u32],
@@ -275,8 +226,9 @@ fn rebuild_by(
 {
     let mut buffer = [DOTS; MOST_BUFFER];
     let size = h.buffer;
-    let answer = call_rebuild(h.call, words, pairs, text, rules, &mut buffer[..size]);
-    print_rebuild_answer(rt, answer, &buffer[..size])
+    let answer = call_words(h.call, words, pairs, text, rules, &mut buffer[..size]);
+    print_count_answer(rt, answer)?;
+    print_words(rt, &buffer[..size])
 }
 
 // Reads the rules, none for a call that takes none, and makes the call. False if the record is bad.
@@ -297,41 +249,18 @@ fn run_rebuild_call(
     if !read_numbers(rt, &mut rules[..count])? {
         return Ok(false);
     }
-    rebuild_by(rt, h, words, pairs, text, &rules[..count])?;
+    run_words_call(rt, h, words, pairs, text, &rules[..count])?;
     Ok(true)
 }
 
-fn call_visit(
-    call: u32,
+// Nothing if there is no such shape. Kept: numbers, as for the calls.
+fn shape_of(
+    which: u32,
     words: &[u32],
     pairs: &[u32],
     text: &[u8],
-    out: &mut [u32],
-) -> VisitAnswer {
-    if call == TYPE_VISIT {
-        return visits::type_visit(words, pairs, text, out);
-    }
-    visits::declaration_visit(words, pairs, text, out)
-}
-
-// Makes a call that lists positions, with a buffer of `.` bytes, and prints its answer.
-fn run_visit_call(
-    rt: &impl Print,
-    h: Header,
-    words: &[u32],
-    pairs: &[u32],
-    text: &[u8],
-) -> io::Result<()>
-    requires { h.buffer ≤ MOST_BUFFER }
-{
-    let mut buffer = [DOTS; MOST_BUFFER];
-    let size = h.buffer;
-    let answer = call_visit(h.call, words, pairs, text, &mut buffer[..size]);
-    print_visit_answer(rt, answer, &buffer[..size])
-}
-
-fn shape_of(which: u32, words: &[u32], pairs: &[u32], text: &[u8]) -> ShapeAnswer {
-    match which {
+) -> Option<Result<bool, Refusal>> {
+    Some(match which {
         0 => shapes::ends_with_name_that_can_accept_generics(words, pairs, text),
         1 => shapes::is_auto_size(words, pairs, text),
         2 => shapes::can_read_without_clone(words, pairs, text),
@@ -346,8 +275,9 @@ fn shape_of(which: u32, words: &[u32], pairs: &[u32], text: &[u8]) -> ShapeAnswe
         11 => shapes::is_object_or_pointer(words, pairs, text),
         12 => shapes::is_builtin_collection(words, pairs, text),
         13 => shapes::is_rc(words, pairs, text),
-        _ => shapes::is_box_dyn(words, pairs, text),
-    }
+        14 => shapes::is_box_dyn(words, pairs, text),
+        _ => return None,
+    })
 }
 
 // False if there is no such shape.
@@ -358,14 +288,14 @@ fn run_shape_call(
     pairs: &[u32],
     text: &[u8],
 ) -> io::Result<bool> {
-    if LAST_SHAPE < which {
+    let Some(answer) = shape_of(which, words, pairs, text) else {
         return Ok(false);
-    }
-    print_shape_answer(rt, shape_of(which, words, pairs, text))?;
+    };
+    print_truth_answer(rt, answer)?;
     Ok(true)
 }
 
-fn part_of(which: u32, words: &[u32], pairs: &[u32], text: &[u8]) -> PartAnswer {
+fn part_of(which: u32, words: &[u32], pairs: &[u32], text: &[u8]) -> Result<Span, Refusal> {
     match which {
         0 => parts::remove_synonyms_at(words, pairs, text),
         1 => parts::expand_at(words, pairs, text),
@@ -426,12 +356,12 @@ fn run_call(
     let call = h.call;
     match call {
         TYPE_TEXT | PATH_TEXT | DECLARATION_TEXT => run_text_call(rt, h, words, pairs, text)?,
-        TYPE_IS_SOUND => print_sound_answer(rt, sound_type::type_is_sound(words, pairs, text))?,
+        TYPE_IS_SOUND => print_truth_answer(rt, sound_type::type_is_sound(words, pairs, text))?,
         PRINTED_FILE => print_file(rt, text)?,
-        TYPE_REBUILD => return run_rebuild_call(rt, h, words, pairs, text),
-        DECLARATION_REBUILD => return run_rebuild_call(rt, h, words, pairs, text),
-        TYPE_AT_INITIALIZATION => return run_rebuild_call(rt, h, words, pairs, text),
-        TYPE_VISIT | DECLARATION_VISIT => run_visit_call(rt, h, words, pairs, text)?,
+        TYPE_REBUILD | DECLARATION_REBUILD | TYPE_AT_INITIALIZATION => {
+            return run_rebuild_call(rt, h, words, pairs, text);
+        }
+        TYPE_VISIT | DECLARATION_VISIT => run_words_call(rt, h, words, pairs, text, &[])?,
         SHAPE => return run_shape_call(rt, h.level, words, pairs, text),
         PART => return run_part_call(rt, h.level, words, pairs, text),
         _ => return Ok(false),
@@ -480,7 +410,7 @@ fn run_record(rt: &(impl Input + Print), h: Header) -> io::Result<bool> {
 // Runs the next record. False at the end of the input, and after a bad record.
 fn run_next(rt: &(impl Input + Print)) -> io::Result<bool> {
     let mut bytes = [0u8; HEADER_BYTES];
-    let got = read_bytes(rt, &mut bytes)?;
+    let got = file::read_bytes(&mut rt.reader(), &mut bytes)?;
     if got == 0 {
         return Ok(false);
     }

@@ -1,4 +1,5 @@
 -- From what was read and laid down to a call's answer and buffer.
+use Rattle.std.specs.Prelude.{Ok, Err, Result}
 use Prim.Native.Nat.{ℕ, ◌≤◌, ◌<◌}
 use mathlib.Core.Path.{◌≡◌, ap, sym, ◌∙◌}
 use mathlib.Core.List.{List, append-nil}
@@ -9,10 +10,6 @@ use Rattle.rast.specs.Tree.{nil, cons}
 use Rattle.buffer.proofs.Laws.{wrote_as}
 use Rattle.encoding.specs.declared.Refusal.{Refusal}
 use Rattle.encoding.specs.declared.Refusal.TheVariants.{LeftOver, BufferTooShort}
-use Rattle.encoding.specs.declared.Check.{Check}
-use Rattle.encoding.specs.declared.Check.TheVariants.{Passed, Failed}
-use Rattle.encoding.specs.declared.Scan.{Scan}
-use Rattle.encoding.specs.declared.Scan.TheVariants.{At, Refused as Halted}
 use Rattle.encoding.specs.Refusals.{Answer, unless}
 use Rattle.encoding.specs.Reading.{got, whole}
 use Rattle.encoding.specs.Scans.{ended}
@@ -25,12 +22,10 @@ use Rattle.encoding.proofs.Types.{type-lies}
 use Rattle.tree_words.proofs.Nodes.{one-read}
 use Rattle.accepted_types.specs.declared.Spot.{Spot}
 use Rattle.accepted_types.specs.Accepted.{Readable}
-use Rattle.visits.specs.declared.VisitAnswer.{VisitAnswer}
-use Rattle.visits.specs.declared.VisitAnswer.TheVariants.{Count, Refused}
 use Rattle.accept_declaration.specs.declared.Whole.{Whole}
 use Rattle.accept_declaration.specs.declared.Whole.TheVariants.{AType, ADeclaration}
 use Rattle.visits.specs.Visited.{visited, visited_from, positions, type_visits, declaration_visits}
-use Rattle.visits.specs.Calls.{filled}
+use Rattle.encoding.specs.Filled.{filled}
 use Rattle.visits.specs.Passes.{TypesDue, Visited, held_visits, FillsWords, AllVisited, whole_visits}
 use Rattle.accept_declaration.specs.Ends.{Held, held_at}
 use Rattle.visits.proofs.Lists.{list_of}
@@ -68,28 +63,28 @@ module _ (ws pairs : List ℕ) (text : Bytes) where
       whole-read : {o₁ o₂ : List ℕ} {p : ℕ} (v : AllVisited what ws pairs text o₁ o₂ p) → v.end ≡ length ws
       whole-read v = let m : length ws ≡ v.end = cc (f.reads, v.reads) in sym m
 
-      pub visits-short : {o₁ o₂ : List ℕ} {p : ℕ} → AllVisited what ws pairs text o₁ o₂ p → length o < p → ◌≡◌ {A = VisitAnswer × List ℕ} (Refused BufferTooShort, o) (filled o (whole_visits what ws pairs text))
-      visits-short v l = filled-short Count Refused o (held_visits what) (length ws) (held_at what ws pairs text) v.reads (whole-read v) (omega (arith, v.wrote.next, l))
+      pub visits-short : {o₁ o₂ : List ℕ} {p : ℕ} → AllVisited what ws pairs text o₁ o₂ p → length o < p → ◌≡◌ {A = Result ℕ Refusal × List ℕ} (Err BufferTooShort, o) (filled o (whole_visits what ws pairs text))
+      visits-short v l = filled-short o (held_visits what) (length ws) (held_at what ws pairs text) v.reads (whole-read v) (omega (arith, v.wrote.next, l))
 
-      pub visits-done : {o' : List ℕ} {p : ℕ} → AllVisited what ws pairs text o o' p → p ≤ length o → ◌≡◌ {A = VisitAnswer × List ℕ} (Count p, o') (filled o (whole_visits what ws pairs text))
+      pub visits-done : {o' : List ℕ} {p : ℕ} → AllVisited what ws pairs text o o' p → p ≤ length o → ◌≡◌ {A = Result ℕ Refusal × List ℕ} (Ok p, o') (filled o (whole_visits what ws pairs text))
       visits-done {p = p} v l =
-          filled-done Count Refused o (held_visits what) (length ws) (held_at what ws pairs text) p v.reads (whole-read v)
+          filled-done o (held_visits what) (length ws) (held_at what ws pairs text) p v.reads (whole-read v)
           (omega (arith, v.wrote.next, l)) (omega (arith, v.wrote.next)) v.wrote.bytes
 
       -- there are no more positions than words
-      pub visits-within : {o' : List ℕ} {p : ℕ} → AllVisited what ws pairs text o o' p → length ws ≤ length o → ◌≡◌ {A = VisitAnswer × List ℕ} (Count p, o') (filled o (whole_visits what ws pairs text))
+      pub visits-within : {o' : List ℕ} {p : ℕ} → AllVisited what ws pairs text o o' p → length ws ≤ length o → ◌≡◌ {A = Result ℕ Refusal × List ℕ} (Ok p, o') (filled o (whole_visits what ws pairs text))
       visits-within v l = visits-done v (omega (arith, v.counted, l))
 
   -- by what acceptance said: the tree ends where the words do, or before, or it is refused
-  module _ (what : Whole) {s : Scan} (e : s ≡ ended (held_at what ws pairs text)) where
-    pub fills : {n : ℕ} → s ≡ At n → n ≡ length ws → FillsWords what ws pairs text
+  module _ (what : Whole) {s : Result ℕ Refusal} (e : s ≡ ended (held_at what ws pairs text)) where
+    pub fills : {n : ℕ} → s ≡ Ok n → n ≡ length ws → FillsWords what ws pairs text
     fills d h = let t = scan-got (held_at what ws pairs text) e d in record { value = t.value; reads = t.reads ∙ ap (got t.value) h }
 
-    pub visits-left : (o : List ℕ) {n : ℕ} → s ≡ At n → (n ≡ length ws → ⊥) → ◌≡◌ {A = VisitAnswer × List ℕ} (Refused LeftOver, o) (filled o (whole_visits what ws pairs text))
-    visits-left o d h = filled-left Count Refused o (held_visits what) (length ws) (held_at what ws pairs text) (scan-got (held_at what ws pairs text) e d).reads h
+    pub visits-left : (o : List ℕ) {n : ℕ} → s ≡ Ok n → (n ≡ length ws → ⊥) → ◌≡◌ {A = Result ℕ Refusal × List ℕ} (Err LeftOver, o) (filled o (whole_visits what ws pairs text))
+    visits-left o d h = filled-left o (held_visits what) (length ws) (held_at what ws pairs text) (scan-got (held_at what ws pairs text) e d).reads h
 
-    pub visits-stop : (o : List ℕ) {k : Refusal} → s ≡ Halted k → ◌≡◌ {A = VisitAnswer × List ℕ} (Refused k, o) (filled o (whole_visits what ws pairs text))
-    visits-stop o d = filled-stop Count Refused o (held_visits what) (length ws) (held_at what ws pairs text) (scan-stop (held_at what ws pairs text) e d)
+    pub visits-stop : (o : List ℕ) {k : Refusal} → s ≡ Err k → ◌≡◌ {A = Result ℕ Refusal × List ℕ} (Err k, o) (filled o (whole_visits what ws pairs text))
+    visits-stop o d = filled-stop o (held_visits what) (length ws) (held_at what ws pairs text) (scan-stop (held_at what ws pairs text) e d)
 
   pub fills-readable : {what : Whole} → FillsWords what ws pairs text → Readable (held_at what ws pairs text)
   fills-readable f = record { value = f.value; end = length ws; reads = f.reads }
@@ -106,9 +101,9 @@ module _ (ws pairs : List ℕ) (text : Bytes) where
   call-tested AType = sym (map-unless (held_visits AType) (check_tables ws pairs text) (whole (length ws) (held_at AType ws pairs text)))
   call-tested ADeclaration = sym (map-unless (held_visits ADeclaration) (check_tables ws pairs text) (whole (length ws) (held_at ADeclaration ws pairs text)))
 
-  module _ (what : Whole) (o : List ℕ) {t : Check} (e : t ≡ check_tables ws pairs text) where
-    pub tables-passed-visits : {p : VisitAnswer × List ℕ} → t ≡ Passed → p ≡ filled o (whole_visits what ws pairs text) → p ≡ filled o (call_visits what)
-    tables-passed-visits d h = filled-passed Count Refused o (check_tables ws pairs text) (whole_visits what ws pairs text) (sym e ∙ d) h ∙ ap (filled o) (call-tested what)
+  module _ (what : Whole) (o : List ℕ) {t : Result (Unit {0}) Refusal} (e : t ≡ check_tables ws pairs text) where
+    pub tables-passed-visits : {p : Result ℕ Refusal × List ℕ} → t ≡ Ok tt → p ≡ filled o (whole_visits what ws pairs text) → p ≡ filled o (call_visits what)
+    tables-passed-visits d h = filled-passed o (check_tables ws pairs text) (whole_visits what ws pairs text) (sym e ∙ d) h ∙ ap (filled o) (call-tested what)
 
-    pub tables-failed-visits : {k : Refusal} → t ≡ Failed k → ◌≡◌ {A = VisitAnswer × List ℕ} (Refused k, o) (filled o (call_visits what))
-    tables-failed-visits d = filled-failed Count Refused o (check_tables ws pairs text) (whole_visits what ws pairs text) (sym e ∙ d) ∙ ap (filled o) (call-tested what)
+    pub tables-failed-visits : {k : Refusal} → t ≡ Err k → ◌≡◌ {A = Result ℕ Refusal × List ℕ} (Err k, o) (filled o (call_visits what))
+    tables-failed-visits d = filled-failed o (check_tables ws pairs text) (whole_visits what ws pairs text) (sym e ∙ d) ∙ ap (filled o) (call-tested what)

@@ -1,4 +1,5 @@
 -- What the visitor goes through of a declaration that was accepted, by a walk over its words.
+use Rattle.std.specs.Prelude.{Ok, Err, Result}
 use Prim.Native.Nat.{ℕ, suc, ◌+◌, ◌≤◌, ◌<◌}
 use mathlib.Core.Path.{◌≡◌, refl, ap, sym, ◌∙◌, subst}
 use mathlib.Core.Bool.{Bool, true, false}
@@ -15,7 +16,6 @@ use Rattle.encoding.specs.Words.{max_words}
 use Rattle.encoding.specs.Refusals.{pick}
 use Rattle.encoding.specs.Reading.{got}
 use Rattle.encoding.specs.Forms.{present}
-use Rattle.encoding.specs.declared.Scan.TheVariants.{At}
 use Rattle.encoding.specs.Scans.{ended}
 use Rattle.encoding.specs.Tables.{name_bytes, name_count}
 use Rattle.encoding.specs.Types.{type_at}
@@ -31,9 +31,7 @@ use Rattle.accepted_types.specs.Accepted.{Readable, EndsAt}
 use Rattle.accepted_types.proofs.Skipping.{first_of, none_of}
 use Rattle.declaration_walk.specs.declared.Role.{Role}
 use Rattle.declaration_walk.specs.declared.Walk.{Walk}
-use Rattle.declaration_walk.specs.declared.Start.{Start}
-use Rattle.declaration_walk.specs.declared.Start.TheVariants.{NotBegun}
-use Rattle.declaration_walk.specs.declared.Next.TheVariants.{OwnWords, TypeDue, Ended, Halted}
+use Rattle.declaration_walk.specs.declared.Next.TheVariants.{OwnWords, TypeDue, Ended}
 use Rattle.declaration_walk.specs.Pieces.{Piece, type, own_pieces, runs, counted, type_piece, field_pieces, nameless_pieces, fields_pieces}
 use Rattle.declaration_walk.specs.Walks.{left_at, moved, in_field, FieldNext, field_type, past_field, Stepped, type-due, end, Opening, opened, read_opening, started}
 use Rattle.declaration_walk.proofs.Steps.{own-step, due-step, end_step, halt-step, field-opens, fields-left}
@@ -142,10 +140,10 @@ module _ (ws pairs : List ℕ) (text : Bytes) where
           }
 
   -- a declaration that was accepted has an opening
-  pub not-begun-read : {r : Start} {k : Refusal} → r ≡ started (read_opening present (name_count pairs) ws 0) → r ≡ NotBegun k → Readable (declaration_at ws pairs text 0) → ⊥
+  pub not-begun-read : {r : Result Walk Refusal} {k : Refusal} → r ≡ started (read_opening present (name_count pairs) ws 0) → r ≡ Err k → Readable (declaration_at ws pairs text 0) → ⊥
   not-begun-read {k = k} e d r =
       let n = not-begun ws pairs text e d in
-      let m : ended (declaration_at ws pairs text 0) ≡ At r.end = ap ended r.reads in
+      let m : ended (declaration_at ws pairs text 0) ≡ Ok r.end = ap ended r.reads in
       impossible (cc (n, m))
 
   -- ---- the pass over the walk
@@ -169,7 +167,7 @@ module _ (ws pairs : List ℕ) (text : Bytes) where
       pub next : Going ws pairs text w₀ o pos w' o' p
       pub further : w.place < w'.place
 
-    pub going-own : {w w' : Walk} {o' : List ℕ} {p : ℕ} → Going ws pairs text w₀ o pos w o' p → Stepped (name_count pairs) ws w (OwnWords w') → Gone w w' o' p
+    pub going-own : {w w' : Walk} {o' : List ℕ} {p : ℕ} → Going ws pairs text w₀ o pos w o' p → Stepped (name_count pairs) ws w (Ok (OwnWords w')) → Gone w w' o' p
     going-own {w} {w'} {o'} {p} g s =
         let k = own-step (name_count pairs) ws (name_bytes pairs text) (type_at ws pairs text) w s in
         let b = behind-got _ (left_at ws pairs text w') (sym k.reads ∙ g.left) in
@@ -198,14 +196,14 @@ module _ (ws pairs : List ℕ) (text : Bytes) where
       left : left_at ws pairs text (moved w' next) ≡ got others end
       parts : rest ≡ type a tpe ∷ others
 
-    typed : {w : Walk} {a : Role} {w' : Walk} {o' : List ℕ} {p : ℕ} → (g : Going ws pairs text w₀ o pos w o' p) → Stepped (name_count pairs) ws w (TypeDue a w') → Typed w a w' g.rest g.end
+    typed : {w : Walk} {a : Role} {w' : Walk} {o' : List ℕ} {p : ℕ} → (g : Going ws pairs text w₀ o pos w o' p) → Stepped (name_count pairs) ws w (Ok (TypeDue a w')) → Typed w a w' g.rest g.end
     typed {w} {a} {w'} g s =
         let k = due-step (name_count pairs) ws (name_bytes pairs text) (type_at ws pairs text) w s in
         let t = bind-got (type_at ws pairs text w.place) _ (sym k.reads ∙ g.left) in
         let b = behind-got (type_piece a t.value) (left_at ws pairs text (moved w' t.end)) t.rest in
         record { tpe = t.value; next = t.end; others = b.left; here = t.first; left = b.reads; parts = b.parts }
 
-    pub going-due : {w : Walk} {a : Role} {w' : Walk} {o' : List ℕ} {p : ℕ} → Going ws pairs text w₀ o pos w o' p → Stepped (name_count pairs) ws w (TypeDue a w') → TypesDue ws pairs text w.place 1 p
+    pub going-due : {w : Walk} {a : Role} {w' : Walk} {o' : List ℕ} {p : ℕ} → Going ws pairs text w₀ o pos w o' p → Stepped (name_count pairs) ws w (Ok (TypeDue a w')) → TypesDue ws pairs text w.place 1 p
     going-due {w} g s =
         let t = typed g s in
         record { few = g.few; inside = g.inside; counted = g.counted; there = record { value = cons t.tpe nil; end = t.next; reads = one-read (type_at ws pairs text) w.place t.here } }
@@ -217,7 +215,7 @@ module _ (ws pairs : List ℕ) (text : Bytes) where
         ap (λ ps. positions (visited_pieces is_entered p ps)) g ∙ positions-append (pick (is_entered a) (visited_from p t) []) (visited_pieces is_entered (p + words t) us)
         ∙ rw e
 
-    pub going-type : {w : Walk} {a : Role} {w' : Walk} {o' o'' : List ℕ} {p : ℕ} {spot : Spot} → Going ws pairs text w₀ o pos w o' p → Stepped (name_count pairs) ws w (TypeDue a w')
+    pub going-type : {w : Walk} {a : Role} {w' : Walk} {o' o'' : List ℕ} {p : ℕ} {spot : Spot} → Going ws pairs text w₀ o pos w o' p → Stepped (name_count pairs) ws w (Ok (TypeDue a w'))
         → TypePassed ws pairs text a w.place o' p o'' spot → Gone w (moved w' spot.next) o'' spot.pos
     going-type {w} {a} {w'} {o'} {o''} {p} {spot} g s v =
         let t = typed g s in
@@ -241,7 +239,7 @@ module _ (ws pairs : List ℕ) (text : Bytes) where
           further = omega (arith, q, lies.starts);
         }
 
-    pub going-halt : {w : Walk} {o' : List ℕ} {p : ℕ} {r : Refusal} → Going ws pairs text w₀ o pos w o' p → Stepped (name_count pairs) ws w (Halted r) → ⊥
+    pub going-halt : {w : Walk} {o' : List ℕ} {p : ℕ} {r : Refusal} → Going ws pairs text w₀ o pos w o' p → Stepped (name_count pairs) ws w (Err r) → ⊥
     going-halt {w} g s = let k = halt-step (name_count pairs) ws (name_bytes pairs text) (type_at ws pairs text) w s in impossible (cc (k, g.left))
 
     -- a field that comes next has been accepted: its own words,
@@ -305,5 +303,5 @@ module _ (ws pairs : List ℕ) (text : Bytes) where
     pub going_done : {w : Walk} {o' : List ℕ} {p : ℕ} → Going ws pairs text w₀ o 0 w o' p → Done w → Entered ws pairs text w₀ o o' p
     going_done g d = finished g (done-left g d)
 
-    pub going_end : {w : Walk} {o' : List ℕ} {p : ℕ} → Going ws pairs text w₀ o 0 w o' p → Stepped (name_count pairs) ws w Ended → Entered ws pairs text w₀ o o' p
+    pub going_end : {w : Walk} {o' : List ℕ} {p : ℕ} → Going ws pairs text w₀ o 0 w o' p → Stepped (name_count pairs) ws w (Ok Ended) → Entered ws pairs text w₀ o o' p
     going_end g (end e d a f c) = going_done g (nothing e d a f c)

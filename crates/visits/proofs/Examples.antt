@@ -1,10 +1,11 @@
 -- Visit lists of document 01's examples, and of others, by computation: pairs and text are those of its whole example.
+use Rattle.std.specs.Prelude.{Ok}
 use Prim.Native.Nat.{ℕ}
 use mathlib.Core.Path.{◌≡◌, refl}
 use mathlib.Core.List.{List, [], ◌∷◌, map}
 use Rattle.rast.specs.Bytes.{Bytes, ascii, ◌and◌}
 use Rattle.rast.specs.Tree.{MSels, count}
-use Rattle.encoding.specs.Refusals.{Answer, given, map_answer, unless}
+use Rattle.encoding.specs.Refusals.{Answer, map_answer, unless}
 use Rattle.encoding.specs.Reading.{read_word, read_below, read_names, whole}
 use Rattle.encoding.specs.Tables.{overlong, good_pairs, check_tables, fixed_names, pair_bytes, name_bytes}
 use Rattle.encoding.specs.Heads.{read_path, path_head, head_after, read_head}
@@ -51,7 +52,7 @@ abbrev declaration_lists : List (List ℕ × List ℕ) → List (Answer (List �
 declaration_lists = map (λ (c : List ℕ × List ℕ). declaration_visits c.0 pairs text)
 
 abbrev asked : List (List ℕ × List ℕ) → List (Answer (List ℕ))
-asked = map (λ (c : List ℕ × List ℕ). given c.1)
+asked = map (λ (c : List ℕ × List ℕ). Ok c.1)
 
 pub type-examples : type_lists types ≡ asked types
 unfolding types type_visits visited visited_from type_of map_answer unless whole check_tables overlong good_pairs ascii ◌and◌ read_type read_node read_types read_head head_after path_head read_path read_names read_word read_below primitives path_of root_of size_of MSels name_bytes fixed_names pair_bytes words words_all tokens path_tokens names root_word primitive_word flags_word count

@@ -1,4 +1,5 @@
 -- At each place that a visit list gives, the words hold the type that is listed there.
+use Rattle.std.specs.Prelude.{Ok, Err, Result}
 use Prim.Native.Nat.{ℕ, zero, suc, ◌+◌, ◌≤◌, ◌<◌}
 use mathlib.Core.Path.{◌≡◌, refl, ap, sym, ◌∙◌, subst}
 use mathlib.Core.Logic.{⊎_elim}
@@ -15,7 +16,7 @@ use Rattle.encoding.specs.Reading.{Reading, got, stop}
 use Rattle.encoding.specs.Tables.{check_tables, name_bytes, name_count}
 use Rattle.encoding.specs.Heads.{read_head}
 use Rattle.encoding.specs.HeadWords.{kids}
-use Rattle.encoding.specs.Refusals.{pick, given}
+use Rattle.encoding.specs.Refusals.{pick}
 use Rattle.encoding.specs.Forms.{present}
 use Rattle.encoding.specs.Types.{read_types, read_node, read_type, type_at, type_of}
 use Rattle.encoding.specs.Declarations.{declaration_at, declaration_of}
@@ -29,9 +30,10 @@ use Rattle.tree_words.specs.Places.{Place, place}
 use Rattle.tree_words.proofs.Nodes.{node-below, one-read}
 use Rattle.tree_words.proofs.Renaming.{type-words}
 use Rattle.accepted_types.proofs.Accepted.{type-here, synonym-head}
+use Rattle.encoding.specs.declared.Refusal.{Refusal}
 use Rattle.declaration_walk.specs.declared.Walk.{Walk}
 use Rattle.declaration_walk.specs.declared.Next.{Next}
-use Rattle.declaration_walk.specs.declared.Next.TheVariants.{OwnWords, TypeDue, Ended, Halted}
+use Rattle.declaration_walk.specs.declared.Next.TheVariants.{OwnWords, TypeDue, Ended}
 use Rattle.declaration_walk.specs.declared.Role.{Role}
 use Rattle.declaration_walk.specs.Pieces.{Piece, type, type_piece}
 use Rattle.declaration_walk.specs.Walks.{left_at, moved, Stepped, Opening, opened, read_opening, started}
@@ -122,24 +124,24 @@ module _ (ws pairs : List ℕ) (text : Bytes) (x : Place Bytes) where
   -- what is left to a walk, by its next step
   step-held : (w : Walk) {ps : List (Piece Bytes)} {n : ℕ} → left_at ws pairs text w ≡ got ps n
       → ((v : Walk) (qs : List (Piece Bytes)) → w.place < v.place → v.place ≤ length ws → left_at ws pairs text v ≡ got qs n → Held (visited_pieces is_entered v.place qs))
-      → (s : Next) → Stepped (name_count pairs) ws w s → Held (visited_pieces is_entered w.place ps)
+      → (s : Result Next Refusal) → Stepped (name_count pairs) ws w s → Held (visited_pieces is_entered w.place ps)
   unfolding visited_pieces
-  step-held w e again (OwnWords v) s =
+  step-held w e again (Ok (OwnWords v)) s =
       let k = own-step (name_count pairs) ws (name_bytes pairs text) (type_at ws pairs text) w s in
       let b = behind-got _ (left_at ws pairs text v) (sym k.reads ∙ e) in
       rw (visited-behind is_entered (name_bytes pairs text) k.tokens b.left w.place v.place b.parts k.end)
       (again v b.left k.further (omega (arith, k.run.ends, k.end, length-map k.tokens token_word)) b.reads)
-  step-held w e again (TypeDue a v) s =
+  step-held w e again (Ok (TypeDue a v)) s =
       let k = due-step (name_count pairs) ws (name_bytes pairs text) (type_at ws pairs text) w s in
       let t = bind-got (type_at ws pairs text w.place) _ (sym k.reads ∙ e) in
       let b = behind-got (type_piece a t.value) (left_at ws pairs text (moved v t.end)) t.rest in
       let l = type-lies ws pairs text w.place (omega (arith, type-here ws pairs text w.place t.first)) t.first in
       piece-held a w.place t.value b.left b.parts t.first (again (moved v t.end) b.left l.starts l.ends b.reads)
-  step-held w {ps} e again Ended s =
+  step-held w {ps} e again (Ok Ended) s =
       let k = end_step (name_count pairs) ws (name_bytes pairs text) (type_at ws pairs text) w s in
       let z : ps ≡ [] = cc in
       rw z none-held
-  step-held w e again (Halted r) s = let k = halt-step (name_count pairs) ws (name_bytes pairs text) (type_at ws pairs text) w s in impossible (cc)
+  step-held w e again (Err r) s = let k = halt-step (name_count pairs) ws (name_bytes pairs text) (type_at ws pairs text) w s in impossible (cc)
 
   -- what is left to a walk, where at most m words are left
   left-held : (m : ℕ) (w : Walk) {ps : List (Piece Bytes)} {n : ℕ} → length ws ≤ w.place + m → left_at ws pairs text w ≡ got ps n → Held (visited_pieces is_entered w.place ps)
@@ -160,11 +162,11 @@ module _ (ws pairs : List ℕ) (text : Bytes) (x : Place Bytes) where
 
 module _ (ws pairs : List ℕ) (text : Bytes) {x : Place Bytes} where
   -- at each place of a type's visit list the words hold the type that is listed there
-  pub type-visits-hold : {t : Ty Bytes} → type_of ws pairs text ≡ given t → Memᴰ x (visited (place 0 t)) → Holding ws pairs text x
+  pub type-visits-hold : {t : Ty Bytes} → type_of ws pairs text ≡ Ok t → Memᴰ x (visited (place 0 t)) → Holding ws pairs text x
   unfolding type_of
   type-visits-hold {t} e m = type-held ws pairs text x (place 0 t) (given-whole (check_tables ws pairs text) (length ws) (type_at ws pairs text 0) e).1 m
 
   -- and at each place of a declaration's
-  pub declaration-visits-hold : {d : Declaration Bytes} → declaration_of ws pairs text ≡ given d → Memᴰ x (visited_declaration d) → Holding ws pairs text x
+  pub declaration-visits-hold : {d : Declaration Bytes} → declaration_of ws pairs text ≡ Ok d → Memᴰ x (visited_declaration d) → Holding ws pairs text x
   unfolding declaration_of
   declaration-visits-hold e m = declaration-held ws pairs text x (given-whole (check_tables ws pairs text) (length ws) (declaration_at ws pairs text 0) e).1 m

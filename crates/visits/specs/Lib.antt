@@ -1,4 +1,3 @@
 pub mod Fold
 pub mod Visited
-pub mod Calls
 pub mod Passes

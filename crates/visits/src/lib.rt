@@ -9,23 +9,16 @@ ghost use Rattle.encoding.specs.Tested.{Good};
 ghost use Rattle.encoding.specs.Declarations.{declaration_at};
 ghost use Rattle.accepted_types.specs.Accepted.{Readable};
 ghost use Rattle.visits.specs.Visited.{is_entered, type_visits, declaration_visits};
-ghost use Rattle.visits.specs.Calls.{filled};
+ghost use Rattle.encoding.specs.Filled.{filled};
 ghost use Rattle.visits.specs.Passes.{TypesDue, Visited, TypePassed, Ahead, Going, EntersField, Done, Entered, AllVisited, FillsWords, whole_visits};
 ghost use Rattle.accept_declaration.specs.Ends.{held_at};
 ghost use Rattle.accept_declaration.specs.declared.Whole.TheVariants.{AType, ADeclaration};
 
 use accept_declaration::Whole;
 use accepted_types::Spot;
-use declaration_walk::{After, Next, Role, Start, Walk};
+use declaration_walk::{After, Next, Role, Walk};
+use encoding::Refusal;
 use encoding::words::T_SYNONYM;
-use encoding::{Check, Refusal, Scan};
-
-// The length of the list that fills the front of the buffer, or a refusal: then the buffer is as it was.
-#[derive(Clone, Copy)]
-pub enum VisitAnswer {
-    Count(usize),
-    Refused(Refusal),
-}
 
 // One position, if the buffer goes so far. It counts either way.
 fn put_place(place: usize, out: &mut [u32], pos: usize) -> usize
@@ -34,7 +27,6 @@ fn put_place(place: usize, out: &mut [u32], pos: usize) -> usize
 {
     if pos < out.len() {
         out[pos] = place as u32;
-        return pos + 1;
     }
     pos + 1
 }
@@ -57,6 +49,7 @@ fn visit_types(
     let mut place = at;
     let mut left = due;
     let mut p = pos;
+    // Kept: the new form is no plainer, since each head says anew how many types are left.
     while 0 < left {
         let w = words[place];
         p = put_place(place, out, p);
@@ -93,6 +86,7 @@ fn visit_type(
     let mut place = at;
     let mut left = 1;
     let mut p = pos;
+    // Kept: the new form is no plainer, since each head says anew how many types are left.
     while 0 < left {
         let w = words[place];
         if w == T_SYNONYM {
@@ -150,7 +144,7 @@ fn pass_type(
 }
 
 // A walk on its way, and how many positions were laid down.
-#[derive(Clone, Copy)]
+#[derive(Clone, Copy, Debug, PartialEq, Eq)]
 struct Reached {
     walk: Walk,
     pos: usize,
@@ -171,6 +165,7 @@ fn visit_fields(
 {
     let mut w = walk;
     let mut p = pos;
+    // Kept: the new form is no plainer, since the walk itself counts its fields down.
     while 0 < w.fields {
         let spot = visit_type(words, pairs, text, declaration_walk::field_type(w), out, p);
         w = declaration_walk::past_field(w, spot.next);
@@ -183,31 +178,19 @@ fn visit_fields(
 fn enters_field(walk: Walk) -> bool
     ensures { result ≡ true → EntersField walk }
 {
-    let role = walk.role;
-    if declaration_walk::is_field_next(walk) {
-        return is_entered(role);
-    }
-    false
+    declaration_walk::is_field_next(walk) && is_entered(walk.role)
 }
 
 // Whether nothing is left to a walk that is entered. A struct without parameters needs no further step.
 fn is_done(walk: Walk) -> bool
     ensures { result ≡ true → Done walk }
 {
-    let after = walk.after;
-    if walk.types != 0 {
+    if walk.types != 0 || walk.parameters != 0 || walk.cases != 0 {
         return false;
     }
-    if walk.parameters != 0 {
-        return false;
-    }
-    if walk.cases != 0 {
-        return false;
-    }
-    match after {
+    match walk.after {
         After::FieldList(role) => !is_entered(role),
-        After::CaseList => false,
-        After::OneType => false,
+        After::CaseList | After::OneType => false,
         After::NoMore => walk.fields == 0,
     }
 }
@@ -236,7 +219,10 @@ fn visit_walk(
         if is_done(w) {
             return p;
         }
-        match declaration_walk::next_piece(words, bound, w) {
+        let Ok(piece) = declaration_walk::next_piece(words, bound, w) else {
+            return p;
+        };
+        match piece {
             Next::OwnWords(next) => {
                 w = next;
                 continue;
@@ -247,7 +233,6 @@ fn visit_walk(
                 p = spot.pos;
             }
             Next::Ended => return p,
-            Next::Halted(_) => return p,
         }
     }
 }
@@ -259,8 +244,8 @@ fn visit_declaration(words: &[u32], pairs: &[u32], text: &[u8], out: &mut [u32])
 {
     let bound = encoding::name_count(pairs);
     match declaration_walk::start_walk(words, bound, 0) {
-        Start::Begun(walk) => visit_walk(words, pairs, text, bound, walk, out),
-        Start::NotBegun(_) => 0,
+        Ok(walk) => visit_walk(words, pairs, text, bound, walk, out),
+        Err(_) => 0,
     }
 }
 
@@ -288,72 +273,76 @@ fn fill_short(
     pairs: &[u32],
     text: &[u8],
     out: &mut [u32],
-) -> VisitAnswer
+) -> Result<usize, Refusal>
     requires { (length words.now ≤ max_words) × FillsWords what words.now pairs.now text.now }
     ensures { (result, out.new) ≡ filled out.old (whole_visits what words.now pairs.now text.now) }
 {
     let mut none = [0u32; 0];
     if out.len() < visit_whole(what, words, pairs, text, &mut none) {
-        return VisitAnswer::Refused(Refusal::BufferTooShort);
+        return Err(Refusal::BufferTooShort);
     }
-    VisitAnswer::Count(visit_whole(what, words, pairs, text, out))
+    Ok(visit_whole(what, words, pairs, text, out))
 }
 
 // The list of the type that fills the words.
-fn fill_type(words: &[u32], pairs: &[u32], text: &[u8], out: &mut [u32]) -> VisitAnswer
+fn fill_type(words: &[u32], pairs: &[u32], text: &[u8], out: &mut [u32]) -> Result<usize, Refusal>
     requires { Good pairs.now text.now × (length words.now ≤ max_words) }
     ensures { (result, out.new) ≡ filled out.old (whole_visits AType words.now pairs.now text.now) }
 {
-    match accept_type::accept_type(words, pairs, text, 0, 0) {
-        Scan::At(next) => {
-            if next != words.len() {
-                return VisitAnswer::Refused(Refusal::LeftOver);
-            }
-            if out.len() < words.len() {
-                return fill_short(Whole::AType, words, pairs, text, out);
-            }
-            let all = visit_type(words, pairs, text, 0, out, 0);
-            VisitAnswer::Count(all.pos)
-        }
-        Scan::Refused(r) => VisitAnswer::Refused(r),
+    let next = accept_type::accept_type(words, pairs, text, 0, 0)?;
+    if next != words.len() {
+        return Err(Refusal::LeftOver);
     }
+    if out.len() < words.len() {
+        return fill_short(Whole::AType, words, pairs, text, out);
+    }
+    let all = visit_type(words, pairs, text, 0, out, 0);
+    Ok(all.pos)
 }
 
 // The list of the declaration that fills the words.
-fn fill_declaration(words: &[u32], pairs: &[u32], text: &[u8], out: &mut [u32]) -> VisitAnswer
+// Kept: the new form is no plainer: one function for both would take what accepts and what visits as two closures, the second over a borrowed buffer.
+fn fill_declaration(
+    words: &[u32],
+    pairs: &[u32],
+    text: &[u8],
+    out: &mut [u32],
+) -> Result<usize, Refusal>
     requires { Good pairs.now text.now × (length words.now ≤ max_words) }
     ensures { (result, out.new) ≡ filled out.old (whole_visits ADeclaration words.now pairs.now text.now) }
 {
-    match accept_declaration::accept_declaration(words, pairs, text, 0) {
-        Scan::At(end) => {
-            if end != words.len() {
-                return VisitAnswer::Refused(Refusal::LeftOver);
-            }
-            if out.len() < words.len() {
-                return fill_short(Whole::ADeclaration, words, pairs, text, out);
-            }
-            VisitAnswer::Count(visit_declaration(words, pairs, text, out))
-        }
-        Scan::Refused(r) => VisitAnswer::Refused(r),
+    let end = accept_declaration::accept_declaration(words, pairs, text, 0)?;
+    if end != words.len() {
+        return Err(Refusal::LeftOver);
     }
+    if out.len() < words.len() {
+        return fill_short(Whole::ADeclaration, words, pairs, text, out);
+    }
+    Ok(visit_declaration(words, pairs, text, out))
 }
 
 // The visit list of the type that an encoding holds, in the front of `out`.
-pub fn type_visit(words: &[u32], pairs: &[u32], text: &[u8], out: &mut [u32]) -> VisitAnswer
+pub fn type_visit(
+    words: &[u32],
+    pairs: &[u32],
+    text: &[u8],
+    out: &mut [u32],
+) -> Result<usize, Refusal>
     ensures { (result, out.new) ≡ filled out.old (type_visits words.now pairs.now text.now) }
 {
-    match encoding::check_tables(words, pairs, text) {
-        Check::Passed => fill_type(words, pairs, text, out),
-        Check::Failed(r) => VisitAnswer::Refused(r),
-    }
+    encoding::check_tables(words, pairs, text)?;
+    fill_type(words, pairs, text, out)
 }
 
 // The visit list of the declaration that an encoding holds, in the front of `out`.
-pub fn declaration_visit(words: &[u32], pairs: &[u32], text: &[u8], out: &mut [u32]) -> VisitAnswer
+pub fn declaration_visit(
+    words: &[u32],
+    pairs: &[u32],
+    text: &[u8],
+    out: &mut [u32],
+) -> Result<usize, Refusal>
     ensures { (result, out.new) ≡ filled out.old (declaration_visits words.now pairs.now text.now) }
 {
-    match encoding::check_tables(words, pairs, text) {
-        Check::Passed => fill_declaration(words, pairs, text, out),
-        Check::Failed(r) => VisitAnswer::Refused(r),
-    }
+    encoding::check_tables(words, pairs, text)?;
+    fill_declaration(words, pairs, text, out)
 }

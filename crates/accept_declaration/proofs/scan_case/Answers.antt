@@ -1,13 +1,14 @@
 use Rattle.accept_declaration.proofs.Ends.{case-ended}
 use mathlib.Core.Path.{◌∙◌, sym}
+use Rattle.encoding.proofs.Reading.{handed-on}
 use Rattle.accept_declaration.proofs.scan_case.Goals as goal
 
-pub returns-in-Both : goal.returns-in-Both
-returns-in-Both c =
+pub returns : goal.returns
+returns c =
     let a = c.args in
-    c.scan_fields.ensures ∙ sym (case-ended a.words.now a.pairs.now a.text.now a.at (sym (rw c.name_count-bound.ensures at c.scan_two.ensures) ∙ c.in-Both.is))
+    c.scan_fields.ensures ∙ sym (case-ended a.words.now a.pairs.now a.text.now a.at (sym (rw c.name_count-bound.ensures at c.scan_two.ensures) ∙ c.in_ok-next.was))
 
-pub returns-in-Neither : goal.returns-in-Neither
-returns-in-Neither c =
+pub returns-in_err-next : goal.returns-in_err-next
+returns-in_err-next c =
     let a = c.args in
-    sym (case-ended a.words.now a.pairs.now a.text.now a.at (sym (rw c.name_count-bound.ensures at c.scan_two.ensures) ∙ c.in-Neither.is))
+    handed-on c.from_residual.ensures.1 ∙ sym (case-ended a.words.now a.pairs.now a.text.now a.at (sym (rw c.name_count-bound.ensures at c.scan_two.ensures) ∙ c.in_err-next.was))

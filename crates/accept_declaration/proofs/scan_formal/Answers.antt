@@ -1,13 +1,14 @@
 use Rattle.accept_declaration.proofs.Ends.{formal-ended}
 use mathlib.Core.Path.{◌∙◌, sym}
+use Rattle.encoding.proofs.Reading.{handed-on}
 use Rattle.accept_declaration.proofs.scan_formal.Goals as goal
 
-pub returns-in-Word : goal.returns-in-Word
-returns-in-Word c =
+pub returns : goal.returns
+returns c =
     let a = c.args in
-    c.scan_type.ensures ∙ sym (formal-ended a.words.now a.pairs.now a.text.now a.at (sym (rw c.name_count.ensures at c.scan_below.ensures) ∙ c.in-Word.is))
+    c.scan_type.ensures ∙ sym (formal-ended a.words.now a.pairs.now a.text.now a.at (sym (rw c.name_count.ensures at c.scan_below.ensures) ∙ c.in_ok-next.was))
 
-pub returns-in-NoWord : goal.returns-in-NoWord
-returns-in-NoWord c =
+pub returns-in_err-next : goal.returns-in_err-next
+returns-in_err-next c =
     let a = c.args in
-    sym (formal-ended a.words.now a.pairs.now a.text.now a.at (sym (rw c.name_count.ensures at c.scan_below.ensures) ∙ c.in-NoWord.is))
+    handed-on c.from_residual.ensures.1 ∙ sym (formal-ended a.words.now a.pairs.now a.text.now a.at (sym (rw c.name_count.ensures at c.scan_below.ensures) ∙ c.in_err-next.was))

@@ -1,13 +1,14 @@
 use Rattle.accept_declaration.proofs.Ends.{parameter-ended}
 use mathlib.Core.Path.{◌∙◌, sym}
+use Rattle.encoding.proofs.Reading.{handed-on}
 use Rattle.accept_declaration.proofs.scan_parameter.Goals as goal
 
-pub returns-in-Both : goal.returns-in-Both
-returns-in-Both c =
+pub returns : goal.returns
+returns c =
     let a = c.args in
-    c.scan_types.ensures ∙ sym (parameter-ended a.words.now a.pairs.now a.text.now a.at (sym (rw c.name_count.ensures at c.scan_entry.ensures) ∙ c.in-Both.is))
+    c.scan_types.ensures ∙ sym (parameter-ended a.words.now a.pairs.now a.text.now a.at (sym (rw c.name_count.ensures at c.scan_entry.ensures) ∙ c.in_ok-second.was))
 
-pub returns-in-Neither : goal.returns-in-Neither
-returns-in-Neither c =
+pub returns-in_err-second : goal.returns-in_err-second
+returns-in_err-second c =
     let a = c.args in
-    sym (parameter-ended a.words.now a.pairs.now a.text.now a.at (sym (rw c.name_count.ensures at c.scan_entry.ensures) ∙ c.in-Neither.is))
+    handed-on c.from_residual.ensures.1 ∙ sym (parameter-ended a.words.now a.pairs.now a.text.now a.at (sym (rw c.name_count.ensures at c.scan_entry.ensures) ∙ c.in_err-second.was))

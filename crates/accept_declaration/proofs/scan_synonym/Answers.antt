@@ -1,13 +1,14 @@
 use Rattle.accept_declaration.proofs.Ends.{synonym-ended}
 use mathlib.Core.Path.{◌∙◌, sym}
+use Rattle.encoding.proofs.Reading.{handed-on}
 use Rattle.accept_declaration.proofs.scan_synonym.Goals as goal
 
-pub returns-in-At : goal.returns-in-At
-returns-in-At c =
+pub returns : goal.returns
+returns c =
     let a = c.args in
-    c.scan_type.ensures ∙ sym (synonym-ended a.words.now a.pairs.now a.text.now a.at (sym c.scan_heading.ensures ∙ c.in-At.is))
+    c.scan_type.ensures ∙ sym (synonym-ended a.words.now a.pairs.now a.text.now a.at (sym c.scan_heading.ensures ∙ c.in_ok-next.was))
 
-pub returns-in-Refused : goal.returns-in-Refused
-returns-in-Refused c =
+pub returns-in_err-next : goal.returns-in_err-next
+returns-in_err-next c =
     let a = c.args in
-    sym (synonym-ended a.words.now a.pairs.now a.text.now a.at (sym c.scan_heading.ensures ∙ c.in-Refused.is))
+    handed-on c.from_residual.ensures.1 ∙ sym (synonym-ended a.words.now a.pairs.now a.text.now a.at (sym c.scan_heading.ensures ∙ c.in_err-next.was))

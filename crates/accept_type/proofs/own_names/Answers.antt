@@ -2,9 +2,9 @@ use Prim.Native.Nat.{◌+◌}
 use mathlib.Core.Path.{refl}
 use Rattle.encoding.specs.declared.Head.TheVariants.{FromPath}
 use Rattle.encoding.specs.Reading.{read_below}
-use Rattle.encoding.proofs.Reading.{word_got, word-stop}
+use Rattle.encoding.proofs.Reading.{handed-on, read-got, read-stop}
 use Rattle.text_measure.proofs.PathNames.{names-on, path-halt, path-all}
-use Rattle.text_measure.proofs.Scans.{below-got}
+use Rattle.encoding.proofs.Inside.{below-there}
 use Rattle.accept_type.proofs.Scans.{scanned-leaf, scanned-stop}
 use native.Mathlib.Omega.{arith}
 use borrow.Author.Rules.{rules}
@@ -16,25 +16,19 @@ overflow_add-end c = omega (arith, c.requires.1)
 pub loop-i-init : goal.loop-i-init
 loop-i-init c = record { within = omega arith; inside = c.requires.1; read = refl }
 
-pub loop-i-smaller : goal.loop-i-smaller
-loop-i-smaller c =
-    let a = c.args in
-    let l = c.loop-i in
-    omega (arith, (below-got a.bound a.words.now l.i c.scan_below.ensures c.in-Word.is).next)
-
 pub loop-i-preserved : goal.loop-i-preserved
 loop-i-preserved c =
     let a = c.args in
     let l = c.loop-i in
-    let e = word_got (read_below a.bound a.words.now l.i) c.scan_below.ensures c.in-Word.is in
-    names-on a.bound a.words.now a.path.start (a.path.start + a.path.count) l.i l.invariant (search rules) e
+    let e = read-got (read_below a.bound a.words.now l.i) c.scan_below.ensures c.in_ok-scan_below.was in
+    rw (below-there a.bound a.words.now l.i e).next at (names-on a.bound a.words.now a.path.start (a.path.start + a.path.count) l.i l.invariant (search rules) e)
 
-pub returns-in-NoWord : goal.returns-in-NoWord
-returns-in-NoWord c =
+pub returns-in_err-scan_below : goal.returns-in_err-scan_below
+returns-in_err-scan_below c =
     let a = c.args in
     let l = c.loop-i in
-    let e = word-stop (read_below a.bound a.words.now l.i) c.scan_below.ensures c.in-NoWord.is in
-    scanned-stop (rw (path-halt a.bound a.words.now a.path l.i l.invariant (search rules) e)) refl
+    let e = read-stop (read_below a.bound a.words.now l.i) c.scan_below.ensures c.in_err-scan_below.was in
+    scanned-stop (rw (path-halt a.bound a.words.now a.path l.i l.invariant (search rules) e)) (handed-on c.from_residual.ensures.1)
 
 pub returns : goal.returns
 returns c =

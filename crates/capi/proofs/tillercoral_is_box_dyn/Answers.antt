@@ -1,4 +1,4 @@
 use Rattle.capi.proofs.tillercoral_is_box_dyn.Goals as goal
 
 pub returns : goal.returns
-returns c = rw c.is_box_dyn.ensures at c.shape_number.ensures
+returns c = rw c.is_box_dyn.ensures at c.truth_number.ensures

@@ -1,4 +1,4 @@
 use Rattle.capi.proofs.tillercoral_is_rc_or_borrowed_rc.Goals as goal
 
 pub returns : goal.returns
-returns c = rw c.is_rc_or_borrowed_rc.ensures at c.shape_number.ensures
+returns c = rw c.is_rc_or_borrowed_rc.ensures at c.truth_number.ensures

@@ -1,6 +1,6 @@
-use Rattle.answer_numbers.specs.Numbers.{rebuild_call}
+use Rattle.answer_numbers.specs.Numbers.{count_call}
 use mathlib.Core.Path.{ap}
 use Rattle.capi.proofs.tillercoral_type_rebuild.Goals as goal
 
 pub returns : goal.returns
-returns c = rw c.rebuild_number.ensures (ap rebuild_call c.type_rebuild.ensures)
+returns c = rw c.count_number.ensures (ap count_call c.type_rebuild.ensures)

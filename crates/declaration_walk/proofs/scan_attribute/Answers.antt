@@ -1,13 +1,14 @@
 use Rattle.declaration_walk.proofs.Scans.{attribute-ended}
+use Rattle.encoding.proofs.Reading.{handed-on}
 use mathlib.Core.Path.{◌∙◌, sym}
 use Rattle.declaration_walk.proofs.scan_attribute.Goals as goal
 
-pub returns-in-Both : goal.returns-in-Both
-returns-in-Both c =
+pub returns : goal.returns
+returns c =
     let a = c.args in
-    c.scan_names.ensures ∙ sym (attribute-ended a.bound a.words.now a.at (sym c.scan_entry.ensures ∙ c.in-Both.is))
+    c.scan_names.ensures ∙ sym (attribute-ended a.bound a.words.now a.at (sym c.scan_entry.ensures ∙ c.in_ok-second.was))
 
-pub returns-in-Neither : goal.returns-in-Neither
-returns-in-Neither c =
+pub returns-in_err-second : goal.returns-in_err-second
+returns-in_err-second c =
     let a = c.args in
-    sym (attribute-ended a.bound a.words.now a.at (sym c.scan_entry.ensures ∙ c.in-Neither.is))
+    handed-on c.from_residual.ensures.1 ∙ sym (attribute-ended a.bound a.words.now a.at (sym c.scan_entry.ensures ∙ c.in_err-second.was))

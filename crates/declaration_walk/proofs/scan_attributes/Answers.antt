@@ -1,16 +1,17 @@
 use Rattle.declaration_walk.specs.Walks.{read_attributes, read_one_attribute}
 use Rattle.declaration_walk.proofs.Scans.{counted-ended}
+use Rattle.encoding.proofs.Reading.{handed-on}
 use mathlib.Core.Path.{◌∙◌, sym}
 use Rattle.declaration_walk.proofs.scan_attributes.Goals as goal
 
-pub returns-in-Word : goal.returns-in-Word
+pub returns : goal.returns
 unfolding read_attributes
-returns-in-Word c =
+returns c =
     let a = c.args in
-    c.scan_each_attribute.ensures ∙ sym (counted-ended a.words.now (read_one_attribute a.bound a.words.now) a.at (sym c.scan_word.ensures ∙ c.in-Word.is))
+    c.scan_each_attribute.ensures ∙ sym (counted-ended a.words.now (read_one_attribute a.bound a.words.now) a.at (sym c.scan_word.ensures ∙ c.in_ok-value.was))
 
-pub returns-in-NoWord : goal.returns-in-NoWord
+pub returns-in_err-value : goal.returns-in_err-value
 unfolding read_attributes
-returns-in-NoWord c =
+returns-in_err-value c =
     let a = c.args in
-    sym (counted-ended a.words.now (read_one_attribute a.bound a.words.now) a.at (sym c.scan_word.ensures ∙ c.in-NoWord.is))
+    handed-on c.from_residual.ensures.1 ∙ sym (counted-ended a.words.now (read_one_attribute a.bound a.words.now) a.at (sym c.scan_word.ensures ∙ c.in_err-value.was))

@@ -1,22 +1,24 @@
 use Rattle.encoding.specs.Reading.{read_below, read_word}
+use Rattle.encoding.proofs.Reading.{handed-on}
+use mathlib.Core.Path.{◌∙◌}
 use Rattle.declaration_walk.specs.Walks.{read_entry}
 use Rattle.declaration_walk.proofs.Scans.{both_read, second-refused, first-refused}
 use Rattle.declaration_walk.proofs.scan_entry.Goals as goal
 
-pub returns-in-Word-scan_word : goal.returns-in-Word-scan_word
+pub returns : goal.returns
 unfolding read_entry
-returns-in-Word-scan_word c =
+returns c =
     let a = c.args in
-    both_read (read_below a.bound a.words.now a.at) (read_word a.words.now) c.scan_below.ensures c.in-Word.is c.scan_word.ensures c.in-Word-scan_word.is
+    both_read (read_below a.bound a.words.now a.at) (read_word a.words.now) c.scan_below.ensures c.in_ok-first.was c.scan_word.ensures c.in_ok-second.was
 
-pub returns-in-NoWord-scan_word : goal.returns-in-NoWord-scan_word
+pub returns-in_err-second : goal.returns-in_err-second
 unfolding read_entry
-returns-in-NoWord-scan_word c =
+returns-in_err-second c =
     let a = c.args in
-    second-refused (read_below a.bound a.words.now a.at) (read_word a.words.now) c.scan_below.ensures c.in-Word.is c.scan_word.ensures c.in-NoWord-scan_word.is
+    handed-on c.from_residual-in_err-second.ensures.1 ∙ second-refused (read_below a.bound a.words.now a.at) (read_word a.words.now) c.scan_below.ensures c.in_ok-first.was c.scan_word.ensures c.in_err-second.was
 
-pub returns-in-NoWord : goal.returns-in-NoWord
+pub returns-in_err-first : goal.returns-in_err-first
 unfolding read_entry
-returns-in-NoWord c =
+returns-in_err-first c =
     let a = c.args in
-    first-refused (read_below a.bound a.words.now a.at) (read_word a.words.now) c.scan_below.ensures c.in-NoWord.is
+    handed-on c.from_residual.ensures.1 ∙ first-refused (read_below a.bound a.words.now a.at) (read_word a.words.now) c.scan_below.ensures c.in_err-first.was

@@ -1,22 +1,24 @@
 use Rattle.encoding.specs.Reading.{read_below}
+use Rattle.encoding.proofs.Reading.{handed-on}
+use mathlib.Core.Path.{◌∙◌}
 use Rattle.declaration_walk.specs.Walks.{read_two}
 use Rattle.declaration_walk.proofs.Scans.{both_read, second-refused, first-refused}
 use Rattle.declaration_walk.proofs.scan_two.Goals as goal
 
-pub returns-in-Word-scan_below : goal.returns-in-Word-scan_below
+pub returns : goal.returns
 unfolding read_two
-returns-in-Word-scan_below c =
+returns c =
     let a = c.args in
-    both_read (read_below a.bound a.words.now a.at) (read_below a.other a.words.now) c.scan_below.ensures c.in-Word.is c.scan_below-in-Word.ensures c.in-Word-scan_below.is
+    both_read (read_below a.bound a.words.now a.at) (read_below a.other a.words.now) c.scan_below.ensures c.in_ok-first.was c.scan_below-2.ensures c.in_ok-second.was
 
-pub returns-in-NoWord-scan_below : goal.returns-in-NoWord-scan_below
+pub returns-in_err-second : goal.returns-in_err-second
 unfolding read_two
-returns-in-NoWord-scan_below c =
+returns-in_err-second c =
     let a = c.args in
-    second-refused (read_below a.bound a.words.now a.at) (read_below a.other a.words.now) c.scan_below.ensures c.in-Word.is c.scan_below-in-Word.ensures c.in-NoWord-scan_below.is
+    handed-on c.from_residual-in_err-second.ensures.1 ∙ second-refused (read_below a.bound a.words.now a.at) (read_below a.other a.words.now) c.scan_below.ensures c.in_ok-first.was c.scan_below-2.ensures c.in_err-second.was
 
-pub returns-in-NoWord : goal.returns-in-NoWord
+pub returns-in_err-first : goal.returns-in_err-first
 unfolding read_two
-returns-in-NoWord c =
+returns-in_err-first c =
     let a = c.args in
-    first-refused (read_below a.bound a.words.now a.at) (read_below a.other a.words.now) c.scan_below.ensures c.in-NoWord.is
+    handed-on c.from_residual.ensures.1 ∙ first-refused (read_below a.bound a.words.now a.at) (read_below a.other a.words.now) c.scan_below.ensures c.in_err-first.was

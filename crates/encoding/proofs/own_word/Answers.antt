@@ -1,7 +1,8 @@
+use Rattle.encoding.proofs.Reading.{handed-on}
 use Rattle.encoding.proofs.own_word.Goals as goal
 
-pub returns-in-Word : goal.returns-in-Word
-returns-in-Word c = rw (c.in-Word.is, c.head_of-head.ensures)
+pub returns : goal.returns
+returns c = rw (c.in_ok-value.was, c.head_of-head.ensures)
 
-pub returns-in-NoWord : goal.returns-in-NoWord
-returns-in-NoWord c = rw c.in-NoWord.is
+pub returns-in_err-value : goal.returns-in_err-value
+returns-in_err-value c = rw (c.in_err-value.was, handed-on c.from_residual.ensures.1)

@@ -1,28 +1,32 @@
+use Prim.Native.Nat.{◌+◌, ◌-◌}
 use mathlib.Core.Path.{◌≡◌, sym, ap, ◌∙◌}
+use native.Mathlib.Nat.{sub-zero}
 use Rattle.encoding.specs.Reading.{read_below}
 use Rattle.encoding.specs.Scans.{ended}
-use Rattle.encoding.proofs.Reading.{word_got, word-stop, names_more, names-stop, names-none}
+use Rattle.encoding.proofs.Reading.{handed-on, read-got, read-stop, names_more, names-stop, names-none}
 use native.Mathlib.Omega.{arith}
-use borrow.Author.Rules.{rules}
 use Rattle.encoding.proofs.scan_names.Goals as goal
 
-pub returns-in-NoWord : goal.returns-in-NoWord
-returns-in-NoWord c =
-    let s = c in
-    let l = c.loop-left in
-    let e = word-stop (read_below s.args.bound s.args.words.now l.pos) c.scan_below.ensures c.in-NoWord.is in
-    ap ended (sym (names-stop s.args.bound s.args.words.now l.pos l.left _ (search rules) e) ∙ l.invariant)
+pub returns-in_err-next : goal.returns-in_err-next
+returns-in_err-next c =
+    let a = c.args in
+    let l = c.loop in
+    let e = read-stop (read_below a.bound a.words.now l.pos) c.scan_below.ensures c.in_err-next.was in
+    handed-on c.from_residual.ensures.1 ∙ ap ended (sym (names-stop a.bound a.words.now l.pos (a.count - l.counter) _ (omega arith) e) ∙ l.invariant)
 
-pub loop-left-preserved : goal.loop-left-preserved
-loop-left-preserved c =
-    let s = c in
-    let l = c.loop-left in
-    let e = word_got (read_below s.args.bound s.args.words.now l.pos) c.scan_below.ensures c.in-Word.is in
-    sym (names_more s.args.bound s.args.words.now l.pos l.left _ _ (search rules) e) ∙ l.invariant
+pub loop-init : goal.loop-init
+loop-init c = rw sub-zero
+
+pub loop-preserved : goal.loop-preserved
+loop-preserved c =
+    let a = c.args in
+    let l = c.loop in
+    let e = read-got (read_below a.bound a.words.now l.pos) c.scan_below.ensures c.in_ok-next.was in
+    let d : a.count - (l.counter + 1) ≡ a.count - l.counter - 1 = omega arith in
+    rw d (sym (names_more a.bound a.words.now l.pos (a.count - l.counter) _ _ (omega arith) e) ∙ l.invariant)
 
 pub returns : goal.returns
 returns c =
-    let s = c in
-    let l = c.loop-left in
-    let z : l.left ≡ 0 = omega arith in
-    ap ended (sym (names-none s.args.bound s.args.words.now l.pos l.left z) ∙ l.invariant)
+    let a = c.args in
+    let l = c.loop in
+    ap ended (sym (names-none a.bound a.words.now l.pos (a.count - l.counter) (omega arith)) ∙ l.invariant)

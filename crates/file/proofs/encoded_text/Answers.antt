@@ -1,5 +1,5 @@
 use Rattle.std.proofs.Common.{◌∙◌, ap, rules}
-use Rattle.text_calls.specs.Calls.{filled}
+use Rattle.encoding.specs.Filled.{filled}
 use Rattle.file.proofs.Files.{call-of, numbers-lent, text-lent}
 use Rattle.file.proofs.encoded_text.Goals as goal
 

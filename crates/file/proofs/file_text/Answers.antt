@@ -1,6 +1,6 @@
 use Rattle.file.proofs.Files.{described, header-short, length-right, length-wrong, pairs-over, text-over, words-over}
 use Rattle.file.specs.File.{described_text, file_text}
-use Rattle.text_calls.specs.Calls.{filled}
+use Rattle.encoding.specs.Filled.{filled}
 use mathlib.Core.Path.{◌≡◌, ◌∙◌, ap}
 use Rattle.file.proofs.file_text.Goals as goal
 

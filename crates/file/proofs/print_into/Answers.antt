@@ -12,13 +12,13 @@ slice_bounds-file_text-end-2 c = sym (length-take-le _ c.args.out.now (omega (ar
 pub put-requires : goal.put-requires
 put-requires c =
     let front : 65536 ≤ length c.args.out.now = omega (arith, c.requires) in
-    let w = within _ c.file_text.new.out (file_text c.args.file.now) c.file_text.ensures c.in-Length.is in
+    let w = within _ c.file_text.new.out (file_text c.args.file.now) c.file_text.ensures c.in-Ok.is in
     omega (arith, c.requires, c.file_text.auto.out, w, length-take-le 65536 c.args.out.now front, length_front c.args.out.now c.file_text.new.out 65536 c.file_text.auto.out)
 
-pub returns-in-Length : goal.returns-in-Length
+pub returns-in-Ok : goal.returns-in-Ok
 unfolding ascii printed_file
-returns-in-Length c = text-printed c.args.out.now c.file_text.new.out c.requires (file_text c.args.file.now) c.file_text.ensures c.in-Length.is c.put.ensures
+returns-in-Ok c = text-printed c.args.out.now c.file_text.new.out c.requires (file_text c.args.file.now) c.file_text.ensures c.in-Ok.is c.put.ensures
 
-pub returns-in-Refused : goal.returns-in-Refused
+pub returns-in-Err : goal.returns-in-Err
 unfolding printed_file
-returns-in-Refused c = refusal-printed c.args.out.now c.file_text.new.out c.requires (file_text c.args.file.now) c.file_text.ensures c.in-Refused.is c.put_refusal.ensures
+returns-in-Err c = refusal-printed c.args.out.now c.file_text.new.out c.requires (file_text c.args.file.now) c.file_text.ensures c.in-Err.is c.put_refusal.ensures

@@ -2,6 +2,7 @@ use Rattle.encoding.specs.Tables.{fixed_names}
 use Rattle.rast.specs.Bytes.{◌and◌, among, ascii, same}
 use Rattle.known_paths.specs.Classes.{member_in}
 use Rattle.std.proofs.Common.{refl, arith}
+use Rattle.std.proofs.lemmas.Grind.{common_steps}
 use Rattle.known_paths.proofs.is_member.Goals as goal
 
 pub is_name-requires : goal.is_name-requires
@@ -22,15 +23,7 @@ is_other_name-requires c = (c.requires.0, c.requires.1, refl)
 
 pub returns-in-Counted : goal.returns-in-Counted
 unfolding member_in
-returns-in-Counted c = rw c.in-Counted.is refl
-
-pub returns-in-Boxed : goal.returns-in-Boxed
-unfolding member_in
-returns-in-Boxed c = rw c.in-Boxed.is refl
-
-pub returns-in-Uninit : goal.returns-in-Uninit
-unfolding member_in
-returns-in-Uninit c = rw c.in-Uninit.is refl
+returns-in-Counted c = grind (arith, common_steps)
 
 pub returns-in-Placebo : goal.returns-in-Placebo
 unfolding member_in fixed_names

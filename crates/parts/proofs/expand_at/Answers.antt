@@ -1,3 +1,5 @@
+use Rattle.encoding.proofs.Reading.{handed-on}
+use Rattle.std.proofs.Common.{◌∙◌}
 use Rattle.shapes.proofs.Answers.{accepted, ready}
 use Rattle.shapes.specs.Parts.{ExpandAt}
 use Rattle.parts.proofs.Spans.{expanded-end, expanded-given, part-forward, part-refused}
@@ -6,19 +8,19 @@ use Rattle.parts.proofs.expand_at.Goals as goal
 pub expand-start-requires : goal.expand-start-requires
 expand-start-requires c =
     let a = c.args in
-    (ready a.words.now a.pairs.now a.text.now c.accept.ensures c.in-Passed.is).1
+    (ready a.words.now a.pairs.now a.text.now c.accept.ensures c.in_ok-accept.was).1
 
-pub overflow_sub-result : goal.overflow_sub-result
-overflow_sub-result c =
+pub overflow_sub-length : goal.overflow_sub-length
+overflow_sub-length c =
     let a = c.args in
-    part-forward a.words.now a.pairs.now a.text.now _ (expanded-end a.words.now a.pairs.now a.text.now (accepted a.words.now a.pairs.now a.text.now c.accept.ensures c.in-Passed.is) c.expand-start.ensures)
+    part-forward a.words.now a.pairs.now a.text.now _ (expanded-end a.words.now a.pairs.now a.text.now (accepted a.words.now a.pairs.now a.text.now c.accept.ensures c.in_ok-accept.was) c.expand-start.ensures)
 
-pub returns-in-Passed : goal.returns-in-Passed
-returns-in-Passed c =
+pub returns : goal.returns
+returns c =
     let a = c.args in
-    expanded-given a.words.now a.pairs.now a.text.now (accepted a.words.now a.pairs.now a.text.now c.accept.ensures c.in-Passed.is) c.expand-start.ensures
+    expanded-given a.words.now a.pairs.now a.text.now (accepted a.words.now a.pairs.now a.text.now c.accept.ensures c.in_ok-accept.was) c.expand-start.ensures
 
-pub returns-in-Failed : goal.returns-in-Failed
-returns-in-Failed c =
+pub returns-in_err-accept : goal.returns-in_err-accept
+returns-in_err-accept c =
     let a = c.args in
-    part-refused a.words.now a.pairs.now a.text.now ExpandAt c.accept.ensures c.in-Failed.is
+    handed-on c.from_residual.ensures.1 ∙ part-refused a.words.now a.pairs.now a.text.now ExpandAt c.accept.ensures c.in_err-accept.was

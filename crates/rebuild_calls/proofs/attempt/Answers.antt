@@ -13,25 +13,25 @@ finish-requires c =
     let s = c in
     let tree : Reading RebuiltWords = laid_by s.args.what s.args.words.now s.args.pairs.now (mapping s.args.rules.now s.args.pairs.now s.args.text.now) in
     let m = c.room_of-limit.ensures in
-    attempt-fits tree s.args.out.now c.rebuild_whole.ensures (omega (arith, m)) (omega (arith, m, s.requires.3)) c.in-Done.is
+    attempt-fits tree s.args.out.now c.rebuild_whole.ensures (omega (arith, m)) (omega (arith, m, s.requires.3)) c.in-Some.is
 
-pub returns-in-Length : goal.returns-in-Length
-returns-in-Length c =
+pub returns-in-Ok : goal.returns-in-Ok
+returns-in-Ok c =
     let s = c in
     let tree : Reading RebuiltWords = laid_by s.args.what s.args.words.now s.args.pairs.now (mapping s.args.rules.now s.args.pairs.now s.args.text.now) in
     let m = c.room_of-limit.ensures in
-    limit_is m (attempt-filled tree s.args.out.now c.rebuild_whole.ensures (omega (arith, m, s.requires.3)) c.in-Done.is c.finish.ensures c.in-Length.is)
+    limit_is m (attempt-filled tree s.args.out.now c.rebuild_whole.ensures (omega (arith, m, s.requires.3)) c.in-Some.is c.finish.ensures c.in-Ok.is)
 
-pub returns-in-Refused : goal.returns-in-Refused
-returns-in-Refused c =
+pub returns-in-Err : goal.returns-in-Err
+returns-in-Err c =
     let s = c in
     let tree : Reading RebuiltWords = laid_by s.args.what s.args.words.now s.args.pairs.now (mapping s.args.rules.now s.args.pairs.now s.args.text.now) in
     let m = c.room_of-limit.ensures in
-    limit_is m (attempt-denied tree s.args.out.now c.rebuild_whole.ensures (omega (arith, m, s.requires.3)) c.in-Done.is c.finish.ensures c.in-Refused.is)
+    limit_is m (attempt-denied tree s.args.out.now c.rebuild_whole.ensures (omega (arith, m, s.requires.3)) c.in-Some.is c.finish.ensures c.in-Err.is)
 
-pub returns-in-Full : goal.returns-in-Full
-returns-in-Full c =
+pub returns-in-None : goal.returns-in-None
+returns-in-None c =
     let s = c in
     let tree : Reading RebuiltWords = laid_by s.args.what s.args.words.now s.args.pairs.now (mapping s.args.rules.now s.args.pairs.now s.args.text.now) in
     limit_is c.room_of-limit.ensures
-    (attempt-full tree s.args.out.now c.rebuild_whole.ensures s.requires.2.reads c.in-Full.is refl)
+    (attempt-full tree s.args.out.now c.rebuild_whole.ensures s.requires.2.reads c.in-None.is refl)

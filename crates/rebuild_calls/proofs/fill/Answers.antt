@@ -8,7 +8,7 @@ attempt-requires c = let pre = c.requires in (pre.0, pre.1, ended-readable _ pre
 
 pub returns-then-out-le-LITTLE_SCRATCH : goal.returns-then-out-le-LITTLE_SCRATCH
 returns-then-out-le-LITTLE_SCRATCH c =
-    attempt-over c.attempt.ensures c.in-NoRoom.is (omega (arith, c.if-out-le-LITTLE_SCRATCH.true, c.out-2-1.given)) c.clear.ensures
+    attempt-over c.attempt.ensures c.in-NoRoom.is (omega arith) c.clear.ensures
 
 pub returns-in-Filled : goal.returns-in-Filled
 returns-in-Filled c = filled-fills c.attempt.ensures c.in-Filled.is

@@ -11,13 +11,13 @@ add_words-requires c =
     let k = field-own c.requires.0 c.requires.1 c.field_type-at.ensures in
     (omega (arith, k.further, k.inside), s.within, s.room)
 
-pub returns-in_default : goal.returns-in_default
-returns-in_default c = field-over c.requires.0 c.requires.1 c.field_type-at.ensures c.add_words.ensures c.in_default.is
+pub returns-in_err-p : goal.returns-in_err-p
+returns-in_err-p c = rw c.from_residual.ensures (field-over c.requires.0 c.requires.1 c.field_type-at.ensures c.add_words.ensures c.in_err-p.was)
 
 pub rebuild_type-requires : goal.rebuild_type-requires
 rebuild_type-requires c =
-    let s = field-ready c.requires.0 c.requires.1 c.field_type-at.ensures c.add_words.ensures c.in-To.is in
-    (s.good, s.ruled, field-readable c.requires.0 c.requires.1 c.field_type-at.ensures c.add_words.ensures c.in-To.is, s.within, s.room)
+    let s = field-ready c.requires.0 c.requires.1 c.field_type-at.ensures c.add_words.ensures c.in_ok-p.was in
+    (s.good, s.ruled, field-readable c.requires.0 c.requires.1 c.field_type-at.ensures c.add_words.ensures c.in_ok-p.was, s.within, s.room)
 
 pub returns : goal.returns
-returns c = field-advanced c.requires.0 c.requires.1 c.field_type-at.ensures c.add_words.ensures c.in-To.is c.rebuild_type.ensures
+returns c = field-advanced c.requires.0 c.requires.1 c.field_type-at.ensures c.add_words.ensures c.in_ok-p.was c.rebuild_type.ensures

@@ -1,5 +1,5 @@
 use Rattle.rebuild_type.specs.Laid.{mapping}
-use Rattle.rebuild_declaration.proofs.Steps.{always-begun, opening-over, opening-ready, opening-rest, Opened, opens}
+use Rattle.rebuild_declaration.proofs.Steps.{always-begun, opening-over, opening-ready, opening-rest, opens}
 use native.Mathlib.Omega.{arith}
 use Rattle.rebuild_declaration.proofs.rebuild_declaration.Goals as goal
 
@@ -8,23 +8,24 @@ returns-in_default c = absurd (always-begun c.args.words.now c.args.pairs.now c.
 
 pub add_words-requires : goal.add_words-requires
 add_words-requires c =
-    let opened : let s = c in Opened s.args.words.now s.args.pairs.now s.args.text.now s.requires.2 c.in-Begun.walk = let s = c in opens s.args.words.now s.args.pairs.now s.args.text.now s.requires.2 c.name_count.ensures c.start_walk.ensures c.in-Begun.is in
-    let k = opened in (omega (arith, k.inside), omega arith, c.requires.3)
+    let a = c.args in
+    let k = opens a.words.now a.pairs.now a.text.now c.requires.2 c.name_count.ensures c.start_walk.ensures c.in-Ok.is in
+    (omega (arith, k.inside), omega arith, c.requires.3)
 
 pub rebuild_rest-requires : goal.rebuild_rest-requires
 rebuild_rest-requires c =
-    let opened : let s = c in Opened s.args.words.now s.args.pairs.now s.args.text.now s.requires.2 c.in-Begun.walk = let s = c in opens s.args.words.now s.args.pairs.now s.args.text.now s.requires.2 c.name_count.ensures c.start_walk.ensures c.in-Begun.is in
-    let s = c in
-    opening-ready s.args.words.now s.args.pairs.now s.args.text.now s.requires.2 opened c.add_words.ensures s.requires.0 s.requires.1 s.requires.3 c.in-To.is
+    let a = c.args in let pre = c.requires in
+    let k = opens a.words.now a.pairs.now a.text.now pre.2 c.name_count.ensures c.start_walk.ensures c.in-Ok.is in
+    opening-ready a.words.now a.pairs.now a.text.now pre.2 k c.add_words.ensures pre.0 pre.1 pre.3 c.in_ok-p.was
 
-pub returns-in-To : goal.returns-in-To
-returns-in-To c =
-    let opened : let s = c in Opened s.args.words.now s.args.pairs.now s.args.text.now s.requires.2 c.in-Begun.walk = let s = c in opens s.args.words.now s.args.pairs.now s.args.text.now s.requires.2 c.name_count.ensures c.start_walk.ensures c.in-Begun.is in
-    let s = c in
-    opening-rest s.args.words.now s.args.pairs.now s.args.text.now s.requires.2 opened c.add_words.ensures (mapping s.args.rules.now s.args.pairs.now s.args.text.now) c.in-To.is c.rebuild_rest.ensures
+pub returns : goal.returns
+returns c =
+    let a = c.args in let pre = c.requires in
+    let k = opens a.words.now a.pairs.now a.text.now pre.2 c.name_count.ensures c.start_walk.ensures c.in-Ok.is in
+    opening-rest a.words.now a.pairs.now a.text.now pre.2 k c.add_words.ensures (mapping a.rules.now a.pairs.now a.text.now) c.in_ok-p.was c.rebuild_rest.ensures
 
-pub returns-in-Over : goal.returns-in-Over
-returns-in-Over c =
-    let opened : let s = c in Opened s.args.words.now s.args.pairs.now s.args.text.now s.requires.2 c.in-Begun.walk = let s = c in opens s.args.words.now s.args.pairs.now s.args.text.now s.requires.2 c.name_count.ensures c.start_walk.ensures c.in-Begun.is in
-    let s = c in
-    opening-over s.args.words.now s.args.pairs.now s.args.text.now s.requires.2 opened c.add_words.ensures (mapping s.args.rules.now s.args.pairs.now s.args.text.now) c.in-Over.is
+pub returns-in_err-p : goal.returns-in_err-p
+returns-in_err-p c =
+    let a = c.args in let pre = c.requires in
+    let k = opens a.words.now a.pairs.now a.text.now pre.2 c.name_count.ensures c.start_walk.ensures c.in-Ok.is in
+    rw c.from_residual.ensures (opening-over a.words.now a.pairs.now a.text.now pre.2 k c.add_words.ensures (mapping a.rules.now a.pairs.now a.text.now) c.in_err-p.was)

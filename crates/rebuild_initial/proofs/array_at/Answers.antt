@@ -1,8 +1,6 @@
 use Rattle.std.proofs.Common.{refl, rules}
 use Rattle.tree_words.proofs.Heads.{tree-here}
 use Rattle.known_paths.proofs.Worded.{word-here}
-use Rattle.encoding.specs.Types.{type_at}
-use Rattle.accepted_types.specs.Accepted.{Readable}
 use Rattle.rebuild_initial.proofs.Changes.{expanded-readable, new-no-part, new-part, new-sized, new-unsized, no-application, size-here, type-readable}
 use Rattle.rebuild_initial.proofs.array_at.Goals as goal
 
@@ -35,12 +33,12 @@ expand-start-requires c = let s = c in let a = s.args in type-readable a.words.n
 
 pub offset_bounds-words-start : goal.offset_bounds-words-start
 offset_bounds-words-start c =
-    let behind : Readable (type_at c.args.words.now c.args.pairs.now c.args.text.now c.expand-start.result) = let s = c in let a = s.args in expanded-readable a.words.now a.pairs.now a.text.now a.at s.requires.1 c.expand-start.ensures in
+    let behind = expanded-readable c.args.words.now c.args.pairs.now c.args.text.now c.args.at c.requires.1 c.expand-start.ensures in
     let a = c.args in let h = word-here a.words.now a.pairs.now a.text.now _ behind in search rules
 
 pub bounds-words-start : goal.bounds-words-start
 bounds-words-start c =
-    let behind : Readable (type_at c.args.words.now c.args.pairs.now c.args.text.now c.expand-start.result) = let s = c in let a = s.args in expanded-readable a.words.now a.pairs.now a.text.now a.at s.requires.1 c.expand-start.ensures in
+    let behind = expanded-readable c.args.words.now c.args.pairs.now c.args.text.now c.args.at c.requires.1 c.expand-start.ensures in
     let a = c.args in word-here a.words.now a.pairs.now a.text.now _ behind
 
 pub returns-then-words-start-ne-TYPE_APP : goal.returns-then-words-start-ne-TYPE_APP
@@ -50,15 +48,15 @@ returns-then-words-start-ne-TYPE_APP c =
 
 pub first_argument-requires : goal.first_argument-requires
 first_argument-requires c =
-    let behind : Readable (type_at c.args.words.now c.args.pairs.now c.args.text.now c.expand-start.result) = let s = c in let a = s.args in expanded-readable a.words.now a.pairs.now a.text.now a.at s.requires.1 c.expand-start.ensures in
+    let behind = expanded-readable c.args.words.now c.args.pairs.now c.args.text.now c.args.at c.requires.1 c.expand-start.ensures in
     (c.requires.0, behind)
 
-pub returns-in_default : goal.returns-in_default
-returns-in_default c =
+pub returns-in_err-element : goal.returns-in_err-element
+returns-in_err-element c =
     let s = c in let a = s.args in
-    new-no-part a.words.now a.pairs.now a.text.now a.at s.requires.1 c.if-words-at-eq-ARRAY.false _ c.expand-start.ensures c.first_argument.ensures c.in_default.is
+    rw c.from_residual.ensures (new-no-part a.words.now a.pairs.now a.text.now a.at s.requires.1 c.if-words-at-eq-ARRAY.false _ c.expand-start.ensures c.first_argument.ensures c.in_err-element.was)
 
 pub returns : goal.returns
 returns c =
     let s = c in let a = s.args in
-    new-part a.words.now a.pairs.now a.text.now a.at s.requires.1 c.if-words-at-eq-ARRAY.false _ c.expand-start.ensures c.first_argument.ensures c.in-At.is
+    new-part a.words.now a.pairs.now a.text.now a.at s.requires.1 c.if-words-at-eq-ARRAY.false _ c.expand-start.ensures c.first_argument.ensures c.in_ok-element.was

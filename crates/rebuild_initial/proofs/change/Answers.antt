@@ -1,17 +1,15 @@
-use Rattle.std.proofs.Common.{length, sym, refl, ◌∙◌, arith, ltb-false, ltb-true}
-use Rattle.tree_words.specs.Numbered.{tree_at}
-use Rattle.rebuild_rules.specs.Scans.{depth_of}
-use Rattle.rebuild_initial.proofs.Filling.{Changes, change-deep, change-front, change-over, changes, element-shallow}
+use Rattle.std.proofs.Common.{sym, refl, ◌∙◌, arith, ltb-false, ltb-true}
+use Rattle.rebuild_initial.proofs.Filling.{change-deep, change-front, change-over, changes, element-shallow}
 use Rattle.rebuild_initial.proofs.change.Goals as goal
 
 pub overflow_sub-count : goal.overflow_sub-count
 overflow_sub-count c =
-    let changing : let a = c.args in Changes a.words.now a.pairs.now a.text.now a.start a.element (length a.words.now) (depth_of (tree_at a.words.now a.pairs.now a.element)) = changes c.args.words.now c.args.pairs.now c.args.text.now c.requires.1 c.requires.3 in
+    let changing = changes c.args.words.now c.args.pairs.now c.args.text.now c.requires.1 c.requires.3 in
     let k = changing in omega (arith, k.own, k.inner)
 
 pub returns-then-room_of-count : goal.returns-then-room_of-count
 returns-then-room_of-count c =
-    let changing : let a = c.args in Changes a.words.now a.pairs.now a.text.now a.start a.element (length a.words.now) (depth_of (tree_at a.words.now a.pairs.now a.element)) = changes c.args.words.now c.args.pairs.now c.args.text.now c.requires.1 c.requires.3 in
+    let changing = changes c.args.words.now c.args.pairs.now c.args.text.now c.requires.1 c.requires.3 in
     let s = c in let a = s.args in
     let k = changing in
     change-over a.words.now a.pairs.now a.text.now k a.out.now refl (omega (arith, c.room_of.ensures, c.if-room_of-count.true)) c.clear.ensures
@@ -22,20 +20,20 @@ is_too_deep-requires c =
 
 pub returns-then-is_too_deep : goal.returns-then-is_too_deep
 returns-then-is_too_deep c =
-    let changing : let a = c.args in Changes a.words.now a.pairs.now a.text.now a.start a.element (length a.words.now) (depth_of (tree_at a.words.now a.pairs.now a.element)) = changes c.args.words.now c.args.pairs.now c.args.text.now c.requires.1 c.requires.3 in
+    let changing = changes c.args.words.now c.args.pairs.now c.args.text.now c.requires.1 c.requires.3 in
     let s = c in let a = s.args in
     let k = changing in
     change-deep a.words.now a.pairs.now a.text.now k a.out.now refl (omega (arith, c.room_of.ensures, c.if-room_of-count.false)) (ltb-true 61 _ (sym c.is_too_deep.ensures ∙ c.if-is_too_deep.true)) c.clear-then-is_too_deep.ensures
 
 pub write_array-requires : goal.write_array-requires
 write_array-requires c =
-    let changing : let a = c.args in Changes a.words.now a.pairs.now a.text.now a.start a.element (length a.words.now) (depth_of (tree_at a.words.now a.pairs.now a.element)) = changes c.args.words.now c.args.pairs.now c.args.text.now c.requires.1 c.requires.3 in
+    let changing = changes c.args.words.now c.args.pairs.now c.args.text.now c.requires.1 c.requires.3 in
     let s = c in let k = changing in
     (k.own, k.inner, omega arith, omega (arith, c.room_of.ensures, c.if-room_of-count.false))
 
 pub returns : goal.returns
 returns c =
-    let changing : let a = c.args in Changes a.words.now a.pairs.now a.text.now a.start a.element (length a.words.now) (depth_of (tree_at a.words.now a.pairs.now a.element)) = changes c.args.words.now c.args.pairs.now c.args.text.now c.requires.1 c.requires.3 in
+    let changing = changes c.args.words.now c.args.pairs.now c.args.text.now c.requires.1 c.requires.3 in
     let s = c in let a = s.args in
     let k = changing in
     change-front a.words.now a.pairs.now a.text.now k a.out.now refl (omega (arith, c.room_of.ensures, c.if-room_of-count.false)) (ltb-false 61 _ (sym c.is_too_deep.ensures ∙ c.if-is_too_deep.false)) s.requires.2 c.write_array.ensures

@@ -7,10 +7,10 @@ use Rattle.rebuild_initial.proofs.initialize.Goals as goal
 pub initialize_under-requires : goal.initialize_under-requires
 initialize_under-requires c =
     let s = c in let a = s.args in
-    (s.requires.0, s.requires.1, s.requires.2, subst (Points a.words.now a.pairs.now a.text.now) c.in-To.is c.find_pointer.ensures)
+    (s.requires.0, s.requires.1, s.requires.2, subst (Points a.words.now a.pairs.now a.text.now) c.in-Some.is c.find_pointer.ensures)
 
-pub returns-in-NoPointer : goal.returns-in-NoPointer
+pub returns-in-None : goal.returns-in-None
 unfolding under_pointer
-returns-in-NoPointer c =
+returns-in-None c =
     let s = c in let a = s.args in
-    stays a.words.now a.pairs.now a.text.now s.requires.2 (no_pointer a.words.now a.pairs.now a.text.now (whole-readable s.requires.2) c.find_pointer.ensures.part (ap under_pointer c.in-NoPointer.is)) refl c.copy_unaltered.ensures
+    stays a.words.now a.pairs.now a.text.now s.requires.2 (no_pointer a.words.now a.pairs.now a.text.now (whole-readable s.requires.2) c.find_pointer.ensures.part (ap under_pointer c.in-None.is)) refl c.copy_unaltered.ensures

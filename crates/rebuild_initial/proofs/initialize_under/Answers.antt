@@ -17,11 +17,11 @@ pub change-requires : goal.change-requires
 unfolding under_pointer
 change-requires c =
     let s = c in let a = s.args in
-    let b = subst (Becomes (new_underlying own_number (renamed (name_bytes a.pairs.now a.text.now))) 1 a.words.now a.pairs.now a.at) c.in-OfArray.is c.array_at.ensures in
+    let b = subst (Becomes (new_underlying own_number (renamed (name_bytes a.pairs.now a.text.now))) 1 a.words.now a.pairs.now a.at) c.in-Some.is c.array_at.ensures in
     (s.requires.1, s.requires.2, s.requires.3.name a.name a.at refl, pointed-becomes a.words.now a.pairs.now a.text.now (whole-readable s.requires.2) s.requires.3.part refl b)
 
-pub returns-in-Unchanged : goal.returns-in-Unchanged
+pub returns-in-None : goal.returns-in-None
 unfolding under_pointer
-returns-in-Unchanged c =
+returns-in-None c =
     let s = c in let a = s.args in
-    stays a.words.now a.pairs.now a.text.now s.requires.2 (pointed-becomes a.words.now a.pairs.now a.text.now (whole-readable s.requires.2) s.requires.3.part refl c.array_at.ensures) c.in-Unchanged.is c.copy_unaltered.ensures
+    stays a.words.now a.pairs.now a.text.now s.requires.2 (pointed-becomes a.words.now a.pairs.now a.text.now (whole-readable s.requires.2) s.requires.3.part refl c.array_at.ensures) c.in-None.is c.copy_unaltered.ensures

@@ -1,7 +1,6 @@
-use Rattle.std.proofs.Common.{◌+◌, ◌<◌, length, get_or, refl, arith, rules}
+use Rattle.std.proofs.Common.{◌+◌, refl, arith, rules}
 use Rattle.rast.specs.Bytes.{ascii}
-use Rattle.encoding.specs.HeadWords.{InsidePath}
-use Rattle.encoding.specs.Tables.{fixed_names, name_count}
+use Rattle.encoding.specs.Tables.{fixed_names}
 use Rattle.known_paths.proofs.Paths.{runtime-count, runtime-name, runtime-root}
 use Rattle.known_paths.proofs.Worded.{base-here, count-here, path-here, word-here}
 use Rattle.rebuild_initial.proofs.Pointers.{runtime-arguments, runtime-base, runtime-kind, runtime-path}
@@ -53,71 +52,71 @@ returns-then-words-base-ne-TYPE_FROM_PATH c =
 
 pub overflow_add-base-2 : goal.overflow_add-base-2
 overflow_add-base-2 c =
-    let inside : c.args.at + 2 + 2 < length c.args.words.now = let s = c in let a = s.args in (path-here a.words.now a.pairs.now a.text.now a.at s.requires.1 c.if-words-at-ne-TYPE_APP.false c.if-words-base-ne-TYPE_FROM_PATH.false).inside in
+    let inside = (path-here c.args.words.now c.args.pairs.now c.args.text.now c.args.at c.requires.1 c.if-words-at-ne-TYPE_APP.false c.if-words-base-ne-TYPE_FROM_PATH.false).inside in
     let h = inside in search rules
 
 pub offset_bounds-words-base-2 : goal.offset_bounds-words-base-2
 offset_bounds-words-base-2 c =
-    let inside : c.args.at + 2 + 2 < length c.args.words.now = let s = c in let a = s.args in (path-here a.words.now a.pairs.now a.text.now a.at s.requires.1 c.if-words-at-ne-TYPE_APP.false c.if-words-base-ne-TYPE_FROM_PATH.false).inside in
+    let inside = (path-here c.args.words.now c.args.pairs.now c.args.text.now c.args.at c.requires.1 c.if-words-at-ne-TYPE_APP.false c.if-words-base-ne-TYPE_FROM_PATH.false).inside in
     let h = inside in search rules
 
 pub bounds-words-base-2 : goal.bounds-words-base-2
 bounds-words-base-2 c =
-    let inside : c.args.at + 2 + 2 < length c.args.words.now = let s = c in let a = s.args in (path-here a.words.now a.pairs.now a.text.now a.at s.requires.1 c.if-words-at-ne-TYPE_APP.false c.if-words-base-ne-TYPE_FROM_PATH.false).inside in
+    let inside = (path-here c.args.words.now c.args.pairs.now c.args.text.now c.args.at c.requires.1 c.if-words-at-ne-TYPE_APP.false c.if-words-base-ne-TYPE_FROM_PATH.false).inside in
     omega (arith, inside)
 
 pub returns-then-words-base-ne-GLOBAL : goal.returns-then-words-base-ne-GLOBAL
 returns-then-words-base-ne-GLOBAL c =
-    let own : let a = c.args in InsidePath (name_count a.pairs.now) a.words.now (record { root = get_or a.words.now (a.at + 2 + 1) 0; start = a.at + 2 + 3; count = get_or a.words.now (a.at + 2 + 2) 0 }) = let s = c in let a = s.args in (path-here a.words.now a.pairs.now a.text.now a.at s.requires.1 c.if-words-at-ne-TYPE_APP.false c.if-words-base-ne-TYPE_FROM_PATH.false).own in
+    let own = (path-here c.args.words.now c.args.pairs.now c.args.text.now c.args.at c.requires.1 c.if-words-at-ne-TYPE_APP.false c.if-words-base-ne-TYPE_FROM_PATH.false).own in
     let s = c in let a = s.args in
     runtime-path a.words.now a.pairs.now a.text.now a.at s.requires.1 c.if-words-at-ne-TYPE_APP.false c.if-words-at-ne1.false c.if-words-base-ne-TYPE_FROM_PATH.false (runtime-root a.words.now a.pairs.now a.text.now _ own c.if-words-base-ne-GLOBAL.true)
 
 pub overflow_add-base-3 : goal.overflow_add-base-3
 overflow_add-base-3 c =
-    let inside : c.args.at + 2 + 2 < length c.args.words.now = let s = c in let a = s.args in (path-here a.words.now a.pairs.now a.text.now a.at s.requires.1 c.if-words-at-ne-TYPE_APP.false c.if-words-base-ne-TYPE_FROM_PATH.false).inside in
+    let inside = (path-here c.args.words.now c.args.pairs.now c.args.text.now c.args.at c.requires.1 c.if-words-at-ne-TYPE_APP.false c.if-words-base-ne-TYPE_FROM_PATH.false).inside in
     let h = inside in search rules
 
 pub offset_bounds-words-base-3 : goal.offset_bounds-words-base-3
 offset_bounds-words-base-3 c =
-    let inside : c.args.at + 2 + 2 < length c.args.words.now = let s = c in let a = s.args in (path-here a.words.now a.pairs.now a.text.now a.at s.requires.1 c.if-words-at-ne-TYPE_APP.false c.if-words-base-ne-TYPE_FROM_PATH.false).inside in
+    let inside = (path-here c.args.words.now c.args.pairs.now c.args.text.now c.args.at c.requires.1 c.if-words-at-ne-TYPE_APP.false c.if-words-base-ne-TYPE_FROM_PATH.false).inside in
     let h = inside in search rules
 
 pub bounds-words-base-3 : goal.bounds-words-base-3
 bounds-words-base-3 c =
-    let inside : c.args.at + 2 + 2 < length c.args.words.now = let s = c in let a = s.args in (path-here a.words.now a.pairs.now a.text.now a.at s.requires.1 c.if-words-at-ne-TYPE_APP.false c.if-words-base-ne-TYPE_FROM_PATH.false).inside in
+    let inside = (path-here c.args.words.now c.args.pairs.now c.args.text.now c.args.at c.requires.1 c.if-words-at-ne-TYPE_APP.false c.if-words-base-ne-TYPE_FROM_PATH.false).inside in
     omega (arith, inside)
 
 pub returns-then-words-base-ne2 : goal.returns-then-words-base-ne2
 returns-then-words-base-ne2 c =
-    let own : let a = c.args in InsidePath (name_count a.pairs.now) a.words.now (record { root = get_or a.words.now (a.at + 2 + 1) 0; start = a.at + 2 + 3; count = get_or a.words.now (a.at + 2 + 2) 0 }) = let s = c in let a = s.args in (path-here a.words.now a.pairs.now a.text.now a.at s.requires.1 c.if-words-at-ne-TYPE_APP.false c.if-words-base-ne-TYPE_FROM_PATH.false).own in
+    let own = (path-here c.args.words.now c.args.pairs.now c.args.text.now c.args.at c.requires.1 c.if-words-at-ne-TYPE_APP.false c.if-words-base-ne-TYPE_FROM_PATH.false).own in
     let s = c in let a = s.args in
     runtime-path a.words.now a.pairs.now a.text.now a.at s.requires.1 c.if-words-at-ne-TYPE_APP.false c.if-words-at-ne1.false c.if-words-base-ne-TYPE_FROM_PATH.false (runtime-count a.words.now a.pairs.now a.text.now _ own c.if-words-base-ne2.true)
 
 pub overflow_add-base-4 : goal.overflow_add-base-4
 overflow_add-base-4 c =
-    let own : let a = c.args in InsidePath (name_count a.pairs.now) a.words.now (record { root = get_or a.words.now (a.at + 2 + 1) 0; start = a.at + 2 + 3; count = get_or a.words.now (a.at + 2 + 2) 0 }) = let s = c in let a = s.args in (path-here a.words.now a.pairs.now a.text.now a.at s.requires.1 c.if-words-at-ne-TYPE_APP.false c.if-words-base-ne-TYPE_FROM_PATH.false).own in
+    let own = (path-here c.args.words.now c.args.pairs.now c.args.text.now c.args.at c.requires.1 c.if-words-at-ne-TYPE_APP.false c.if-words-base-ne-TYPE_FROM_PATH.false).own in
     let h = own.inside in let n = c.if-words-base-ne2.false in search rules
 
 pub offset_bounds-words-base-4 : goal.offset_bounds-words-base-4
 offset_bounds-words-base-4 c =
-    let own : let a = c.args in InsidePath (name_count a.pairs.now) a.words.now (record { root = get_or a.words.now (a.at + 2 + 1) 0; start = a.at + 2 + 3; count = get_or a.words.now (a.at + 2 + 2) 0 }) = let s = c in let a = s.args in (path-here a.words.now a.pairs.now a.text.now a.at s.requires.1 c.if-words-at-ne-TYPE_APP.false c.if-words-base-ne-TYPE_FROM_PATH.false).own in
+    let own = (path-here c.args.words.now c.args.pairs.now c.args.text.now c.args.at c.requires.1 c.if-words-at-ne-TYPE_APP.false c.if-words-base-ne-TYPE_FROM_PATH.false).own in
     let h = own.inside in let n = c.if-words-base-ne2.false in search rules
 
 pub bounds-words-base-4 : goal.bounds-words-base-4
 bounds-words-base-4 c =
-    let own : let a = c.args in InsidePath (name_count a.pairs.now) a.words.now (record { root = get_or a.words.now (a.at + 2 + 1) 0; start = a.at + 2 + 3; count = get_or a.words.now (a.at + 2 + 2) 0 }) = let s = c in let a = s.args in (path-here a.words.now a.pairs.now a.text.now a.at s.requires.1 c.if-words-at-ne-TYPE_APP.false c.if-words-base-ne-TYPE_FROM_PATH.false).own in
+    let own = (path-here c.args.words.now c.args.pairs.now c.args.text.now c.args.at c.requires.1 c.if-words-at-ne-TYPE_APP.false c.if-words-base-ne-TYPE_FROM_PATH.false).own in
     omega (arith, own.inside, c.if-words-base-ne2.false)
 
 pub is_name-requires : goal.is_name-requires
 unfolding ascii fixed_names
 is_name-requires c =
-    let own : let a = c.args in InsidePath (name_count a.pairs.now) a.words.now (record { root = get_or a.words.now (a.at + 2 + 1) 0; start = a.at + 2 + 3; count = get_or a.words.now (a.at + 2 + 2) 0 }) = let s = c in let a = s.args in (path-here a.words.now a.pairs.now a.text.now a.at s.requires.1 c.if-words-at-ne-TYPE_APP.false c.if-words-base-ne-TYPE_FROM_PATH.false).own in
+    let own = (path-here c.args.words.now c.args.pairs.now c.args.text.now c.args.at c.requires.1 c.if-words-at-ne-TYPE_APP.false c.if-words-base-ne-TYPE_FROM_PATH.false).own in
     let s = c in
     (own.below (s.args.at + 2 + 3) (omega arith) (omega (arith, c.if-words-base-ne2.false)), s.requires.0, omega arith, refl)
 
 pub returns : goal.returns
 unfolding fixed_names
 returns c =
-    let own : let a = c.args in InsidePath (name_count a.pairs.now) a.words.now (record { root = get_or a.words.now (a.at + 2 + 1) 0; start = a.at + 2 + 3; count = get_or a.words.now (a.at + 2 + 2) 0 }) = let s = c in let a = s.args in (path-here a.words.now a.pairs.now a.text.now a.at s.requires.1 c.if-words-at-ne-TYPE_APP.false c.if-words-base-ne-TYPE_FROM_PATH.false).own in
+    let own = (path-here c.args.words.now c.args.pairs.now c.args.text.now c.args.at c.requires.1 c.if-words-at-ne-TYPE_APP.false c.if-words-base-ne-TYPE_FROM_PATH.false).own in
     let s = c in let a = s.args in
     runtime-path a.words.now a.pairs.now a.text.now a.at s.requires.1 c.if-words-at-ne-TYPE_APP.false c.if-words-at-ne1.false c.if-words-base-ne-TYPE_FROM_PATH.false (runtime-name a.words.now a.pairs.now a.text.now _ own c.if-words-base-ne-GLOBAL.false c.if-words-base-ne2.false c.is_name.ensures)

@@ -11,8 +11,5 @@ decreases-deepest l = 2 * (length l.words.now - l.at)
 abbrev pub decreases-depth_below : goal.decreases-depth_below
 decreases-depth_below l = 2 * (length l.words.now - l.at) + 1
 
-abbrev pub invariant-deepest-loop-left : goal.invariant-deepest-loop-left
-invariant-deepest-loop-left l = (l.at ≤ l.place) × Deepening l.words l.pairs (read_types (tree_at l.words l.pairs) l.n l.at) l.place l.depth l.left
-
-abbrev pub decreases-deepest-loop-left : goal.decreases-deepest-loop-left
-decreases-deepest-loop-left l = l.left
+abbrev pub invariant-deepest-loop : goal.invariant-deepest-loop
+invariant-deepest-loop l = (l.at ≤ l.place) × Deepening l.words l.pairs (read_types (tree_at l.words l.pairs) l.n l.at) l.place l.depth (l.n - l.counter)

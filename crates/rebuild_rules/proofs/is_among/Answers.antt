@@ -1,7 +1,7 @@
+use Rattle.std.specs.Option.{is_some}
 use Rattle.encoding.specs.Tables.{name_bytes}
 use Rattle.rebuild_rules.proofs.Links.{along-behind, among-along}
 use Rattle.rebuild_rules.proofs.Steps.{from_at, from_some}
-use Rattle.rebuild_rules.specs.Table.{is_found_rule}
 use mathlib.Core.Path.{◌∙◌, ap}
 use native.Mathlib.Omega.{arith}
 use Rattle.rebuild_rules.proofs.is_among.Goals as goal
@@ -18,4 +18,4 @@ find_along-requires c =
 pub returns : goal.returns
 returns c =
     let s = c in let a = s.args in
-    c.is_found_rule.ensures ∙ ap is_found_rule c.find_along.ensures ∙ among-along (name_bytes a.pairs.now a.text.now) a.rules.now a.table.now s.requires.1 s.requires.2 a.i s.requires.3 (from_at s.requires.1 s.requires.3 c.entry-start.ensures c.entry.ensures) c.entry-start.ensures c.entry-link.ensures
+    c.is_some.ensures ∙ ap is_some c.find_along.ensures ∙ among-along (name_bytes a.pairs.now a.text.now) a.rules.now a.table.now s.requires.1 s.requires.2 a.i s.requires.3 (from_at s.requires.1 s.requires.3 c.entry-start.ensures c.entry.ensures) c.entry-start.ensures c.entry-link.ensures

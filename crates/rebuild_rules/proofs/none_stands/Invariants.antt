@@ -1,12 +1,8 @@
-use Prim.Native.Nat.{◌-◌}
 use Rattle.encoding.specs.Tables.{name_bytes}
 use Rattle.rebuild_rules.specs.Table.{none_stands}
-use lib.ListN.{drop, length}
+use lib.ListN.{drop}
 use mathlib.Core.Path.{◌≡◌}
 use Rattle.rebuild_rules.proofs.none_stands.Given as goal
 
 abbrev pub invariant-loop-at : goal.invariant-loop-at
 invariant-loop-at l = none_stands (name_bytes l.pairs l.text) l.rules l.table l.k (drop l.at l.words) ≡ none_stands (name_bytes l.pairs l.text) l.rules l.table l.k l.words
-
-abbrev pub decreases-loop-at : goal.decreases-loop-at
-decreases-loop-at l = length l.words - l.at

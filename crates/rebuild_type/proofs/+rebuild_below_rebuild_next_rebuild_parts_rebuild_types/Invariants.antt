@@ -18,8 +18,5 @@ decreases-rebuild_parts l = 4 * (length l.words.now - l.at)
 abbrev pub decreases-rebuild_types : goal.decreases-rebuild_types
 decreases-rebuild_types l = 4 * (length l.words.now - l.at) + 2
 
-abbrev pub invariant-rebuild_types-loop-left : goal.invariant-rebuild_types-loop-left
-invariant-rebuild_types-loop-left l = (l.at ≤ l.place) × Rebuilding l.words l.pairs (mapping l.rules l.pairs l.text) (read_types (tree_at l.words l.pairs) l.n l.at) l.limit l.initial.out l.pos l.out l.place l.p l.deepest l.left
-
-abbrev pub decreases-rebuild_types-loop-left : goal.decreases-rebuild_types-loop-left
-decreases-rebuild_types-loop-left l = l.left
+abbrev pub invariant-rebuild_types-loop : goal.invariant-rebuild_types-loop
+invariant-rebuild_types-loop l = (l.at ≤ l.place) × Rebuilding l.words l.pairs (mapping l.rules l.pairs l.text) (read_types (tree_at l.words l.pairs) l.n l.at) l.limit l.initial.out l.pos l.out l.place l.p l.deepest (l.n - l.counter)

@@ -1,4 +1,4 @@
-use Rattle.encoding.specs.Refusals.{given}
+use Rattle.std.specs.Prelude.{Ok}
 use Rattle.rebuild_type.proofs.Calls.{down-over}
 use Rattle.rebuild_type.specs.Calls.{laid_down}
 use Rattle.rebuild_type.specs.Attempts.{same_words}
@@ -16,4 +16,4 @@ returns-then-out-words c =
 pub returns : goal.returns
 returns c =
     let a = c.args in
-    c.finish.ensures ∙ ap (λ l. laid_down a.out.now (given (record { words = l; top = length a.words.now; deep = 0 }))) (take-length a.words.now)
+    c.finish.ensures ∙ ap (λ l. laid_down a.out.now (Ok (record { words = l; top = length a.words.now; deep = 0 }))) (take-length a.words.now)

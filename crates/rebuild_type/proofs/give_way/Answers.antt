@@ -15,8 +15,8 @@ depth_in-depth-requires c =
     let s = c in let t = to_inside c.entry-to.ensures c.entry.ensures s.requires.0 s.requires.1 in
     (omega (arith, t), to-spans c.entry-to.ensures c.entry.ensures s.requires.0 s.requires.1 s.args.pairs.now s.requires.2)
 
-pub returns-in-To : goal.returns-in-To
-returns-in-To c = gives_to c.entry-to.ensures c.entry.ensures c.add_words.ensures c.in-To.is c.depth_in-depth.ensures
+pub returns : goal.returns
+returns c = gives_to c.entry-to.ensures c.entry.ensures c.add_words.ensures c.in_ok-pos.was c.depth_in-depth.ensures
 
-pub returns-in-Over : goal.returns-in-Over
-returns-in-Over c = gives-over c.entry-to.ensures c.entry.ensures c.add_words.ensures c.in-Over.is
+pub returns-in_err-pos : goal.returns-in_err-pos
+returns-in_err-pos c = rw c.from_residual.ensures (gives-over c.entry-to.ensures c.entry.ensures c.add_words.ensures c.in_err-pos.was)

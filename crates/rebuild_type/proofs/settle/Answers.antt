@@ -15,12 +15,12 @@ find_rule-requires c =
 pub give_way-requires : goal.give_way-requires
 give_way-requires c =
     let a = c.args in let pre = c.requires in
-    let h = found-less (name_bytes a.pairs.now a.text.now) a.rules.now a.table.now 0 a.k (take (a.end - a.start) (drop a.start a.out.now)) (sym c.find_rule.ensures ∙ c.in-At.is) in
+    let h = found-less (name_bytes a.pairs.now a.text.now) a.rules.now a.table.now 0 a.k (take (a.end - a.start) (drop a.start a.out.now)) (sym c.find_rule.ensures ∙ c.in-Some.is) in
     (pre.1.fits, omega (arith, h), to-spans a.rules.now a.pairs.now a.text.now a.table.now a.k pre.1 _ (omega (arith, h)), omega (arith, pre.2, pre.3), pre.4)
 
-pub returns-in-At : goal.returns-in-At
-returns-in-At c =
-    gives (sym c.find_rule.ensures ∙ c.in-At.is) c.give_way.ensures
+pub returns-in-Some : goal.returns-in-Some
+returns-in-Some c =
+    gives (sym c.find_rule.ensures ∙ c.in-Some.is) c.give_way.ensures
 
-pub returns-in-Nothing : goal.returns-in-Nothing
-returns-in-Nothing c = stays (sym c.find_rule.ensures ∙ c.in-Nothing.is) refl
+pub returns-in-None : goal.returns-in-None
+returns-in-None c = stays (sym c.find_rule.ensures ∙ c.in-None.is) refl

@@ -1,15 +1,16 @@
+use denote.Enum.Bare.{sameb}
+use Rattle.same_type.specs.contracts.Look.{the_type}
+use Rattle.same_type.specs.declared.Look.{Look}
+use Rattle.same_type.specs.declared.Look.TheVariants.{Same, Apart, Unclear}
 use Rattle.same_type.specs.Looks.{told_apart}
-use mathlib.Core.Path.{◌∙◌, ap, sym}
+use mathlib.Core.Path.{◌≡◌, ◌∙◌, ap, refl}
 use Rattle.same_type.proofs.numbers_apart.Goals as goal
 
-pub returns-in-Same : goal.returns-in-Same
+tells_apart : (l : Look) → sameb the_type l Apart ≡ told_apart l
 unfolding told_apart
-returns-in-Same c = sym (ap told_apart (sym c.look_at_words.ensures ∙ c.in-Same.is))
+tells_apart Same = refl
+tells_apart Apart = refl
+tells_apart Unclear = refl
 
-pub returns-in-Apart : goal.returns-in-Apart
-unfolding told_apart
-returns-in-Apart c = sym (ap told_apart (sym c.look_at_words.ensures ∙ c.in-Apart.is))
-
-pub returns-in-Unclear : goal.returns-in-Unclear
-unfolding told_apart
-returns-in-Unclear c = sym (ap told_apart (sym c.look_at_words.ensures ∙ c.in-Unclear.is))
+pub returns : goal.returns
+returns c = c.eq.ensures ∙ tells_apart _ ∙ ap told_apart c.look_at_words.ensures

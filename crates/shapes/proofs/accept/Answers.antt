@@ -1,18 +1,20 @@
+use Rattle.encoding.proofs.Reading.{handed-on}
 use Rattle.encoding.proofs.Tables.{tables-hold}
+use Rattle.std.proofs.Common.{◌∙◌}
 use Rattle.shapes.proofs.Answers.{tables-failed, tables-whole}
 use Rattle.shapes.proofs.accept.Goals as goal
 
 pub accept_words-requires : goal.accept_words-requires
 accept_words-requires c =
     let a = c.args in
-    tables-hold a.words.now a.pairs.now a.text.now c.check_tables.ensures c.in-Passed.is
+    tables-hold a.words.now a.pairs.now a.text.now c.check_tables.ensures c.in_ok-check_tables.was
 
-pub returns-in-Passed : goal.returns-in-Passed
-returns-in-Passed c =
+pub returns : goal.returns
+returns c =
     let a = c.args in
-    tables-whole a.words.now a.pairs.now a.text.now c.check_tables.ensures c.in-Passed.is c.accept_words.ensures
+    tables-whole a.words.now a.pairs.now a.text.now c.check_tables.ensures c.in_ok-check_tables.was c.accept_words.ensures
 
-pub returns-in-Failed : goal.returns-in-Failed
-returns-in-Failed c =
+pub returns-in_err-check_tables : goal.returns-in_err-check_tables
+returns-in_err-check_tables c =
     let a = c.args in
-    tables-failed a.words.now a.pairs.now a.text.now c.check_tables.ensures c.in-Failed.is
+    handed-on c.from_residual.ensures.1 ∙ tables-failed a.words.now a.pairs.now a.text.now c.check_tables.ensures c.in_err-check_tables.was

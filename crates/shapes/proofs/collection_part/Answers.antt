@@ -22,9 +22,9 @@ returns-in_default c =
 pub skip_type-requires : goal.skip_type-requires
 skip_type-requires c =
     let a = c.args in
-    found-readable a.words.now a.pairs.now a.text.now _ (first-keeps a.words.now a.pairs.now a.text.now MapClass) (expands-readable a.words.now a.pairs.now a.text.now a.at _ c.expand-place.ensures c.requires.1) c.first_argument.ensures c.in-At.is
+    found-readable a.words.now a.pairs.now a.text.now _ (first-keeps a.words.now a.pairs.now a.text.now MapClass) (expands-readable a.words.now a.pairs.now a.text.now a.at _ c.expand-place.ensures c.requires.1) c.first_argument.ensures c.in-Some.is
 
 pub returns : goal.returns
 returns c =
     let a = c.args in
-    map-finds a.words.now a.pairs.now a.text.now a.at _ c.expand-place.ensures c.first_argument.ensures c.in-At.is c.skip_type.ensures
+    map-finds a.words.now a.pairs.now a.text.now a.at _ c.expand-place.ensures c.first_argument.ensures c.in-Some.is c.skip_type.ensures

@@ -62,9 +62,9 @@ returns-in_default c =
 pub is_of-requires-2 : goal.is_of-requires-2
 is_of-requires-2 c =
     let a = c.args in
-    found-ready a.words.now a.pairs.now a.text.now a.at (first-keeps a.words.now a.pairs.now a.text.now ArrayClass) c.requires c.first_argument.ensures c.in-At.is
+    found-ready a.words.now a.pairs.now a.text.now a.at (first-keeps a.words.now a.pairs.now a.text.now ArrayClass) c.requires c.first_argument.ensures c.in-Some.is
 
 pub returns : goal.returns
 returns c =
     let a = c.args in
-    judge-multi a.words.now a.pairs.now a.text.now a.at c.if-words-at-eq-ARRAY.false c.first_argument.ensures c.in-At.is c.is_of-2.ensures
+    judge-multi a.words.now a.pairs.now a.text.now a.at c.if-words-at-eq-ARRAY.false c.first_argument.ensures c.in-Some.is c.is_of-2.ensures

@@ -7,4 +7,4 @@ use Rattle.shapes.proofs.is_box_dyn_at.Goals as goal
 pub returns : goal.returns
 returns c =
     let a = c.args in
-    judge-found a.words.now a.pairs.now a.text.now a.at BoxDynUnderlying IsBoxDyn box-dyn-found c.box_dyn_part.ensures c.is_found.ensures
+    judge-found a.words.now a.pairs.now a.text.now a.at BoxDynUnderlying IsBoxDyn box-dyn-found c.box_dyn_part.ensures c.is_some.ensures

@@ -5,22 +5,22 @@ use Rattle.rast.proofs.BytesLaws.{and_no, and_yes}
 use Rattle.sound_names.proofs.Names.{each_more, each-end}
 use Rattle.sound_names.proofs.all_word_bytes.Goals as goal
 
-pub loop-i-init : goal.loop-i-init
-loop-i-init c = refl
+pub loop-b-init : goal.loop-b-init
+loop-b-init c = refl
 
 pub returns-then-not-is_word_byte : goal.returns-then-not-is_word_byte
 returns-then-not-is_word_byte c =
-    let l = c.loop-i in
+    let l = c.loop-b in
     let no = sym c.is_word_byte.ensures ∙ c.if-not-is_word_byte.true in
-    sym (each_more is_word_byte _ l.i (search rules) ∙ and_no _ no) ∙ l.invariant
+    sym (each_more is_word_byte _ l.b-index (search rules) ∙ and_no _ no) ∙ l.invariant
 
-pub loop-i-preserved : goal.loop-i-preserved
-loop-i-preserved c =
-    let l = c.loop-i in
+pub loop-b-preserved : goal.loop-b-preserved
+loop-b-preserved c =
+    let l = c.loop-b in
     let yes = sym c.is_word_byte.ensures ∙ c.if-not-is_word_byte.false in
-    sym (each_more is_word_byte _ l.i (search rules) ∙ and_yes _ yes) ∙ l.invariant
+    sym (each_more is_word_byte _ l.b-index (search rules) ∙ and_yes _ yes) ∙ l.invariant
 
 pub returns : goal.returns
 returns c =
-    let l = c.loop-i in
-    sym (each-end is_word_byte _ l.i (search rules)) ∙ l.invariant
+    let l = c.loop-b in
+    sym (each-end is_word_byte _ l.b-index (search rules)) ∙ l.invariant

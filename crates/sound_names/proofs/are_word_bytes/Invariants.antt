@@ -1,4 +1,4 @@
-use Prim.Native.Nat.{◌-◌, ◌≤◌}
+use Prim.Native.Nat.{◌-◌}
 use mathlib.Core.Path.{◌≡◌}
 use lib.ListN.{take, drop}
 use Rattle.rast.specs.Bytes.{each}
@@ -7,7 +7,7 @@ use Rattle.sound_names.proofs.are_word_bytes.Given as goal
 
 abbrev pub invariant-loop-i : goal.invariant-loop-i
 invariant-loop-i l =
-    (l.start ≤ l.i) × (each is_word_byte (take (l.end - l.i) (drop l.i l.text)) ≡ each is_word_byte (take (l.end - l.start) (drop l.start l.text)))
+    each is_word_byte (take (l.end - l.i) (drop l.i l.text)) ≡ each is_word_byte (take (l.end - l.start) (drop l.start l.text))
 
 abbrev pub decreases-loop-i : goal.decreases-loop-i
 decreases-loop-i l = l.end - l.i

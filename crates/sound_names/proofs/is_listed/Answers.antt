@@ -16,7 +16,7 @@ returns-then-is_excluded_word c =
     let l = c.loop-k in
     let a = c.args in
     let yes = sym c.is_excluded_word.ensures ∙ c.if-is_excluded_word.true in
-    sym (among-more a.bytes.now excluded l.k (search rules) ∙ rw yes) ∙ l.invariant.1
+    sym (among-more a.bytes.now excluded l.k (search rules) ∙ rw yes) ∙ l.invariant
 
 pub loop-k-preserved : goal.loop-k-preserved
 unfolding excluded
@@ -24,10 +24,10 @@ loop-k-preserved c =
     let l = c.loop-k in
     let a = c.args in
     let no = sym c.is_excluded_word.ensures ∙ c.if-is_excluded_word.false in
-    (search rules, sym (among-more a.bytes.now excluded l.k (search rules) ∙ rw no) ∙ l.invariant.1)
+    sym (among-more a.bytes.now excluded l.k (search rules) ∙ rw no) ∙ l.invariant
 
 pub returns : goal.returns
 unfolding excluded
 returns c =
     let l = c.loop-k in
-    sym (among-end c.args.bytes.now excluded l.k (search rules)) ∙ l.invariant.1
+    sym (among-end c.args.bytes.now excluded l.k (search rules)) ∙ l.invariant

@@ -1,4 +1,7 @@
+use Rattle.std.specs.Prelude.{Ok}
+use mathlib.Core.Path.{ap, ◌∙◌}
 use native.Mathlib.Omega.{arith}
+use Rattle.encoding.proofs.Reading.{handed-on}
 use Rattle.sound_type.proofs.Scans.{own-leaf, own-node, own-unsound, own-stop}
 use Rattle.sound_type.proofs.Steps.{step-deep, step-ended, step_past, step-under, step-unsound, step-stop}
 use Rattle.sound_type.proofs.advance.Goals as goal
@@ -21,7 +24,7 @@ returns-then-p-lt4 c =
     let s = c in
     let a = s.args in
     let k = s.requires.4 in
-    let o = own-leaf c.scan_own.ensures.0 c.in-Leaf.is in
+    let o = own-leaf c.scan_own.ensures.0 (c.in_ok-next.was ∙ ap Ok c.in-Leaf.is) in
     let w = c.settle-p.ensures in
     (step-ended a.words.now a.pairs.now a.text.now s.requires.1.0 a.levels.now a.pass k (omega (arith, k.depth, c.if-pass-eq-MAX_DEPTH.false)) (rw s.requires.0 at o) w.0 c.if-p-lt4.true (w.1 c.if-p-lt4.true), c.scan_own.ensures.1)
 
@@ -36,7 +39,7 @@ returns-else-p-lt4 c =
     let s = c in
     let a = s.args in
     let k = s.requires.4 in
-    let o = own-leaf c.scan_own.ensures.0 c.in-Leaf.is in
+    let o = own-leaf c.scan_own.ensures.0 (c.in_ok-next.was ∙ ap Ok c.in-Leaf.is) in
     let w = c.settle-p.ensures in
     (step_past a.words.now a.pairs.now a.text.now s.requires.1.0 a.levels.now a.pass k (omega (arith, k.depth, c.if-pass-eq-MAX_DEPTH.false)) (rw s.requires.0 at o) w.0 c.if-p-lt4.false c.step_to.ensures, c.scan_own.ensures.1)
 
@@ -45,7 +48,7 @@ returns-in-Node c =
     let s = c in
     let a = s.args in
     let k = s.requires.4 in
-    let o = own-node c.scan_own.ensures.0 c.in-Node.is in
+    let o = own-node c.scan_own.ensures.0 (c.in_ok-next.was ∙ ap Ok c.in-Node.is) in
     (step-under a.words.now a.pairs.now a.text.now s.requires.1.0 a.levels.now a.pass k (omega (arith, k.depth, c.if-pass-eq-MAX_DEPTH.false)) s.requires.2 (rw s.requires.0 at o) c.enter.ensures.1 c.enter.ensures.0, c.scan_own.ensures.1)
 
 pub returns-in-NotSound : goal.returns-in-NotSound
@@ -53,13 +56,13 @@ returns-in-NotSound c =
     let s = c in
     let a = s.args in
     let k = s.requires.4 in
-    let u = own-unsound c.scan_own.ensures.0 c.in-NotSound.is in
+    let u = own-unsound c.scan_own.ensures.0 (c.in_ok-next.was ∙ ap Ok c.in-NotSound.is) in
     (step-unsound a.words.now a.pairs.now a.text.now s.requires.1.0 a.levels.now a.pass k (omega (arith, k.depth, c.if-pass-eq-MAX_DEPTH.false)) (rw s.requires.0 at u), c.scan_own.ensures.1)
 
-pub returns-in-NoNode : goal.returns-in-NoNode
-returns-in-NoNode c =
+pub returns-in_err-next : goal.returns-in_err-next
+returns-in_err-next c =
     let s = c in
     let a = s.args in
     let k = s.requires.4 in
-    let o = own-stop c.scan_own.ensures.0 c.in-NoNode.is in
-    (step-stop a.words.now a.pairs.now a.text.now s.requires.1.0 a.levels.now a.pass k (omega (arith, k.depth, c.if-pass-eq-MAX_DEPTH.false)) (rw s.requires.0 at o), c.scan_own.ensures.1)
+    let o = own-stop c.scan_own.ensures.0 c.in_err-next.was in
+    (rw (handed-on c.from_residual.ensures.1) (step-stop a.words.now a.pairs.now a.text.now s.requires.1.0 a.levels.now a.pass k (omega (arith, k.depth, c.if-pass-eq-MAX_DEPTH.false)) (rw s.requires.0 at o)), c.scan_own.ensures.1)

@@ -1,9 +1,10 @@
 use borrow.Author.Rules.{rules}
+use Rattle.std.specs.Prelude.{Ok, Err}
 use native.Mathlib.Omega.{arith}
 use Prim.Native.Nat.{◌+◌}
-use mathlib.Core.Path.{refl, ◌∙◌}
+use mathlib.Core.Path.{refl, ap, ◌∙◌}
 use Rattle.encoding.specs.Tables.{name_bytes, name_count}
-use Rattle.encoding.proofs.Reading.{below_out, below_end}
+use Rattle.encoding.proofs.Reading.{below_out, below_end, handed-on}
 use Rattle.sound_type.proofs.Names.{judged-all, judged-sound, was-fine, was-poor, was-no-name}
 use Rattle.sound_type.proofs.Paths.{onward-here, onward_then, onward-more, path-leaf, path-poor, path-stop}
 use Rattle.sound_type.proofs.new_names.Goals as goal
@@ -30,20 +31,22 @@ check_new-requires c = (c.requires.0, c.loop-i.invariant.1)
 pub loop-i-preserved : goal.loop-i-preserved
 loop-i-preserved c =
     let a = c.args in
-    let f = was-fine c.check_new.ensures.0 c.in-Fine.is in
+    let f = was-fine c.check_new.ensures.0 (c.in_ok-check_new.was ∙ ap Ok c.if-not-branch.false) in
     (onward-more (name_count a.pairs.now) a.words.now (name_bytes a.pairs.now a.text.now) a.ask a.start (a.path.start + a.path.count) c.loop-i.invariant.0 (search rules) (search rules) f.0 (judged-sound a.ask f.1), c.check_new.ensures.1)
 
-pub returns-in-Poor : goal.returns-in-Poor
-returns-in-Poor c =
+pub returns-then-not-branch : goal.returns-then-not-branch
+returns-then-not-branch c =
     let a = c.args in
     let o = onward_then (name_count a.pairs.now) a.words.now (name_bytes a.pairs.now a.text.now) a.ask a.path.start (a.path.start + a.path.count) c.requires.2 c.loop-i.invariant.0 in
-    (path-poor a.words.now a.pairs.now a.text.now a.ask a.path c.requires.3 o (search rules) (search rules) (judged-all c.requires.5 ∙ was-poor c.check_new.ensures.0 c.in-Poor.is) refl, c.check_new.ensures.1)
+    let s = was-poor c.check_new.ensures.0 (c.in_ok-check_new.was ∙ ap Ok c.if-not-branch.true) in
+    (path-poor a.words.now a.pairs.now a.text.now a.ask a.path c.requires.3 o (search rules) (search rules) (judged-all c.requires.5 ∙ s) refl, c.check_new.ensures.1)
 
-pub returns-in-NoName : goal.returns-in-NoName
-returns-in-NoName c =
+pub returns-in_err-check_new : goal.returns-in_err-check_new
+returns-in_err-check_new c =
     let a = c.args in
     let o = onward_then (name_count a.pairs.now) a.words.now (name_bytes a.pairs.now a.text.now) a.ask a.path.start (a.path.start + a.path.count) c.requires.2 c.loop-i.invariant.0 in
-    (path-stop a.words.now a.pairs.now a.text.now a.ask a.path c.requires.3 o (search rules) (below_out (name_count a.pairs.now) a.words.now c.loop-i.i (search rules) (was-no-name c.check_new.ensures.0 c.in-NoName.is)) refl, c.check_new.ensures.1)
+    let n = was-no-name c.check_new.ensures.0 c.in_err-check_new.was in
+    (path-stop a.words.now a.pairs.now a.text.now a.ask a.path c.requires.3 o (search rules) (below_out (name_count a.pairs.now) a.words.now c.loop-i.i (search rules) n.0) (handed-on c.from_residual.ensures.1 ∙ ap Err n.1), c.check_new.ensures.1)
 
 pub returns : goal.returns
 returns c =

@@ -1,5 +1,6 @@
+use Rattle.std.specs.Prelude.{Ok}
 use native.Mathlib.Omega.{arith}
-use mathlib.Core.Path.{sym, ◌∙◌}
+use mathlib.Core.Path.{ap, sym, ◌∙◌}
 use borrow.Author.Tests.{eqb-true}
 use Rattle.rast.specs.Sound.{sound_size}
 use Rattle.encoding.specs.Tables.{name_bytes}
@@ -22,16 +23,16 @@ returns-then-is_known c =
     let e = eqb-true _ _ (sym c.is_known.ensures ∙ c.if-is_known.true) in
     (sym (judged-size (name_bytes a.pairs.now a.text.now) a.size a.ask (search rules) (k.sound _ e)), k)
 
-pub returns-in-Fine : goal.returns-in-Fine
-returns-in-Fine c =
+pub returns-then-fits : goal.returns-then-fits
+returns-then-fits c =
     let a = c.args in
-    let f = was-fine c.check_new.ensures.0 c.in-Fine.is in
-    (sym (judged-size (name_bytes a.pairs.now a.text.now) a.size a.ask (omega (arith, c.if-size-eq0.false)) f.1), c.check_new.ensures.1)
+    let f = was-fine c.check_new.ensures.0 (c.in-Ok.is ∙ ap Ok c.if-fits.true) in
+    (c.if-fits.true ∙ sym (judged-size (name_bytes a.pairs.now a.text.now) a.size a.ask (omega (arith, c.if-size-eq0.false)) f.1), c.check_new.ensures.1)
 
-pub returns-in-Poor : goal.returns-in-Poor
-returns-in-Poor c = (c.sound_size.ensures ∙ sym (judged-all (omega (arith, c.if-ask-eq0.false))), c.check_new.ensures.1)
+pub returns-else-fits : goal.returns-else-fits
+returns-else-fits c = (c.sound_size.ensures ∙ sym (judged-all (omega (arith, c.if-ask-eq0.false))), c.check_new.ensures.1)
 
-pub returns-in-NoName : goal.returns-in-NoName
-returns-in-NoName c =
-    let h = was-no-name c.check_new.ensures.0 c.in-NoName.is in
-    absurd (let z : ⊥ = omega (arith, h, c.if-size-eq0.false, c.requires.0) in z)
+pub returns-in-Err : goal.returns-in-Err
+returns-in-Err c =
+    let n = was-no-name c.check_new.ensures.0 c.in-Err.is in
+    absurd (let z : ⊥ = omega (arith, n.0, c.if-size-eq0.false, c.requires.0) in z)

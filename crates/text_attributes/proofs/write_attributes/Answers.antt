@@ -1,24 +1,28 @@
-use mathlib.Core.Path.{refl}
+use Prim.Native.Nat.{◌+◌, ◌-◌}
+use mathlib.Core.Path.{◌≡◌, refl}
 use native.Mathlib.Omega.{arith}
+use borrow.Author.Rules.{rules}
 use Rattle.text_pass.proofs.Passes.{along-item, along-start, came-to}
 use Rattle.text_pass.proofs.Lists.{along-each, along-end}
-use borrow.Author.Rules.{rules}
 use Rattle.text_attributes.proofs.write_attributes.Goals as goal
 
-pub loop-left-init : goal.loop-left-init
-loop-left-init c = (refl, along-start c.requires.1)
+pub loop-init : goal.loop-init
+loop-init c =
+    let e : c.args.n - 0 ≡ c.args.n = omega arith in
+    (refl, rw e (along-start c.requires.1))
 
-pub write_attribute-one-requires : goal.write_attribute-one-requires
-write_attribute-one-requires c =
-    let l = c.loop-left in
-    (c.requires.0, along-item _ _ l.left l.place l.invariant.1 c.loop-left-test.true)
+pub write_attribute-spot-requires : goal.write_attribute-spot-requires
+write_attribute-spot-requires c =
+    let l = c.loop in
+    (c.requires.0, along-item _ _ (c.args.n - l.counter) l.spot.next l.invariant.1 (omega arith))
 
-pub loop-left-preserved : goal.loop-left-preserved
-loop-left-preserved c =
-    let l = c.loop-left in
-    (search rules, along-each _ l.left l.place l.invariant.1 c.loop-left-test.true c.write_attribute-one.ensures)
+pub loop-preserved : goal.loop-preserved
+loop-preserved c =
+    let l = c.loop in
+    let e : c.args.n - (l.counter + 1) ≡ c.args.n - l.counter - 1 = omega arith in
+    (search rules, rw e (along-each _ (c.args.n - l.counter) l.spot.next l.invariant.1 (omega arith) c.write_attribute-spot.ensures))
 
 pub returns : goal.returns
 returns c =
-    let l = c.loop-left in
-    came-to (along-end _ l.left l.place l.invariant.1 (omega (arith, c.loop-left-test.false))) refl
+    let l = c.loop in
+    came-to (along-end _ (c.args.n - l.counter) l.spot.next l.invariant.1 (omega arith)) refl

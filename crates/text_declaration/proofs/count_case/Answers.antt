@@ -1,25 +1,24 @@
-use mathlib.Core.Bool.{false, true}
-use mathlib.Core.List.{[]}
+use Rattle.text_fields.proofs.Fields.{went-handed}
 use Rattle.text_declaration.proofs.Declarations.{case-runs}
-use Rattle.text_declaration.specs.Texts.{case_at, fields_at}
-use Rattle.text_pass.proofs.Passes.{AlongChain, came-to, chain_next, chain-start, chain-stop, counts-here, last-went, ready-count}
-use Rattle.text_pass.specs.Passes.{◌then◌, last}
-use Rattle.text_pass.specs.Texts.{doc_at, name_at}
+use Rattle.text_pass.proofs.Passes.{came-to, chain_next, chain-start, chain-stop, counts-here, last-went, ready-count}
 use Rattle.text_declaration.proofs.count_case.Goals as goal
 
-pub returns-in_default : goal.returns-in_default
-returns-in_default c =
-    let whole : AlongChain false [] c.args.pos (case_at c.args.words.now c.args.pairs.now c.args.text.now c.args.level c.args.at) [] c.args.pos (doc_at c.args.words.now c.args.pairs.now c.args.text.now c.args.level c.args.at then λ p. name_at c.args.words.now c.args.pairs.now c.args.text.now p then λ q. last (fields_at c.args.words.now c.args.pairs.now c.args.text.now true c.args.level q)) = chain-start (case-runs c.args.words.now c.args.pairs.now c.args.text.now c.args.level c.args.at) ready-count in
-    chain-stop whole c.count_doc-doc.ensures c.in_default.is
+pub returns-in_err-q : goal.returns-in_err-q
+returns-in_err-q c =
+    let a = c.args in
+    let whole = chain-start (case-runs a.words.now a.pairs.now a.text.now a.level a.at) ready-count in
+    went-handed c.in_err-q.was c.from_residual.ensures.1 (chain-stop whole c.count_doc.ensures c.in_err-q.was)
 
-pub returns-in_default-name : goal.returns-in_default-name
-returns-in_default-name c =
-    let whole : AlongChain false [] c.args.pos (case_at c.args.words.now c.args.pairs.now c.args.text.now c.args.level c.args.at) [] c.args.pos (doc_at c.args.words.now c.args.pairs.now c.args.text.now c.args.level c.args.at then λ p. name_at c.args.words.now c.args.pairs.now c.args.text.now p then λ q. last (fields_at c.args.words.now c.args.pairs.now c.args.text.now true c.args.level q)) = chain-start (case-runs c.args.words.now c.args.pairs.now c.args.text.now c.args.level c.args.at) ready-count in
-    let name : let start = c in AlongChain false [] start.args.pos (case_at start.args.words.now start.args.pairs.now start.args.text.now start.args.level start.args.at) [] c.in-At.p (name_at start.args.words.now start.args.pairs.now start.args.text.now c.in-At.q then λ q. last (fields_at start.args.words.now start.args.pairs.now start.args.text.now true start.args.level q)) = chain_next whole (came-to c.count_doc-doc.ensures c.in-At.is) in
-    chain-stop name (counts-here c.count_name-name.ensures) c.in_default-name.is
+pub returns-in_err-next : goal.returns-in_err-next
+returns-in_err-next c =
+    let a = c.args in
+    let whole = chain-start (case-runs a.words.now a.pairs.now a.text.now a.level a.at) ready-count in
+    let name = chain_next whole (came-to c.count_doc.ensures c.in_ok-q.was) in
+    went-handed c.in_err-next.was c.from_residual-in_err-next.ensures.1 (chain-stop name (counts-here c.count_name.ensures) c.in_err-next.was)
 
 pub returns : goal.returns
 returns c =
-    let whole : AlongChain false [] c.args.pos (case_at c.args.words.now c.args.pairs.now c.args.text.now c.args.level c.args.at) [] c.args.pos (doc_at c.args.words.now c.args.pairs.now c.args.text.now c.args.level c.args.at then λ p. name_at c.args.words.now c.args.pairs.now c.args.text.now p then λ q. last (fields_at c.args.words.now c.args.pairs.now c.args.text.now true c.args.level q)) = chain-start (case-runs c.args.words.now c.args.pairs.now c.args.text.now c.args.level c.args.at) ready-count in
-    let name : let start = c in AlongChain false [] start.args.pos (case_at start.args.words.now start.args.pairs.now start.args.text.now start.args.level start.args.at) [] c.in-At.p (name_at start.args.words.now start.args.pairs.now start.args.text.now c.in-At.q then λ q. last (fields_at start.args.words.now start.args.pairs.now start.args.text.now true start.args.level q)) = chain_next whole (came-to c.count_doc-doc.ensures c.in-At.is) in
-    last-went (chain_next name (came-to (counts-here c.count_name-name.ensures) c.in-At-name.is)) c.count_case_fields.ensures
+    let a = c.args in
+    let whole = chain-start (case-runs a.words.now a.pairs.now a.text.now a.level a.at) ready-count in
+    let name = chain_next whole (came-to c.count_doc.ensures c.in_ok-q.was) in
+    last-went (chain_next name (came-to (counts-here c.count_name.ensures) c.in_ok-next.was)) c.count_case_fields.ensures

@@ -12,5 +12,5 @@ use Rattle.text_declaration.proofs.count_case_line.Goals as goal
 
 pub returns : goal.returns
 returns c =
-    let start = c in
-    let s : start.args.pos + (5 + 4 * start.args.level) ≡ start.args.pos + length (line_text (start.args.level + 1)) = omega (arith, line-size (start.args.level + 1)) in last-went (chain-laid (chain-start (case-line-runs start.args.words.now start.args.pairs.now start.args.text.now start.args.level start.args.at) ready-count) (laid-counted refl (c.count_few-p.ensures ∙ ap clamp s))) c.count_case.ensures
+    let a = c.args in
+    let s : a.pos + (5 + 4 * a.level) ≡ a.pos + length (line_text (a.level + 1)) = omega (arith, line-size (a.level + 1)) in last-went (chain-laid (chain-start (case-line-runs a.words.now a.pairs.now a.text.now a.level a.at) ready-count) (laid-counted refl (c.count_few-p.ensures ∙ ap clamp s))) c.count_case.ensures

@@ -5,15 +5,12 @@ use Rattle.text_declaration.proofs.fields_entry.Goals as goal
 
 pub returns-then-kind-eq-NAMED : goal.returns-then-kind-eq-NAMED
 returns-then-kind-eq-NAMED c =
-    let start = c in
-    entry_named start.args.in_case c.if-kind-eq-NAMED.true
+    entry_named c.args.in_case c.if-kind-eq-NAMED.true
 
 pub returns-then-in_case : goal.returns-then-in_case
 returns-then-in_case c =
-    let start = c in
-    ap nameless_entry (sym c.if-in_case.true) ∙ entry-nameless start.args.in_case c.if-kind-eq-NAMED.false
+    ap nameless_entry (sym c.if-in_case.true) ∙ entry-nameless c.args.in_case c.if-kind-eq-NAMED.false
 
 pub returns : goal.returns
 returns c =
-    let start = c in
-    ap nameless_entry (sym c.if-in_case.false) ∙ entry-nameless start.args.in_case c.if-kind-eq-NAMED.false
+    ap nameless_entry (sym c.if-in_case.false) ∙ entry-nameless c.args.in_case c.if-kind-eq-NAMED.false

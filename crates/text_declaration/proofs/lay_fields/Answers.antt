@@ -1,26 +1,25 @@
-use mathlib.Core.Path.{◌≡◌, sym}
+use Rattle.text_fields.proofs.Fields.{went-handed}
+use mathlib.Core.Path.{sym, refl}
 use mathlib.Core.Bool.{false}
 use Rattle.encoding.specs.Reading.{read_below}
-use Rattle.encoding.proofs.Reading.{word_got, word-stop}
+use Rattle.encoding.proofs.Reading.{read-got, read-stop}
 use Rattle.text_pass.proofs.Passes.{ready-as, stops-here, went-as}
 use Rattle.text_declaration.proofs.Declarations.{fields-listed, fields-stop}
-use Rattle.text_declaration.specs.Texts.{fields_at, listed_at}
 use Rattle.text_declaration.proofs.lay_fields.Goals as goal
 
 pub lay_listed-requires : goal.lay_listed-requires
 lay_listed-requires c =
-    let fields : let start = c in fields_at start.args.words.now start.args.pairs.now start.args.text.now false start.args.level start.args.at ≡ listed_at start.args.words.now start.args.pairs.now start.args.text.now c.fields_entry-entry.result start.args.level c.in-Word.next = let start = c in
-    fields-listed start.args.words.now start.args.pairs.now start.args.text.now start.args.level start.args.at (word_got (read_below 2 start.args.words.now start.args.at) c.scan_below.ensures c.in-Word.is) false c.fields_entry-entry.ensures in
-    let start = c in
-    (start.requires.0, start.requires.1, ready-as fields start.requires.2)
+    let a = c.args in
+    let fields = fields-listed a.words.now a.pairs.now a.text.now a.level a.at (read-got (read_below 2 a.words.now a.at) c.scan_below.ensures c.in_ok-value.was) false c.fields_entry-entry.ensures in
+    (c.requires.0, c.requires.1, ready-as fields c.requires.2)
 
-pub returns-in-Word : goal.returns-in-Word
-returns-in-Word c =
-    let fields : let start = c in fields_at start.args.words.now start.args.pairs.now start.args.text.now false start.args.level start.args.at ≡ listed_at start.args.words.now start.args.pairs.now start.args.text.now c.fields_entry-entry.result start.args.level c.in-Word.next = let start = c in
-    fields-listed start.args.words.now start.args.pairs.now start.args.text.now start.args.level start.args.at (word_got (read_below 2 start.args.words.now start.args.at) c.scan_below.ensures c.in-Word.is) false c.fields_entry-entry.ensures in
+pub returns : goal.returns
+returns c =
+    let a = c.args in
+    let fields = fields-listed a.words.now a.pairs.now a.text.now a.level a.at (read-got (read_below 2 a.words.now a.at) c.scan_below.ensures c.in_ok-value.was) false c.fields_entry-entry.ensures in
     went-as (sym fields) c.lay_listed.ensures
 
-pub returns-in-NoWord : goal.returns-in-NoWord
-returns-in-NoWord c =
-    let start = c in
-    stops-here (fields-stop start.args.words.now start.args.pairs.now start.args.text.now false start.args.level start.args.at (word-stop (read_below 2 start.args.words.now start.args.at) c.scan_below.ensures c.in-NoWord.is))
+pub returns-in_err-value : goal.returns-in_err-value
+returns-in_err-value c =
+    let a = c.args in
+    went-handed refl c.from_residual.ensures.1 (stops-here (fields-stop a.words.now a.pairs.now a.text.now false a.level a.at (read-stop (read_below 2 a.words.now a.at) c.scan_below.ensures c.in_err-value.was)))

@@ -8,20 +8,17 @@ use Rattle.text_declaration.proofs.lay_keyword.Goals as goal
 pub lay-requires : goal.lay-requires
 unfolding keyword_text ascii
 lay-requires c =
-    let start = c in
-    fits-as (ap keyword_text c.in-25.is) start.requires
+    fits-as (ap keyword_text c.in-25.is) c.requires
 
 pub lay-requires-in-26 : goal.lay-requires-in-26
 unfolding keyword_text ascii
 lay-requires-in-26 c =
-    let start = c in
-    fits-as (ap keyword_text c.in-26.is) start.requires
+    fits-as (ap keyword_text c.in-26.is) c.requires
 
 pub lay-requires-in_default : goal.lay-requires-in_default
 unfolding ascii
 lay-requires-in_default c =
-    let start = c in
-    fits-as (keyword-type _ c.in_default.in_default-own.rest.0.1 c.in_default.in_default-own.rest.1) start.requires
+    fits-as (keyword-type _ c.in_default.in_default-own.rest.0.1 c.in_default.in_default-own.rest.1) c.requires
 
 pub returns-in-25 : goal.returns-in-25
 unfolding keyword_text ascii

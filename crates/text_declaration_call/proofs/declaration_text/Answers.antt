@@ -1,3 +1,4 @@
+use Rattle.encoding.proofs.Reading.{handed-on}
 use Rattle.encoding.specs.Declarations.{declaration_of}
 use Rattle.text_calls.proofs.Calls.{level-tested, tables-tested, text-filled, text-refused}
 use Rattle.text_declaration_call.specs.Calls.{declaration_text}
@@ -7,17 +8,17 @@ use Rattle.text_declaration_call.proofs.declaration_text.Goals as goal
 pub fill-requires : goal.fill-requires
 fill-requires c =
     let a = c.args in
-    let t = tables-tested a.words.now a.pairs.now a.text.now a.level c.check_call.ensures c.in-Passed.is in
-    (record { good = t.0; few = t.1 }, level-passed a.level (level-tested a.words.now a.pairs.now a.text.now a.level c.check_call.ensures c.in-Passed.is))
+    let t = tables-tested a.words.now a.pairs.now a.text.now a.level c.check_call.ensures c.in_ok-check_call.was in
+    (record { good = t.0; few = t.1 }, level-passed a.level (level-tested a.words.now a.pairs.now a.text.now a.level c.check_call.ensures c.in_ok-check_call.was))
 
-pub returns-in-Passed : goal.returns-in-Passed
+pub returns : goal.returns
 unfolding declaration_text declaration_of
-returns-in-Passed c =
+returns c =
     let a = c.args in
-    text-filled a.words.now a.pairs.now a.text.now a.level c.check_call.ensures a.out.now _ _ c.in-Passed.is c.fill.ensures
+    text-filled a.words.now a.pairs.now a.text.now a.level c.check_call.ensures a.out.now _ _ c.in_ok-check_call.was c.fill.ensures
 
-pub returns-in-Failed : goal.returns-in-Failed
+pub returns-in_err-check_call : goal.returns-in_err-check_call
 unfolding declaration_text declaration_of
-returns-in-Failed c =
+returns-in_err-check_call c =
     let a = c.args in
-    text-refused a.words.now a.pairs.now a.text.now a.level c.check_call.ensures a.out.now _ _ c.in-Failed.is
+    rw (handed-on c.from_residual.ensures.1) (text-refused a.words.now a.pairs.now a.text.now a.level c.check_call.ensures a.out.now _ _ c.in_err-check_call.was)

@@ -1,40 +1,39 @@
+use Prim.Native.Nat.{◌-◌}
 use mathlib.Core.Bool.{false}
 use mathlib.Core.List.{[]}
 use mathlib.Core.Path.{refl}
 use native.Mathlib.Omega.{arith}
 use Rattle.buffer.proofs.Passes.{laid-size}
-use Rattle.text_fields.proofs.Fields.{entry-as}
-use Rattle.text_fields.specs.Texts.{entry_at}
-use Rattle.text_pass.proofs.Passes.{came-to, ready-count, turn_last, turn-next, turn-start, turn-stop, went-as}
-use Rattle.text_pass.specs.Passes.{Went, came}
+use Rattle.text_fields.specs.Texts.{entry_at, entry_gap}
+use Rattle.text_fields.proofs.Fields.{entry-as, went-handed}
+use Rattle.text_fields.proofs.Turns.{turn-turned, turned-end, turned-first, turned-later, turned-start}
+use Rattle.text_pass.proofs.Passes.{Turn, came-to, ready-count, turn-stop, went-as}
+use Rattle.text_pass.specs.Passes.{came}
 use Rattle.text_fields.proofs.count_entries.Goals as goal
+use Rattle.text_fields.proofs.count_entries.Goals.{then-i-gt0, else-i-gt0}
 
-pub loop-next-init : goal.loop-next-init
-loop-next-init c = turn-start c.requires.1 ready-count
+pub loop-i-init : goal.loop-i-init
+loop-i-init c = turned-start ready-count
 
-pub count_field-one-requires : goal.count_field-one-requires
-count_field-one-requires c = c.requires.0
+pub loop-i-preserved : goal.loop-i-preserved
+loop-i-preserved c =
+    let a = c.args in
+    let l = c.loop-i in
+    let turn : Turn (entry_at a.words.now a.pairs.now a.text.now a.entry) (entry_gap a.entry a.level) false [] a.pos a.n a.at [] c.if-i-gt0.p (a.n - l.i) l.place = elim c.if-i-gt0.branch [
+      | then-i-gt0 w ↦ rw w.p-is (turned-later l.invariant w.if-i-gt0.true c.loop-i-test.true (laid-size refl w.count_few-p.ensures w.gap_length.ensures.0))
+      | else-i-gt0 w ↦ rw w.p-is (turned-first l.invariant (omega arith) c.loop-i-test.true)
+    ] in
+    turn-turned l.i turn (came-to (went-as (entry-as a.words.now a.pairs.now a.text.now l.place c.is_named-named.ensures) c.count_field.ensures) c.in_ok-next.was)
 
-pub returns-in_default : goal.returns-in_default
-returns-in_default c =
-    let field : let start = c in Went false [] c.loop-next.p (entry_at start.args.words.now start.args.pairs.now start.args.text.now start.args.entry c.loop-next.place) [] c.count_field-one.result = let start = c in
-    went-as (entry-as start.args.words.now start.args.pairs.now start.args.text.now c.loop-next.place c.is_named-named.ensures) c.count_field-one.ensures in
-    turn-stop c.loop-next.invariant field c.in_default.is
+pub returns-in_err-next : goal.returns-in_err-next
+returns-in_err-next c =
+    let a = c.args in
+    let l = c.loop-i in
+    let turn : Turn (entry_at a.words.now a.pairs.now a.text.now a.entry) (entry_gap a.entry a.level) false [] a.pos a.n a.at [] c.if-i-gt0.p (a.n - l.i) l.place = elim c.if-i-gt0.branch [
+      | then-i-gt0 w ↦ rw w.p-is (turned-later l.invariant w.if-i-gt0.true c.loop-i-test.true (laid-size refl w.count_few-p.ensures w.gap_length.ensures.0))
+      | else-i-gt0 w ↦ rw w.p-is (turned-first l.invariant (omega arith) c.loop-i-test.true)
+    ] in
+    went-handed c.in_err-next.was c.from_residual.ensures.1 (turn-stop turn (went-as (entry-as a.words.now a.pairs.now a.text.now l.place c.is_named-named.ensures) c.count_field.ensures) c.in_err-next.was)
 
-pub returns-then-left-eq0 : goal.returns-then-left-eq0
-returns-then-left-eq0 c =
-    let field : let start = c in Went false [] c.loop-next.p (entry_at start.args.words.now start.args.pairs.now start.args.text.now start.args.entry c.loop-next.place) [] c.count_field-one.result = let start = c in
-    went-as (entry-as start.args.words.now start.args.pairs.now start.args.text.now c.loop-next.place c.is_named-named.ensures) c.count_field-one.ensures in
-    came (turn_last c.loop-next.invariant (came-to field c.in-At.is) c.if-left-eq0.true)
-
-pub gap_length-requires : goal.gap_length-requires
-gap_length-requires c = c.requires.2
-
-pub count_few-p-requires : goal.count_few-p-requires
-count_few-p-requires c = omega (arith, c.gap_length.ensures.1)
-
-pub loop-next-preserved : goal.loop-next-preserved
-loop-next-preserved c =
-    let field : let start = c in Went false [] c.loop-next.p (entry_at start.args.words.now start.args.pairs.now start.args.text.now start.args.entry c.loop-next.place) [] c.count_field-one.result = let start = c in
-    went-as (entry-as start.args.words.now start.args.pairs.now start.args.text.now c.loop-next.place c.is_named-named.ensures) c.count_field-one.ensures in
-    turn-next c.loop-next.invariant (came-to field c.in-At.is) c.if-left-eq0.false (laid-size refl c.count_few-p.ensures c.gap_length.ensures.0)
+pub returns : goal.returns
+returns c = came (turned-end c.loop-i.invariant (omega arith) c.requires.1)

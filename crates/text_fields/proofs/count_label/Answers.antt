@@ -7,10 +7,10 @@ use Rattle.text_fields.proofs.count_label.Goals as goal
 
 pub returns-then-named : goal.returns-then-named
 returns-then-named c =
-    let start = c in
-    labelled-as (sym (rest-as start.args.words.now start.args.pairs.now start.args.text.now start.args.at c.if-named.true)) c.count_label.ensures
+    let a = c.args in
+    labelled-as (sym (rest-as a.words.now a.pairs.now a.text.now a.at c.if-named.true)) c.count_label.ensures
 
 pub returns : goal.returns
 returns c =
-    let start = c in
-    labelled-as (sym (rest-as start.args.words.now start.args.pairs.now start.args.text.now start.args.at c.if-named.false)) (opened (along-start ready-count))
+    let a = c.args in
+    labelled-as (sym (rest-as a.words.now a.pairs.now a.text.now a.at c.if-named.false)) (opened (along-start ready-count))

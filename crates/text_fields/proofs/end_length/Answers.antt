@@ -7,8 +7,7 @@ use Rattle.text_fields.proofs.end_length.Goals as goal
 
 pub returns-then-named : goal.returns-then-named
 returns-then-named c =
-    let start = c in
-    (size_of (λ b. list_end b start.args.level) c.if-named.true (end-size start.args.level), omega (arith, start.requires))
+    (size_of (λ b. list_end b c.args.level) c.if-named.true (end-size c.args.level), omega (arith, c.requires))
 
 pub returns : goal.returns
 unfolding list_end ascii

@@ -7,8 +7,7 @@ use Rattle.text_fields.proofs.front_length.Goals as goal
 
 pub returns-then-named : goal.returns-then-named
 returns-then-named c =
-    let start = c in
-    (size_of (λ b. list_front b start.args.level) c.if-named.true (front-size start.args.level), omega (arith, start.requires))
+    (size_of (λ b. list_front b c.args.level) c.if-named.true (front-size c.args.level), omega (arith, c.requires))
 
 pub returns : goal.returns
 unfolding list_front ascii

@@ -10,18 +10,15 @@ use Rattle.text_fields.proofs.write_comma_line.Goals as goal
 
 pub put-p-requires : goal.put-p-requires
 put-p-requires c =
-    let start = c in
-    let size = comma-line-size start.args.level in
-    omega (arith, size, start.requires.1)
+    let size = comma-line-size c.args.level in
+    omega (arith, size, c.requires.1)
 
 pub put_line-requires : goal.put_line-requires
 unfolding ascii
 put_line-requires c =
-    let start = c in
-    room-last (ascii "\n" ++ indent (start.args.level + 1)) start.requires.1 c.put-p.ensures (comma-line start.args.level)
+    room-last (ascii "\n" ++ indent (c.args.level + 1)) c.requires.1 c.put-p.ensures (comma-line c.args.level)
 
 pub returns : goal.returns
 unfolding ascii
 returns c =
-    let start = c in
-    wrote_as (sym (comma-line start.args.level)) (wrote_then c.put-p.ensures c.put_line.ensures)
+    wrote_as (sym (comma-line c.args.level)) (wrote_then c.put-p.ensures c.put_line.ensures)

@@ -6,8 +6,7 @@ use Rattle.text_fields.proofs.write_none.Goals as goal
 pub put-requires : goal.put-requires
 unfolding no_fields ascii
 put-requires c =
-    let start = c in
-    room_of no_fields start.args.pos start.args.out.now c.if-named.true start.requires
+    room_of no_fields c.args.pos c.args.out.now c.if-named.true c.requires
 
 pub returns-then-named : goal.returns-then-named
 unfolding no_fields ascii
@@ -16,8 +15,7 @@ returns-then-named c = wrote_of no_fields c.if-named.true c.put.ensures
 pub put-requires-2 : goal.put-requires-2
 unfolding no_fields ascii
 put-requires-2 c =
-    let start = c in
-    room_of no_fields start.args.pos start.args.out.now c.if-named.false start.requires
+    room_of no_fields c.args.pos c.args.out.now c.if-named.false c.requires
 
 pub returns : goal.returns
 unfolding no_fields ascii

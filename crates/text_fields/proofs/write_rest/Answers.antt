@@ -4,8 +4,7 @@ use Rattle.text_fields.proofs.write_rest.Goals as goal
 
 pub write_field_type-requires : goal.write_field_type-requires
 write_field_type-requires c =
-    let start = c in
-    (start.requires.0, (written-front c.write_label.ensures c.in-Rest.is).ready)
+    (c.requires.0, (written-front c.write_label.ensures c.in-Rest.is).ready)
 
 pub returns-in-Rest : goal.returns-in-Rest
 returns-in-Rest c =

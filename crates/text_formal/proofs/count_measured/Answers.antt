@@ -1,4 +1,3 @@
-use Prim.Native.Nat.{◌<◌, ◌^◌}
 use mathlib.Core.List.{[]}
 use mathlib.Core.Path.{refl}
 use Rattle.encoding.specs.Types.{type_at}
@@ -12,17 +11,16 @@ use Rattle.text_formal.proofs.count_measured.Goals as goal
 
 pub overflow_add-name_length : goal.overflow_add-name_length
 overflow_add-name_length c =
-    let short : c.name_length.result < 2 ^ 32 = name-fits c.args.pairs.now (λ i. omega (arith, c.shared_slice_known-2-1.given i)) _ _ c.name_length.ensures in
+    let short = name-fits c.args.pairs.now (λ i. omega (arith, c.shared_slice_known-2-1.given i)) _ _ c.name_length.ensures in
     omega (arith, short)
 
 pub count_few-open-requires : goal.count_few-open-requires
 count_few-open-requires c =
-    let short : c.name_length.result < 2 ^ 32 = name-fits c.args.pairs.now (λ i. omega (arith, c.shared_slice_known-2-1.given i)) _ _ c.name_length.ensures in
+    let short = name-fits c.args.pairs.now (λ i. omega (arith, c.shared_slice_known-2-1.given i)) _ _ c.name_length.ensures in
     omega (arith, short)
 
 pub returns : goal.returns
 returns c =
-    let start = c in
-    let a = start.args in
-    let t = typed-counted a.words.now a.pairs.now a.text.now a.name a.at start.requires.0.good start.requires.1 c.name_length.ensures c.count_few-open.ensures in
-    whole (came-to (t.ends [] _ (went-measured (type_at a.words.now a.pairs.now a.text.now a.at) refl start.requires.2 refl c.count_on.ensures)) refl)
+    let a = c.args in
+    let t = typed-counted a.words.now a.pairs.now a.text.now a.name a.at c.requires.0.good c.requires.1 c.name_length.ensures c.count_few-open.ensures in
+    whole (came-to (t.ends [] _ (went-measured (type_at a.words.now a.pairs.now a.text.now a.at) refl c.requires.2 refl c.count_on.ensures)) refl)

@@ -1,4 +1,3 @@
-use Prim.Native.Nat.{◌<◌, ◌^◌}
 use Rattle.text_formal.proofs.Texts.{typed-counted}
 use Rattle.text_formal.specs.Labels.{opened}
 use Rattle.text_measure.proofs.Lengths.{name-fits}
@@ -7,16 +6,15 @@ use Rattle.text_formal.proofs.count_open.Goals as goal
 
 pub overflow_add-name_length : goal.overflow_add-name_length
 overflow_add-name_length c =
-    let short : c.name_length.result < 2 ^ 32 = name-fits c.args.pairs.now (λ i. omega (arith, c.shared_slice_known-2-1.given i)) _ _ c.name_length.ensures in
+    let short = name-fits c.args.pairs.now (λ i. omega (arith, c.shared_slice_known-2-1.given i)) _ _ c.name_length.ensures in
     omega (arith, short)
 
 pub count_few-requires : goal.count_few-requires
 count_few-requires c =
-    let short : c.name_length.result < 2 ^ 32 = name-fits c.args.pairs.now (λ i. omega (arith, c.shared_slice_known-2-1.given i)) _ _ c.name_length.ensures in
+    let short = name-fits c.args.pairs.now (λ i. omega (arith, c.shared_slice_known-2-1.given i)) _ _ c.name_length.ensures in
     omega (arith, short)
 
 pub returns : goal.returns
 returns c =
-    let start = c in
-    let a = start.args in
-    opened (typed-counted a.words.now a.pairs.now a.text.now a.name a.at start.requires.0.good start.requires.1 c.name_length.ensures c.count_few.ensures)
+    let a = c.args in
+    opened (typed-counted a.words.now a.pairs.now a.text.now a.name a.at c.requires.0.good c.requires.1 c.name_length.ensures c.count_few.ensures)

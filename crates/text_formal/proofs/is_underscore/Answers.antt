@@ -3,7 +3,7 @@ use mathlib.Core.Path.{refl}
 use Rattle.rast.specs.Bytes.{ascii}
 use Rattle.encoding.specs.Reading.{read_below}
 use Rattle.encoding.specs.Tables.{fixed_names, name_count}
-use Rattle.encoding.proofs.Reading.{word_got, word-stop}
+use Rattle.encoding.proofs.Reading.{read-got, read-stop}
 use Rattle.encoding.proofs.Inside.{below-there}
 use Rattle.text_formal.proofs.Receivers.{tells-behind, tells-name, tells-no-name, tells-other}
 use native.Mathlib.Omega.{arith}
@@ -24,16 +24,16 @@ pub is_name-requires : goal.is_name-requires
 unfolding fixed_names ascii
 is_name-requires c =
     let a = c.args in
-    let e = word_got (read_below (name_count a.pairs.now) a.words.now (a.at + 1)) (rw c.name_count.ensures at c.scan_below.ensures) c.in-Word.is in
+    let e = read-got (read_below (name_count a.pairs.now) a.words.now (a.at + 1)) (rw c.name_count.ensures at c.scan_below.ensures) c.in-Ok.is in
     ((below-there (name_count a.pairs.now) a.words.now (a.at + 1) e).below, c.requires, omega arith, refl)
 
-pub returns-in-Word : goal.returns-in-Word
-returns-in-Word c =
+pub returns-in-Ok : goal.returns-in-Ok
+returns-in-Ok c =
     let a = c.args in
-    let e = word_got (read_below (name_count a.pairs.now) a.words.now (a.at + 1)) (rw c.name_count.ensures at c.scan_below.ensures) c.in-Word.is in
+    let e = read-got (read_below (name_count a.pairs.now) a.words.now (a.at + 1)) (rw c.name_count.ensures at c.scan_below.ensures) c.in-Ok.is in
     tells-name a.words.now a.pairs.now a.text.now a.at (search rules) (search rules) e c.is_name.ensures
 
-pub returns-in-NoWord : goal.returns-in-NoWord
-returns-in-NoWord c =
+pub returns-in-Err : goal.returns-in-Err
+returns-in-Err c =
     let a = c.args in
-    tells-no-name a.words.now a.pairs.now a.text.now a.at (search rules) (search rules) (word-stop (read_below (name_count a.pairs.now) a.words.now (a.at + 1)) (rw c.name_count.ensures at c.scan_below.ensures) c.in-NoWord.is)
+    tells-no-name a.words.now a.pairs.now a.text.now a.at (search rules) (search rules) (read-stop (read_below (name_count a.pairs.now) a.words.now (a.at + 1)) (rw c.name_count.ensures at c.scan_below.ensures) c.in-Err.is)

@@ -11,7 +11,7 @@ use Rattle.text_formal.proofs.may_receive.Goals as goal
 
 pub is_name-requires : goal.is_name-requires
 unfolding ascii fixed_names
-is_name-requires c = let start = c in (start.requires.0, start.requires.1, omega arith, refl)
+is_name-requires c = (c.requires.0, c.requires.1, omega arith, refl)
 
 pub returns-then-at-words : goal.returns-then-at-words
 unfolding fixed_names

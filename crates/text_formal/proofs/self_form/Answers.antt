@@ -5,9 +5,6 @@ use Rattle.text_formal.specs.Receivers.{shared, mutable}
 use Rattle.text_formal.proofs.Receivers.{by-mut, by-ref, by-underscore, by_value, expands_to_self, judge-expanded, with-type}
 use Rattle.text_formal.proofs.self_form.Goals as goal
 
-pub expand-requires : goal.expand-requires
-expand-requires c = c.requires.1
-
 pub is_self_type-requires : goal.is_self_type-requires
 is_self_type-requires c =
     let a = c.args in
@@ -15,8 +12,8 @@ is_self_type-requires c =
 
 pub returns-then-is_self_type : goal.returns-then-is_self_type
 returns-then-is_self_type c =
-    let judged : let a = c.args in Judges expands_to_self (type_at a.words.now a.pairs.now a.text.now a.at) c.is_self_type.result = let a = c.args in
-    judge-expanded (type_at a.words.now a.pairs.now a.text.now) c.expand.ensures c.is_self_type.ensures in
+    let a = c.args in
+    let judged : Judges expands_to_self (type_at a.words.now a.pairs.now a.text.now a.at) c.is_self_type.result = judge-expanded (type_at a.words.now a.pairs.now a.text.now) c.expand.ensures c.is_self_type.ensures in
     let j = judged in
     by_value j c.if-is_self_type.true
 
@@ -25,8 +22,8 @@ is_self_borrowed-requires c = (shared, c.requires.1)
 
 pub returns-then-is_self_borrowed : goal.returns-then-is_self_borrowed
 returns-then-is_self_borrowed c =
-    let judged : let a = c.args in Judges expands_to_self (type_at a.words.now a.pairs.now a.text.now a.at) c.is_self_type.result = let a = c.args in
-    judge-expanded (type_at a.words.now a.pairs.now a.text.now) c.expand.ensures c.is_self_type.ensures in
+    let a = c.args in
+    let judged : Judges expands_to_self (type_at a.words.now a.pairs.now a.text.now a.at) c.is_self_type.result = judge-expanded (type_at a.words.now a.pairs.now a.text.now) c.expand.ensures c.is_self_type.ensures in
     let j = judged in
     by-ref j c.if-is_self_type.false c.is_self_borrowed.ensures c.if-is_self_borrowed.true
 
@@ -35,20 +32,17 @@ is_self_borrowed-requires-2 c = (mutable, c.requires.1)
 
 pub returns-then-is_self_borrowed-2 : goal.returns-then-is_self_borrowed-2
 returns-then-is_self_borrowed-2 c =
-    let judged : let a = c.args in Judges expands_to_self (type_at a.words.now a.pairs.now a.text.now a.at) c.is_self_type.result = let a = c.args in
-    judge-expanded (type_at a.words.now a.pairs.now a.text.now) c.expand.ensures c.is_self_type.ensures in
+    let a = c.args in
+    let judged : Judges expands_to_self (type_at a.words.now a.pairs.now a.text.now a.at) c.is_self_type.result = judge-expanded (type_at a.words.now a.pairs.now a.text.now) c.expand.ensures c.is_self_type.ensures in
     let j = judged in
     by-mut j c.if-is_self_type.false c.is_self_borrowed.ensures
     c.if-is_self_borrowed.false c.is_self_borrowed-2.ensures
     c.if-is_self_borrowed-2.true
 
-pub is_underscore-requires : goal.is_underscore-requires
-is_underscore-requires c = c.requires.0
-
 pub returns-then-is_underscore : goal.returns-then-is_underscore
 returns-then-is_underscore c =
-    let judged : let a = c.args in Judges expands_to_self (type_at a.words.now a.pairs.now a.text.now a.at) c.is_self_type.result = let a = c.args in
-    judge-expanded (type_at a.words.now a.pairs.now a.text.now) c.expand.ensures c.is_self_type.ensures in
+    let a = c.args in
+    let judged : Judges expands_to_self (type_at a.words.now a.pairs.now a.text.now a.at) c.is_self_type.result = judge-expanded (type_at a.words.now a.pairs.now a.text.now) c.expand.ensures c.is_self_type.ensures in
     let j = judged in
     by-underscore j c.if-is_self_type.false c.is_self_borrowed.ensures
     c.if-is_self_borrowed.false c.is_self_borrowed-2.ensures
@@ -57,8 +51,8 @@ returns-then-is_underscore c =
 
 pub returns : goal.returns
 returns c =
-    let judged : let a = c.args in Judges expands_to_self (type_at a.words.now a.pairs.now a.text.now a.at) c.is_self_type.result = let a = c.args in
-    judge-expanded (type_at a.words.now a.pairs.now a.text.now) c.expand.ensures c.is_self_type.ensures in
+    let a = c.args in
+    let judged : Judges expands_to_self (type_at a.words.now a.pairs.now a.text.now a.at) c.is_self_type.result = judge-expanded (type_at a.words.now a.pairs.now a.text.now) c.expand.ensures c.is_self_type.ensures in
     let j = judged in
     with-type j c.if-is_self_type.false c.is_self_borrowed.ensures
     c.if-is_self_borrowed.false c.is_self_borrowed-2.ensures

@@ -1,14 +1,13 @@
 use Prim.Native.Nat.{ℕ, suc, ◌+◌, ◌/◌, ◌%◌}
 use mathlib.Core.Path.{◌≡◌, ap}
 use lib.ListN.{set}
-use lib.Seq.{lt-length-set}
 use native.Mathlib.Omega.{arith}
 use Rattle.text_leaf.specs.Texts.{two_bytes}
 use Rattle.text_leaf.proofs.put_two.Goals as goal
 
-pub bounds-out-pos-2 : goal.bounds-out-pos-2
-bounds-out-pos-2 c = lt-length-set c.args.out.now c.args.pos (c.args.two % 256) (omega (arith, c.requires))
-
 pub returns : goal.returns
 unfolding two_bytes
-returns c = ap (λ (k : ℕ). set (set c.args.out.now c.args.pos (c.args.two % 256)) k (c.args.two / 256)) (let e : c.args.pos + 1 ≡ suc c.args.pos = omega arith in e)
+returns c =
+    let a = c.args in
+    let high : a.two / 256 % 256 ≡ a.two / 256 = omega arith in
+    rw (c.to_le_bytes.ensures, high) (ap (λ (k : ℕ). set (set a.out.now a.pos (a.two % 256)) k (a.two / 256)) (let e : a.pos + 1 ≡ suc a.pos = omega arith in e))

@@ -9,9 +9,6 @@ pub returns-then-size-eq0 : goal.returns-then-size-eq0
 unfolding array_length
 returns-then-size-eq0 c = (rw (eq-eqb _ _ c.if-size-eq0.true), omega arith)
 
-pub name_length-requires : goal.name_length-requires
-name_length-requires c = omega (arith, c.requires)
-
 pub overflow_add-result : goal.overflow_add-result
 overflow_add-result c = omega (arith, c.name_length.ensures, name-short c.args.pairs.now (λ i. omega (arith, c.shared_slice_known-1.given i)) (c.args.size - 1))
 

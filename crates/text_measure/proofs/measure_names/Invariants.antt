@@ -9,9 +9,6 @@ use Rattle.text_measure.proofs.measure_names.Given as goal
 -- what is left of the names is read as all of them are, and their lengths add up
 abbrev pub invariant-loop-i : goal.invariant-loop-i
 invariant-loop-i l =
-    NamesTo l.bound l.words l.initial.i l.end l.i × (l.bytes ≤ 5 + l.i * (2 ^ 32 + 2))
+    NamesTo l.bound l.words l.path.start l.end l.i × (l.bytes ≤ 5 + l.i * (2 ^ 32 + 2))
     × (l.bytes + names_length (name_length l.pairs) (take (l.end - l.i) (drop l.i l.words))
-    ≡ l.initial.bytes + names_length (name_length l.pairs) (take (l.end - l.initial.i) (drop l.initial.i l.words)))
-
-abbrev pub decreases-loop-i : goal.decreases-loop-i
-decreases-loop-i l = l.end - l.i
+    ≡ l.initial.bytes + names_length (name_length l.pairs) (take (l.end - l.path.start) (drop l.path.start l.words)))

@@ -4,9 +4,6 @@ use Rattle.text_measure.proofs.Scans.{path-as}
 use Rattle.text_measure.proofs.Measured.{path-measured}
 use Rattle.text_measure.proofs.measure_path.Goals as goal
 
-pub path_at-requires : goal.path_at-requires
-path_at-requires c = (c.name_count.ensures, c.requires.1)
-
 pub returns : goal.returns
 returns c =
     let s = c in

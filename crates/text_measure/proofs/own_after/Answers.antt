@@ -7,9 +7,6 @@ use Rattle.text_measure.proofs.Scans.{scanned-node, scanned-stop, scanned-as}
 use native.Mathlib.Omega.{arith}
 use Rattle.text_measure.proofs.own_after.Goals as goal
 
-pub own_path-requires : goal.own_path-requires
-own_path-requires c = (c.requires.1, c.requires.2)
-
 pub returns-in-13 : goal.returns-in-13
 unfolding head_after
 returns-in-13 c =

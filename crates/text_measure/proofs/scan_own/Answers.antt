@@ -28,11 +28,6 @@ returns-then-w-lt-TYPE_FROM_PATH c =
     let e : get_or a.words.now a.at 0 ≡ 12 = omega (arith, c.if-w-lt-PLAIN_KINDS.false, c.if-w-lt-TYPE_FROM_PATH.true) in
     scanned-as a.words.now a.pairs.now (head_at a.bound a.words.now a.at c.if-words-at.false ∙ rw e) c.own_name.ensures
 
-pub own_after-requires : goal.own_after-requires
-own_after-requires c =
-    let s = c in
-    (omega (arith, c.if-w-lt-TYPE_FROM_PATH.false), s.requires.0, s.requires.1)
-
 pub returns : goal.returns
 returns c =
     let a = c.args in

@@ -1,26 +1,34 @@
-use mathlib.Core.Path.{refl}
 use Rattle.rast.specs.Bytes.{ascii}
 use Rattle.text_pass.specs.Passes.{came}
-use Rattle.text_pass.proofs.Passes.{came-to, turn_gap, turn-item, turn_last, turn-next, turn-start, turn-stop}
+use Rattle.text_pass.proofs.Passes.{came-to, turn-item, turn-stop, turns-end, turns_gap, turns-last, turns-next, turns-start, went-handed}
 use borrow.Author.Rules.{rules}
+use mathlib.Core.Path.{refl}
 use Rattle.text_parameters.proofs.lay_constraints.Goals as goal
+use Rattle.text_parameters.proofs.lay_constraints.Goals.{then-i-n, else-i-n}
 
-pub loop-next-init : goal.loop-next-init
-loop-next-init c = (refl, turn-start c.requires.1 c.requires.2)
+pub loop-i-init : goal.loop-i-init
+loop-i-init c = (refl, turns-start c.requires.1 c.requires.2)
 
-pub lay_type-one-requires : goal.lay_type-one-requires
-lay_type-one-requires c = (c.requires.0, turn-item c.loop-next.invariant.1)
+pub lay_type-requires : goal.lay_type-requires
+lay_type-requires c = (c.requires.0, turn-item (c.loop-i.invariant.1.going c.loop-i-test.true))
 
-pub returns-in_default : goal.returns-in_default
-returns-in_default c = turn-stop c.loop-next.invariant.1 c.lay_type-one.ensures c.in_default.is
-
-pub returns-then-left-eq0 : goal.returns-then-left-eq0
-returns-then-left-eq0 c = came (turn_last c.loop-next.invariant.1 (came-to c.lay_type-one.ensures c.in-At.is) c.if-left-eq0.true)
+pub returns-in_err-place : goal.returns-in_err-place
+returns-in_err-place c = went-handed c.in_err-place.was c.from_residual.ensures.1 (turn-stop (c.loop-i.invariant.1.going c.loop-i-test.true) c.lay_type.ensures c.in_err-place.was)
 
 pub lay-p-requires : goal.lay-p-requires
 unfolding ascii
-lay-p-requires c = turn_gap c.loop-next.invariant.1 (came-to c.lay_type-one.ensures c.in-At.is) c.if-left-eq0.false
+lay-p-requires c = turns_gap c.loop-i.invariant.1 c.loop-i-test.true (came-to c.lay_type.ensures c.in_ok-place.was) c.if-i-n.true
 
-pub loop-next-preserved : goal.loop-next-preserved
+pub loop-i-preserved : goal.loop-i-preserved
 unfolding ascii
-loop-next-preserved c = (search rules, turn-next c.loop-next.invariant.1 (came-to c.lay_type-one.ensures c.in-At.is) c.if-left-eq0.false c.lay-p.ensures)
+loop-i-preserved c =
+    let one = came-to c.lay_type.ensures c.in_ok-place.was in (
+      search rules,
+      elim c.if-i-n.branch [
+        | then-i-n w ↦ rw (w.out-is, w.p-is) (turns-next c.loop-i.invariant.1 c.loop-i-test.true one w.if-i-n.true w.lay-p.ensures)
+        | else-i-n w ↦ rw (w.out-is, w.p-is) (turns-last c.loop-i.invariant.1 c.loop-i-test.true one w.if-i-n.false)
+      ],
+    )
+
+pub returns : goal.returns
+returns c = came (turns-end c.loop-i.invariant.1 c.loop-i.auto.i-end c.loop-i-test.false)

@@ -1,12 +1,9 @@
 use mathlib.Core.Path.{◌≡◌}
 use lib.ListN.{length}
 use Rattle.rast.specs.Bytes.{ascii}
-use Rattle.text_pass.proofs.Passes.{Turn}
+use Rattle.text_pass.proofs.Passes.{Turns}
 use Rattle.text_parameters.specs.Texts.{parameter_at}
 use Rattle.text_parameters.proofs.lay_parameters.Given as goal
 
-abbrev pub invariant-loop-next : goal.invariant-loop-next
-invariant-loop-next l = (length l.out ≡ length l.initial.out) × Turn (parameter_at l.words l.pairs l.text) (ascii ", ") l.write l.initial.out l.pos l.n l.at l.out l.p l.left l.place
-
-abbrev pub decreases-loop-next : goal.decreases-loop-next
-decreases-loop-next l = l.left
+abbrev pub invariant-loop-i : goal.invariant-loop-i
+invariant-loop-i l = (length l.out ≡ length l.initial.out) × Turns (parameter_at l.words l.pairs l.text) (ascii ", ") l.write l.initial.out l.pos l.n l.at l.out l.p l.i l.place

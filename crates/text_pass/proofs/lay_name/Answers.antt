@@ -3,9 +3,6 @@ use Rattle.text_pass.proofs.Leaves.{name-word, word_below}
 use Rattle.text_pass.proofs.Passes.{came-went, counts-here, counts-went, ready-true}
 use Rattle.text_pass.proofs.lay_name.Goals as goal
 
-pub write_name-end-requires : goal.write_name-end-requires
-write_name-end-requires c = let s = c in (s.requires.0, ready-true c.if-write.true s.requires.1)
-
 pub overflow_add-result : goal.overflow_add-result
 overflow_add-result c =
     let s = c in

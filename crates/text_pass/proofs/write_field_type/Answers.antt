@@ -2,80 +2,54 @@ use native.Mathlib.Omega.{arith}
 use Rattle.rast.specs.Bytes.{ascii}
 use Rattle.text_pass.proofs.Leaves.{TypeReady, borrow-asked, borrow-came, borrow-room, named-asked, named-came, plain-asked, plain-came, type-asked, type-came, type-early, type-there}
 use Rattle.text_pass.proofs.write_field_type.Goals as goal
+use Rattle.text_pass.proofs.write_field_type.Goals.{Start}
+
+accepted : (c : Start) → TypeReady c.args.words.now c.args.pairs.now c.args.text.now c.args.at c.args.out.now c.args.pos
+accepted c = record { checked = c.requires.0; ready = c.requires.1 }
 
 pub offset_bounds-words-at : goal.offset_bounds-words-at
-offset_bounds-words-at c =
-    let accepted : TypeReady c.args.words.now c.args.pairs.now c.args.text.now c.args.at c.args.out.now c.args.pos = record { checked = c.requires.0; ready = c.requires.1 } in
-    omega (arith, type-early accepted)
+offset_bounds-words-at c = omega (arith, type-early (accepted (goal.at.offset_bounds-words-at c).Start))
 
 pub bounds-words-at : goal.bounds-words-at
-bounds-words-at c =
-    let accepted : TypeReady c.args.words.now c.args.pairs.now c.args.text.now c.args.at c.args.out.now c.args.pos = record { checked = c.requires.0; ready = c.requires.1 } in
-    type-there accepted
+bounds-words-at c = type-there (accepted (goal.at.bounds-words-at c).Start)
 
 pub overflow_add-result : goal.overflow_add-result
-overflow_add-result c =
-    let accepted : TypeReady c.args.words.now c.args.pairs.now c.args.text.now c.args.at c.args.out.now c.args.pos = record { checked = c.requires.0; ready = c.requires.1 } in
-    omega (arith, type-early accepted)
+overflow_add-result c = omega (arith, type-early (accepted (goal.at.overflow_add-result c).Start))
 
 pub put_plain-requires : goal.put_plain-requires
-put_plain-requires c =
-    let accepted : TypeReady c.args.words.now c.args.pairs.now c.args.text.now c.args.at c.args.out.now c.args.pos = record { checked = c.requires.0; ready = c.requires.1 } in
-    plain-asked accepted c.if-w-lt-PLAIN_KINDS.true
+put_plain-requires c = plain-asked (accepted (goal.at.put_plain-requires c).Start) c.if-w-lt-PLAIN_KINDS.true
 
 pub returns-then-w-lt-PLAIN_KINDS : goal.returns-then-w-lt-PLAIN_KINDS
-returns-then-w-lt-PLAIN_KINDS c =
-    let accepted : TypeReady c.args.words.now c.args.pairs.now c.args.text.now c.args.at c.args.out.now c.args.pos = record { checked = c.requires.0; ready = c.requires.1 } in
-    plain-came accepted c.if-w-lt-PLAIN_KINDS.true c.put_plain.ensures
+returns-then-w-lt-PLAIN_KINDS c = plain-came (accepted (goal.at.returns-then-w-lt-PLAIN_KINDS c).Start) c.if-w-lt-PLAIN_KINDS.true c.put_plain.ensures
 
 pub overflow_add-result-then-w-eq-T_IDENTIFIER : goal.overflow_add-result-then-w-eq-T_IDENTIFIER
-overflow_add-result-then-w-eq-T_IDENTIFIER c =
-    let accepted : TypeReady c.args.words.now c.args.pairs.now c.args.text.now c.args.at c.args.out.now c.args.pos = record { checked = c.requires.0; ready = c.requires.1 } in
-    omega (arith, type-early accepted)
+overflow_add-result-then-w-eq-T_IDENTIFIER c = omega (arith, type-early (accepted (goal.at.overflow_add-result-then-w-eq-T_IDENTIFIER c).Start))
 
 pub overflow_add-at : goal.overflow_add-at
-overflow_add-at c =
-    let accepted : TypeReady c.args.words.now c.args.pairs.now c.args.text.now c.args.at c.args.out.now c.args.pos = record { checked = c.requires.0; ready = c.requires.1 } in
-    omega (arith, type-early accepted)
+overflow_add-at c = omega (arith, type-early (accepted (goal.at.overflow_add-at c).Start))
 
 pub write_name-requires : goal.write_name-requires
-write_name-requires c =
-    let accepted : TypeReady c.args.words.now c.args.pairs.now c.args.text.now c.args.at c.args.out.now c.args.pos = record { checked = c.requires.0; ready = c.requires.1 } in
-    named-asked accepted c.if-w-eq-T_IDENTIFIER.true
+write_name-requires c = named-asked (accepted (goal.at.write_name-requires c).Start) c.if-w-eq-T_IDENTIFIER.true
 
 pub returns-then-w-eq-T_IDENTIFIER : goal.returns-then-w-eq-T_IDENTIFIER
-returns-then-w-eq-T_IDENTIFIER c =
-    let accepted : TypeReady c.args.words.now c.args.pairs.now c.args.text.now c.args.at c.args.out.now c.args.pos = record { checked = c.requires.0; ready = c.requires.1 } in
-    named-came accepted c.if-w-eq-T_IDENTIFIER.true c.write_name.ensures
+returns-then-w-eq-T_IDENTIFIER c = named-came (accepted (goal.at.returns-then-w-eq-T_IDENTIFIER c).Start) c.if-w-eq-T_IDENTIFIER.true c.write_name.ensures
 
 pub put-p-requires : goal.put-p-requires
-put-p-requires c =
-    let accepted : TypeReady c.args.words.now c.args.pairs.now c.args.text.now c.args.at c.args.out.now c.args.pos = record { checked = c.requires.0; ready = c.requires.1 } in
-    borrow-room accepted c.if-w-eq-BORROWED.true
+put-p-requires c = borrow-room (accepted (goal.at.put-p-requires c).Start) c.if-w-eq-BORROWED.true
 
 pub overflow_add-at-then-w-eq-BORROWED : goal.overflow_add-at-then-w-eq-BORROWED
-overflow_add-at-then-w-eq-BORROWED c =
-    let accepted : TypeReady c.args.words.now c.args.pairs.now c.args.text.now c.args.at c.args.out.now c.args.pos = record { checked = c.requires.0; ready = c.requires.1 } in
-    omega (arith, type-early accepted)
+overflow_add-at-then-w-eq-BORROWED c = omega (arith, type-early (accepted (goal.at.overflow_add-at-then-w-eq-BORROWED c).Start))
 
 pub write_borrow-requires : goal.write_borrow-requires
 unfolding ascii
-write_borrow-requires c =
-    let accepted : TypeReady c.args.words.now c.args.pairs.now c.args.text.now c.args.at c.args.out.now c.args.pos = record { checked = c.requires.0; ready = c.requires.1 } in
-    borrow-asked accepted c.if-w-eq-BORROWED.true c.put-p.ensures
+write_borrow-requires c = borrow-asked (accepted (goal.at.write_borrow-requires c).Start) c.if-w-eq-BORROWED.true c.put-p.ensures
 
 pub returns-then-w-eq-BORROWED : goal.returns-then-w-eq-BORROWED
 unfolding ascii
-returns-then-w-eq-BORROWED c =
-    let accepted : TypeReady c.args.words.now c.args.pairs.now c.args.text.now c.args.at c.args.out.now c.args.pos = record { checked = c.requires.0; ready = c.requires.1 } in
-    borrow-came accepted c.if-w-eq-BORROWED.true c.put-p.ensures c.write_borrow.ensures
+returns-then-w-eq-BORROWED c = borrow-came (accepted (goal.at.returns-then-w-eq-BORROWED c).Start) c.if-w-eq-BORROWED.true c.put-p.ensures c.write_borrow.ensures
 
 pub write_type-spot-requires : goal.write_type-spot-requires
-write_type-spot-requires c =
-    let accepted : TypeReady c.args.words.now c.args.pairs.now c.args.text.now c.args.at c.args.out.now c.args.pos = record { checked = c.requires.0; ready = c.requires.1 } in
-    type-asked accepted
+write_type-spot-requires c = type-asked (accepted (goal.at.write_type-spot-requires c).Start)
 
 pub returns : goal.returns
-returns c =
-    let accepted : TypeReady c.args.words.now c.args.pairs.now c.args.text.now c.args.at c.args.out.now c.args.pos = record { checked = c.requires.0; ready = c.requires.1 } in
-    type-came accepted _ c.write_type-spot.ensures
+returns c = type-came (accepted (goal.at.returns c).Start) _ c.write_type-spot.ensures

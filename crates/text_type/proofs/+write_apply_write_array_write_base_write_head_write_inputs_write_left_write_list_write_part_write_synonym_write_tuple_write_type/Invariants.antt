@@ -1,5 +1,5 @@
 use Rattle.std.proofs.Common.{◌+◌, ◌-◌, ◌*◌, length}
-use Rattle.text_type.proofs.Turns.{ListLeft, Turning}
+use Rattle.text_type.proofs.Turns.{ListTo, Turning}
 use Rattle.text_type.proofs.+write_apply_write_array_write_base_write_head_write_inputs_write_left_write_list_write_part_write_synonym_write_tuple_write_type.Given as goal
 
 abbrev pub decreases-write_apply : goal.decreases-write_apply
@@ -35,11 +35,8 @@ decreases-write_tuple l = 5 * (length l.words.now - l.at) + 4
 abbrev pub decreases-write_type : goal.decreases-write_type
 decreases-write_type l = 5 * (length l.words.now - l.at) + 1
 
-abbrev pub invariant-write_list-loop-left : goal.invariant-write_list-loop-left
-invariant-write_list-loop-left l = ListLeft l.words l.pairs l.text l.n l.at l.initial.out l.pos l.out l.p l.left l.place
-
-abbrev pub decreases-write_list-loop-left : goal.decreases-write_list-loop-left
-decreases-write_list-loop-left l = l.left
+abbrev pub invariant-write_list-loop : goal.invariant-write_list-loop
+invariant-write_list-loop l = ListTo l.words l.pairs l.text l.n l.at l.fn.out l.pos l.out l.spot (l.n + 1 - l.counter)
 
 abbrev pub invariant-write_type-loop-spot : goal.invariant-write_type-loop-spot
 invariant-write_type-loop-spot l = Turning l.words l.pairs l.text l.at l.initial.out l.pos l.out l.place l.p

@@ -27,21 +27,6 @@ returns-then-w-lt-PLAIN_KINDS c =
     let room : TypeRoom c.args.words.now c.args.pairs.now c.args.text.now c.args.at c.args.out.now c.args.pos = record { there = c.requires.2 } in
     leaf-done (plain-leaf room c.if-w-lt-PLAIN_KINDS.true) c.put_primitive.ensures
 
-pub overflow_add-result-then-w-eq-T_IDENTIFIER : goal.overflow_add-result-then-w-eq-T_IDENTIFIER
-overflow_add-result-then-w-eq-T_IDENTIFIER c =
-    let room : TypeRoom c.args.words.now c.args.pairs.now c.args.text.now c.args.at c.args.out.now c.args.pos = record { there = c.requires.2 } in
-    omega (arith, (name-there room c.if-w-eq-T_IDENTIFIER.true).inside)
-
-pub overflow_add-at : goal.overflow_add-at
-overflow_add-at c =
-    let room : TypeRoom c.args.words.now c.args.pairs.now c.args.text.now c.args.at c.args.out.now c.args.pos = record { there = c.requires.2 } in
-    omega (arith, (name-there room c.if-w-eq-T_IDENTIFIER.true).inside)
-
-pub offset_bounds-words-at-then-w-eq-T_IDENTIFIER : goal.offset_bounds-words-at-then-w-eq-T_IDENTIFIER
-offset_bounds-words-at-then-w-eq-T_IDENTIFIER c =
-    let room : TypeRoom c.args.words.now c.args.pairs.now c.args.text.now c.args.at c.args.out.now c.args.pos = record { there = c.requires.2 } in
-    omega (arith, (name-there room c.if-w-eq-T_IDENTIFIER.true).inside)
-
 pub bounds-words-at-then-w-eq-T_IDENTIFIER : goal.bounds-words-at-then-w-eq-T_IDENTIFIER
 bounds-words-at-then-w-eq-T_IDENTIFIER c =
     let room : TypeRoom c.args.words.now c.args.pairs.now c.args.text.now c.args.at c.args.out.now c.args.pos = record { there = c.requires.2 } in

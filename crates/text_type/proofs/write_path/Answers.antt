@@ -1,18 +1,6 @@
-use Rattle.std.proofs.Common.{◌+◌, arith}
+use Rattle.std.proofs.Common.{arith}
 use Rattle.text_type.proofs.Rooms.{TypeRoom, PathIn, path-in, path-leaf, leaf_room, leaf-done}
 use Rattle.text_type.proofs.write_path.Goals as goal
-
-pub overflow_add-start : goal.overflow_add-start
-overflow_add-start c =
-    let room : TypeRoom c.args.words.now c.args.pairs.now c.args.text.now c.args.at c.args.out.now c.args.pos = record { there = c.requires.2 } in
-    let path : PathIn room = path-in room c.requires.0 in
-    omega (arith, path.inside)
-
-pub overflow_add-count : goal.overflow_add-count
-overflow_add-count c =
-    let room : TypeRoom c.args.words.now c.args.pairs.now c.args.text.now c.args.at c.args.out.now c.args.pos = record { there = c.requires.2 } in
-    let path : PathIn room = path-in room c.requires.0 in
-    omega (arith, path.inside)
 
 pub offset_bounds-words-at : goal.offset_bounds-words-at
 offset_bounds-words-at c =
@@ -26,26 +14,11 @@ bounds-words-at c =
     let path : PathIn room = path-in room c.requires.0 in
     omega (arith, path.inside)
 
-pub overflow_add-path : goal.overflow_add-path
-overflow_add-path c =
-    let room : TypeRoom c.args.words.now c.args.pairs.now c.args.text.now c.args.at c.args.out.now c.args.pos = record { there = c.requires.2 } in
-    let path : PathIn room = path-in room c.requires.0 in
-    omega (arith, path.inside)
-
-pub offset_bounds-words-at-2 : goal.offset_bounds-words-at-2
-offset_bounds-words-at-2 c =
-    let room : TypeRoom c.args.words.now c.args.pairs.now c.args.text.now c.args.at c.args.out.now c.args.pos = record { there = c.requires.2 } in
-    let path : PathIn room = path-in room c.requires.0 in
-    omega (arith, path.inside)
-
 pub bounds-words-at-2 : goal.bounds-words-at-2
 bounds-words-at-2 c =
     let room : TypeRoom c.args.words.now c.args.pairs.now c.args.text.now c.args.at c.args.out.now c.args.pos = record { there = c.requires.2 } in
     let path : PathIn room = path-in room c.requires.0 in
     omega (arith, path.inside)
-
-pub overflow_cast-result : goal.overflow_cast-result
-overflow_cast-result c = omega (arith, c.shared_slice_known-4-1.given (c.args.at + 2))
 
 pub overflow_add-result : goal.overflow_add-result
 overflow_add-result c =

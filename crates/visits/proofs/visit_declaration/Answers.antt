@@ -7,19 +7,19 @@ visit_walk-requires c =
     let s = c in
     let a = s.args in
     let n = c.name_count-bound.ensures in
-    let b = begun a.words.now a.pairs.now a.text.now (rw n at c.start_walk.ensures) c.in-Begun.is in
+    let b = begun a.words.now a.pairs.now a.text.now (rw n at c.start_walk.ensures) c.in-Ok.is in
     (n, entered-ahead a.words.now a.pairs.now a.text.now s.requires.0 s.requires.1 b)
 
-pub returns-in-Begun : goal.returns-in-Begun
-returns-in-Begun c =
+pub returns-in-Ok : goal.returns-in-Ok
+returns-in-Ok c =
     let s = c in
     let a = s.args in
     let n = c.name_count-bound.ensures in
-    let b = begun a.words.now a.pairs.now a.text.now (rw n at c.start_walk.ensures) c.in-Begun.is in
+    let b = begun a.words.now a.pairs.now a.text.now (rw n at c.start_walk.ensures) c.in-Ok.is in
     entered_all a.words.now a.pairs.now a.text.now s.requires.1 b c.visit_walk.ensures
 
-pub returns-in-NotBegun : goal.returns-in-NotBegun
-returns-in-NotBegun c =
+pub returns-in-Err : goal.returns-in-Err
+returns-in-Err c =
     let s = c in
     let a = s.args in
-    absurd (not-begun-read a.words.now a.pairs.now a.text.now (rw c.name_count-bound.ensures at c.start_walk.ensures) c.in-NotBegun.is s.requires.1)
+    absurd (not-begun-read a.words.now a.pairs.now a.text.now (rw c.name_count-bound.ensures at c.start_walk.ensures) c.in-Err.is s.requires.1)

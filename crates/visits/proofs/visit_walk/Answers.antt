@@ -1,3 +1,5 @@
+use Rattle.std.specs.Prelude.{Ok}
+use mathlib.Core.Path.{ap, ◌∙◌}
 use Rattle.declaration_walk.proofs.Passes.{stepped}
 use Rattle.visits.proofs.Entering.{going-ahead, going_done, going-due, going_end, going-halt, going_on, going-own, going_start, going-type}
 use native.Mathlib.Omega.{arith}
@@ -33,29 +35,29 @@ returns-then-is_done c =
 pub loop-out-smaller-in-OwnWords : goal.loop-out-smaller-in-OwnWords
 loop-out-smaller-in-OwnWords c =
     let a = c.args in
-    let g = going-own a.words.now a.pairs.now a.text.now a.walk a.out.now 0 c.loop-out.invariant (stepped a.words.now a.pairs.now c.requires.0 c.in-OwnWords.is c.next_piece.ensures) in
+    let g = going-own a.words.now a.pairs.now a.text.now a.walk a.out.now 0 c.loop-out.invariant (stepped a.words.now a.pairs.now c.requires.0 (c.in-Ok.is ∙ ap Ok c.in-OwnWords.is) c.next_piece.ensures) in
     omega (arith, g.further, g.next.inside)
 
 pub loop-out-preserved-in-OwnWords : goal.loop-out-preserved-in-OwnWords
 loop-out-preserved-in-OwnWords c =
     let a = c.args in
-    (going-own a.words.now a.pairs.now a.text.now a.walk a.out.now 0 c.loop-out.invariant (stepped a.words.now a.pairs.now c.requires.0 c.in-OwnWords.is c.next_piece.ensures)).next
+    (going-own a.words.now a.pairs.now a.text.now a.walk a.out.now 0 c.loop-out.invariant (stepped a.words.now a.pairs.now c.requires.0 (c.in-Ok.is ∙ ap Ok c.in-OwnWords.is) c.next_piece.ensures)).next
 
 pub pass_type-spot-requires : goal.pass_type-spot-requires
 pass_type-spot-requires c =
     let a = c.args in
-    going-due a.words.now a.pairs.now a.text.now a.walk a.out.now 0 c.loop-out.invariant (stepped a.words.now a.pairs.now c.requires.0 c.in-TypeDue.is c.next_piece.ensures)
+    going-due a.words.now a.pairs.now a.text.now a.walk a.out.now 0 c.loop-out.invariant (stepped a.words.now a.pairs.now c.requires.0 (c.in-Ok.is ∙ ap Ok c.in-TypeDue.is) c.next_piece.ensures)
 
 pub loop-out-smaller : goal.loop-out-smaller
 loop-out-smaller c =
     let a = c.args in
-    let g = going-type a.words.now a.pairs.now a.text.now a.walk a.out.now 0 c.loop-out.invariant (stepped a.words.now a.pairs.now c.requires.0 c.in-TypeDue.is c.next_piece.ensures) c.pass_type-spot.ensures in
+    let g = going-type a.words.now a.pairs.now a.text.now a.walk a.out.now 0 c.loop-out.invariant (stepped a.words.now a.pairs.now c.requires.0 (c.in-Ok.is ∙ ap Ok c.in-TypeDue.is) c.next_piece.ensures) c.pass_type-spot.ensures in
     rw c.move_to-w.ensures (omega (arith, g.further, g.next.inside))
 
 pub loop-out-preserved : goal.loop-out-preserved
 loop-out-preserved c =
     let a = c.args in
-    rw c.move_to-w.ensures (going-type a.words.now a.pairs.now a.text.now a.walk a.out.now 0 c.loop-out.invariant (stepped a.words.now a.pairs.now c.requires.0 c.in-TypeDue.is c.next_piece.ensures) c.pass_type-spot.ensures).next
+    rw c.move_to-w.ensures (going-type a.words.now a.pairs.now a.text.now a.walk a.out.now 0 c.loop-out.invariant (stepped a.words.now a.pairs.now c.requires.0 (c.in-Ok.is ∙ ap Ok c.in-TypeDue.is) c.next_piece.ensures) c.pass_type-spot.ensures).next
 
 pub shape_of-out-in-Ended : goal.shape_of-out-in-Ended
 shape_of-out-in-Ended c = c.loop-out.invariant.kept
@@ -63,12 +65,9 @@ shape_of-out-in-Ended c = c.loop-out.invariant.kept
 pub returns-in-Ended : goal.returns-in-Ended
 returns-in-Ended c =
     let a = c.args in
-    going_end a.words.now a.pairs.now a.text.now a.walk a.out.now 0 c.loop-out.invariant (stepped a.words.now a.pairs.now c.requires.0 c.in-Ended.is c.next_piece.ensures)
+    going_end a.words.now a.pairs.now a.text.now a.walk a.out.now 0 c.loop-out.invariant (stepped a.words.now a.pairs.now c.requires.0 (c.in-Ok.is ∙ ap Ok c.in-Ended.is) c.next_piece.ensures)
 
-pub shape_of-out-in-Halted : goal.shape_of-out-in-Halted
-shape_of-out-in-Halted c = c.loop-out.invariant.kept
-
-pub returns-in-Halted : goal.returns-in-Halted
-returns-in-Halted c =
+pub returns-in_default : goal.returns-in_default
+returns-in_default c =
     let a = c.args in
-    absurd (going-halt a.words.now a.pairs.now a.text.now a.walk a.out.now 0 c.loop-out.invariant (stepped a.words.now a.pairs.now c.requires.0 c.in-Halted.is c.next_piece.ensures))
+    absurd (going-halt a.words.now a.pairs.now a.text.now a.walk a.out.now 0 c.loop-out.invariant (stepped a.words.now a.pairs.now c.requires.0 c.in_default.is c.next_piece.ensures))

@@ -1,2 +1,0 @@
--- What reading says of its buffer.
-pub mod Reading
