@@ -253,6 +253,7 @@ pub fn accept_type(
         depth: inside,
         due: 1,
     };
+    // Kept: no plainer as a `for`, since no range is counted: a turn reads a head, and `advance` says which is the last.
     loop {
         match advance(all, pairs, text, bound, &mut levels, walk)? {
             Step::On(p) => {

@@ -5,7 +5,6 @@
 #![tactic(auto)]
 
 ghost use Rattle.std.specs.Prelude.{◌≡◌, ◌+◌, ◌*◌, ◌≤◌, ◌<◌, length};
-ghost use Rattle.std.specs.Io.{ReadsAtMost};
 ghost use Rattle.buffer.specs.Wrote.{Wrote};
 ghost use Rattle.encoding.specs.Words.{max_words, max_pairs, max_text};
 ghost use Rattle.encoding.specs.Filled.{filled};
@@ -13,29 +12,11 @@ ghost use Rattle.file.specs.File.{decimal, refusal_line, encoded_text, file_text
 
 use encoding::Refusal;
 use encoding::words::{MAX_PAIRS, MAX_TEXT, MAX_WORDS};
-use std::io;
-use std::io::Read;
 
 const HEADER_BYTES: usize = 12;
 
 // The longest text that is printed. The newline behind it is not counted.
 const MOST_PRINTED: usize = 65536;
-
-// Reads until `bytes` is full or the input ends. The answer is how many bytes were read.
-pub fn read_bytes(input: &mut impl Read, bytes: &mut [u8]) -> io::Result<usize>
-    ensures { ReadsAtMost result bytes.new }
-{
-    let mut done = 0;
-    // Kept: `while`, since each read says how far it came; `read_exact` says nothing of where an input ends early.
-    while done < bytes.len() {
-        let more = input.read(&mut bytes[done..])?;
-        if more == 0 {
-            break;
-        }
-        done += more;
-    }
-    Ok(done)
-}
 
 // The text of the declaration in a file of the length that its header gives, in the front of `out`.
 fn encoded_text(

@@ -105,7 +105,7 @@ module _ (ws pairs : List ℕ) (text : Bytes) where
   unfolding mapping_of ruled
   none-given q t r = refl
 
-  -- a tree that stays so is Ok by the words
+  -- a tree that stays so is given by the words
   same-given : {A : Type 0} (build : (Ty ℕ → Ty ℕ) → A → RebuiltWords) (deep : A → ℕ) (x : Reading A) {a : A} → (x ≡ got a (length ws) → build (mapping_of pairs text []) a ≡ same_words ws (deep a))
       → unless (check_tables ws pairs text) (whole (length ws) x) ≡ Ok a
       → unless (check_all ws (0 ∷ []) pairs text) (ruled_by (λ rs. build (mapping_of pairs text rs)) (whole (length ws) x) (rules_of (0 ∷ []) pairs text)) ≡ Ok (same_words ws (deep a))

@@ -215,6 +215,7 @@ fn first_along<F: Fn(usize) -> bool>(
     ensures { FoundAlong (F.post passes) table.now link result }
 {
     let mut next = link;
+    // Kept: no plainer as a `for`, since no range is counted: a turn follows a link.
     while 0 < next {
         let i = next - 1;
         if passes(i) {

@@ -1,5 +1,5 @@
 -- Each part: that it stands where it is said, and where the code finds it.
-use Rattle.std.specs.Prelude.{Option, Some, None, MatchOption}
+use Rattle.std.specs.Prelude.{Option, Some, None}
 use Prim.Native.Nat.{ℕ, ◌+◌}
 use mathlib.Core.Path.{◌≡◌, refl, ap, sym, ◌∙◌, subst}
 use mathlib.Core.Bool.{Bool, true, false}
@@ -141,12 +141,6 @@ module _ (ws pairs : List ℕ) (text : Bytes) (at : ℕ) where
         let i : is_of PtrClass t ≡ false = sym (first_found PtrClass (place r t)) ∙ ap is_found (sym f) in
         rw i (d.says t n e);
   })
-
-  -- a pointer's part, or else an object's: m is what was found of a pointer, and P says what was found then
-  pub either-finds : (r : ℕ) (m : Option ℕ) {u : Option ℕ} {P : Type 0} → ExpandsAt again at r → Finds (first PtrClass) again r m → MatchOption m P (λ s. u ≡ Some s) → (P → Finds (first ObjectClass) again r u)
-      → Finds ObjectOrPointerUnderlying again at u
-  either-finds r None x k o d = object-finds r x k refl (d o)
-  either-finds r (Some s) x k o d = rw o (pointer-finds r x k refl)
 
   pub set-finds : (r : ℕ) {m u : Option ℕ} → ExpandsAt again at r → Finds (first MapClass) again r m → m ≡ None → Finds (first Collection) again r u → Finds GetBuiltinCollectionElement again at u
   set-finds r x k y d = finds-expanded ws pairs text at r x GetBuiltinCollectionElement element collection-first (record {

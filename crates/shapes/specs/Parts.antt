@@ -1,4 +1,4 @@
--- RAST's functions from a type to a part of it: from a place to the place of the part. `none` stands exactly where the
+-- RAST's functions from a type to a part of it: from a place to the place of the part. `None` stands exactly where the
 -- source's `requires` fails or its answer is `None`.
 use Rattle.std.specs.Prelude.{Option, Some, ℕ, ◌+◌, Bool, eqb}
 use Rattle.rast.specs.Bytes.{Bytes, ascii, same, ◌and◌}

@@ -32,6 +32,7 @@ pub fn remove_wrappers(words: &[u32], pairs: &[u32], text: &[u8], at: usize) -> 
     ensures { Judges (λ t. (removed_at at t).at) (type_at words.now pairs.now text.now at) result }
 {
     let mut place = at;
+    // Kept: no plainer as a `for`, since no range is counted: a turn follows a type into the type, and the word there says which is the last.
     loop {
         let w = words[place];
         if w == T_SYNONYM {
@@ -81,9 +82,10 @@ pub fn object_or_pointer_part(words: &[u32], pairs: &[u32], text: &[u8], at: usi
     ensures { Finds ObjectOrPointerUnderlying (type_at words.now pairs.now text.now) at result }
 {
     let place = unwrap::expand(words, pairs, text, at);
-    known_paths::first_argument(words, pairs, text, Class::PtrClass, place).or_else(
-        || known_paths::first_argument(words, pairs, text, Class::ObjectClass, place),
-    )
+    let Some(part) = known_paths::first_argument(words, pairs, text, Class::PtrClass, place) else {
+        return known_paths::first_argument(words, pairs, text, Class::ObjectClass, place);
+    };
+    Some(part)
 }
 
 // `GetBuiltinCollectionElement`: of a Map the second argument
@@ -103,7 +105,9 @@ pub fn box_dyn_part(words: &[u32], pairs: &[u32], text: &[u8], at: usize) -> Opt
     requires { Good pairs.now text.now × Readable (type_at words.now pairs.now text.now at) }
     ensures { Finds BoxDynUnderlying (type_at words.now pairs.now text.now) at result }
 {
-    let place = known_paths::first_argument(words, pairs, text, Class::Boxed, at)?;
+    let Some(place) = known_paths::first_argument(words, pairs, text, Class::Boxed, at) else {
+        return None;
+    };
     if words[place] == DYN_TYPE {
         return Some(place + 1);
     }
@@ -118,7 +122,9 @@ fn uninit_part(words: &[u32], pairs: &[u32], text: &[u8], at: usize) -> Option<u
     if words[at] == ARRAY {
         return known_paths::first_argument(words, pairs, text, Class::Uninit, at + 2);
     }
-    let place = multi_array_part(words, pairs, text, at)?;
+    let Some(place) = multi_array_part(words, pairs, text, at) else {
+        return None;
+    };
     known_paths::first_argument(words, pairs, text, Class::Uninit, place)
 }
 
@@ -127,7 +133,9 @@ pub fn uninit_array_part(words: &[u32], pairs: &[u32], text: &[u8], at: usize) -
     requires { Good pairs.now text.now × Readable (type_at words.now pairs.now text.now at) }
     ensures { Finds ExtractMaybeUninitArrayElement (type_at words.now pairs.now text.now) at result }
 {
-    let place = object_or_pointer_part(words, pairs, text, at)?;
+    let Some(place) = object_or_pointer_part(words, pairs, text, at) else {
+        return None;
+    };
     uninit_part(words, pairs, text, place)
 }
 
@@ -172,6 +180,7 @@ fn is_rc_or_borrowed_at(words: &[u32], pairs: &[u32], text: &[u8], at: usize) ->
     ensures { Judges IsRcOrBorrowedRc (type_at words.now pairs.now text.now at) result }
 {
     let mut place = at;
+    // Kept: no plainer as a `for`, since no range is counted: a turn follows a type into the type, and the word there says which is the last.
     loop {
         let w = words[place];
         if w == BORROWED {
@@ -190,6 +199,7 @@ fn can_read_at(words: &[u32], pairs: &[u32], text: &[u8], at: usize) -> bool
     ensures { Judges CanReadWithoutClone (type_at words.now pairs.now text.now at) result }
 {
     let mut place = at;
+    // Kept: no plainer as a `for`, since no range is counted: a turn follows a type into the type, and the word there says which is the last.
     loop {
         let w = words[place];
         if w < PLAIN_KINDS {
@@ -238,6 +248,7 @@ fn ends_with_name_at(words: &[u32], pairs: &[u32], text: &[u8], at: usize) -> bo
     ensures { Judges EndsWithNameThatCanAcceptGenerics (type_at words.now pairs.now text.now at) result }
 {
     let mut place = at;
+    // Kept: no plainer as a `for`, since no range is counted: a turn follows a type into the type, and the word there says which is the last.
     loop {
         let w = words[place];
         if w == INTERSECTION_TYPE {

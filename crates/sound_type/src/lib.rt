@@ -623,6 +623,7 @@ fn judge_whole(words: &[u32], pairs: &[u32], text: &[u8]) -> Result<bool, Refusa
         ask: 1,
         rest: 0,
     };
+    // Kept: no plainer as a `for`, since no range is counted: a turn reads a head, and `advance` says which is the last.
     loop {
         match advance(words, pairs, text, bound, &mut known, &mut levels, pass)? {
             Step::On(p) => {

@@ -86,6 +86,13 @@ unfolding run_of
 run_none x [] e = refl
 run_none x (c ∷ s) e = run_ends x c s (sym (begins-one x c s) ∙ e)
 
+pub begins-some : (x : ℕ) (l : Bytes) (i : ℕ) → begins (x ∷ []) (drop i l) ≡ true → i < length l
+begins-some x l i e = go (drop i l) (length-drop i l) e
+  where
+    go : (d : Bytes) → length d ≡ length l - i → begins (x ∷ []) d ≡ true → i < length l
+    go [] k e = never (sym e ∙ begins-nothing x [])
+    go (c ∷ s) k e = omega arith
+
 pub begins-run : (x k : ℕ) (d : Bytes) → begins (replicate k x) d ≡ leb k (run_of x d)
 unfolding run_of ◌and◌
 begins-run x zero d = begins-none d ∙ sym (leb-zero (run_of x d))

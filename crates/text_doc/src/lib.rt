@@ -74,16 +74,19 @@ fn is_rust(doc: &[u8], at: usize) -> bool
 }
 
 // How many times `byte` stands from `at` on. For backticks this is `GatherSimpleQuotes`: the length of a fence.
+// Kept: a loop that yields the length by `break`, the form that document 01 binds for the scan over backticks (docs/DECISIONS.md).
 fn run(doc: &[u8], at: usize, byte: u8) -> usize
     requires { at ≤ length doc.now }
     ensures { (result ≡ run_of byte (drop at doc.now)) × (at + result ≤ length doc.now) }
 {
-    for i in at..doc.len() {
-        if doc[i] != byte {
-            return i - at;
+    let mut i = at;
+    let count = loop {
+        if !stands(doc, i, byte) {
+            break i - at;
         }
-    }
-    doc.len() - at
+        i += 1;
+    };
+    count
 }
 
 // A newline stands among the next `count` bytes. The loop has no early exit, so that it compiles to wide compares.

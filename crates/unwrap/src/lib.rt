@@ -13,6 +13,7 @@ pub fn expand(words: &[u32], pairs: &[u32], text: &[u8], at: usize) -> usize
     ensures { ExpandsAt (type_at words.now pairs.now text.now) at result }
 {
     let mut place = at;
+    // Kept: no plainer as a `for`, since no range is counted: a turn follows a type into the type, and the word there says which is the last.
     loop {
         let w = words[place];
         if w == T_SYNONYM {

@@ -13,11 +13,13 @@
 #![tactic(auto)]
 
 ghost use Rattle.std.specs.Prelude.{◌≡◌, ◌≤◌, length};
+ghost use Rattle.std.specs.Io.{ReadsAtMost};
 ghost use Rattle.vectors.specs.Header.{header_of};
 
 use encoding::Refusal;
 use parts::Span;
 use std::io;
+use std::io::Read;
 
 // Kept: numbers, since each call is what a record's first number says; `run_call` alone tells them apart, and refuses the others.
 const TYPE_TEXT: u32 = 1;
@@ -87,13 +89,29 @@ fn header_of(bytes: &[u8; HEADER_BYTES]) -> Header
     }
 }
 
+// Reads until `bytes` is full or the input ends. The answer is how many bytes were read.
+fn read_bytes(input: &mut impl Read, bytes: &mut [u8]) -> io::Result<usize>
+    ensures { ReadsAtMost result bytes.new }
+{
+    let mut done = 0;
+    // Kept: `while`, since each read says how far it came; `read_exact` says nothing of where an input ends early.
+    while done < bytes.len() {
+        let more = input.read(&mut bytes[done..])?;
+        if more == 0 {
+            break;
+        }
+        done += more;
+    }
+    Ok(done)
+}
+
 // Fills `out` from standard input. False if the input ends before that.
 fn read_numbers(rt: &impl Input, out: &mut [u32]) -> io::Result<bool>
     requires { length out.old ≤ MOST_WORDS }
 {
     let mut bytes = [0u8; WORD_BYTES];
     let size = 4 * out.len();
-    if file::read_bytes(&mut rt.reader(), &mut bytes[..size])? < size {
+    if read_bytes(&mut rt.reader(), &mut bytes[..size])? < size {
         return Ok(false);
     }
     little_endian::read_numbers(&bytes, 0, out);
@@ -102,7 +120,7 @@ fn read_numbers(rt: &impl Input, out: &mut [u32]) -> io::Result<bool>
 
 fn read_text(rt: &impl Input, out: &mut [u8]) -> io::Result<bool> {
     let size = out.len();
-    Ok(file::read_bytes(&mut rt.reader(), out)? == size)
+    Ok(read_bytes(&mut rt.reader(), out)? == size)
 }
 
 fn print(rt: &impl Print, bytes: &[u8]) -> io::Result<()> {
@@ -410,7 +428,7 @@ fn run_record(rt: &(impl Input + Print), h: Header) -> io::Result<bool> {
 // Runs the next record. False at the end of the input, and after a bad record.
 fn run_next(rt: &(impl Input + Print)) -> io::Result<bool> {
     let mut bytes = [0u8; HEADER_BYTES];
-    let got = file::read_bytes(&mut rt.reader(), &mut bytes)?;
+    let got = read_bytes(&mut rt.reader(), &mut bytes)?;
     if got == 0 {
         return Ok(false);
     }

@@ -209,6 +209,7 @@ fn visit_walk(
 {
     let mut w = walk;
     let mut p = 0;
+    // Kept: no plainer as a `for`, since no range is counted: the walk goes on by steps of several kinds, and says which is the last.
     loop {
         if enters_field(w) {
             let behind = visit_fields(words, pairs, text, w, out, p);

@@ -4,32 +4,32 @@ use Rattle.shapes.proofs.Parts.{box-dyn-finds, box-dyn-none, box-dyn-other}
 use borrow.Author.Rules.{rules}
 use Rattle.shapes.proofs.box_dyn_part.Goals as goal
 
-pub returns-in_err-place : goal.returns-in_err-place
-returns-in_err-place c =
+pub returns-in_default : goal.returns-in_default
+returns-in_default c =
     let a = c.args in
-    rw c.from_residual.ensures (box-dyn-none a.words.now a.pairs.now a.text.now a.at c.first_argument.ensures c.in_err-place.was)
+    box-dyn-none a.words.now a.pairs.now a.text.now a.at c.first_argument.ensures c.in_default.is
 
 pub offset_bounds-words-place : goal.offset_bounds-words-place
 offset_bounds-words-place c =
     let a = c.args in
-    let h = found_here a.words.now a.pairs.now a.text.now a.at (first-keeps a.words.now a.pairs.now a.text.now Boxed) c.requires.1 c.first_argument.ensures c.in_ok-place.was in search rules
+    let h = found_here a.words.now a.pairs.now a.text.now a.at (first-keeps a.words.now a.pairs.now a.text.now Boxed) c.requires.1 c.first_argument.ensures c.in-Some.is in search rules
 
 pub bounds-words-place : goal.bounds-words-place
 bounds-words-place c =
     let a = c.args in
-    found_here a.words.now a.pairs.now a.text.now a.at (first-keeps a.words.now a.pairs.now a.text.now Boxed) c.requires.1 c.first_argument.ensures c.in_ok-place.was
+    found_here a.words.now a.pairs.now a.text.now a.at (first-keeps a.words.now a.pairs.now a.text.now Boxed) c.requires.1 c.first_argument.ensures c.in-Some.is
 
 pub overflow_add-result : goal.overflow_add-result
 overflow_add-result c =
     let a = c.args in
-    let h = found_here a.words.now a.pairs.now a.text.now a.at (first-keeps a.words.now a.pairs.now a.text.now Boxed) c.requires.1 c.first_argument.ensures c.in_ok-place.was in search rules
+    let h = found_here a.words.now a.pairs.now a.text.now a.at (first-keeps a.words.now a.pairs.now a.text.now Boxed) c.requires.1 c.first_argument.ensures c.in-Some.is in search rules
 
 pub returns-then-words-place-eq-DYN_TYPE : goal.returns-then-words-place-eq-DYN_TYPE
 returns-then-words-place-eq-DYN_TYPE c =
     let a = c.args in
-    box-dyn-finds a.words.now a.pairs.now a.text.now a.at c.first_argument.ensures c.in_ok-place.was c.if-words-place-eq-DYN_TYPE.true
+    box-dyn-finds a.words.now a.pairs.now a.text.now a.at c.first_argument.ensures c.in-Some.is c.if-words-place-eq-DYN_TYPE.true
 
 pub returns : goal.returns
 returns c =
     let a = c.args in
-    box-dyn-other a.words.now a.pairs.now a.text.now a.at c.first_argument.ensures c.in_ok-place.was c.if-words-place-eq-DYN_TYPE.false
+    box-dyn-other a.words.now a.pairs.now a.text.now a.at c.first_argument.ensures c.in-Some.is c.if-words-place-eq-DYN_TYPE.false

@@ -33,17 +33,17 @@ returns-then-words-at-eq-ARRAY c =
 pub multi_array_part-requires : goal.multi_array_part-requires
 multi_array_part-requires c = (c.requires.0, c.requires.1)
 
-pub returns-in_err-place : goal.returns-in_err-place
-returns-in_err-place c =
+pub returns-in_default : goal.returns-in_default
+returns-in_default c =
     let a = c.args in
-    rw c.from_residual.ensures (element-none a.words.now a.pairs.now a.text.now a.at c.if-words-at-eq-ARRAY.false c.multi_array_part.ensures c.in_err-place.was)
+    element-none a.words.now a.pairs.now a.text.now a.at c.if-words-at-eq-ARRAY.false c.multi_array_part.ensures c.in_default.is
 
 pub first_argument-requires-2 : goal.first_argument-requires-2
 first_argument-requires-2 c =
     let a = c.args in
-    found-ready a.words.now a.pairs.now a.text.now a.at (multi-array-keeps a.words.now a.pairs.now a.text.now) c.requires c.multi_array_part.ensures c.in_ok-place.was
+    found-ready a.words.now a.pairs.now a.text.now a.at (multi-array-keeps a.words.now a.pairs.now a.text.now) c.requires c.multi_array_part.ensures c.in-Some.is
 
 pub returns : goal.returns
 returns c =
     let a = c.args in
-    element-inside a.words.now a.pairs.now a.text.now a.at c.if-words-at-eq-ARRAY.false c.multi_array_part.ensures c.in_ok-place.was c.first_argument-2.ensures
+    element-inside a.words.now a.pairs.now a.text.now a.at c.if-words-at-eq-ARRAY.false c.multi_array_part.ensures c.in-Some.is c.first_argument-2.ensures

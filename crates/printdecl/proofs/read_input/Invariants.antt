@@ -1,6 +1,6 @@
 -- What was read lies within the buffer.
 use Rattle.std.proofs.Common.{◌-◌, ◌≤◌, length}
-use Rattle.file.proofs.read_bytes.Given as goal
+use Rattle.printdecl.proofs.read_input.Given as goal
 
 abbrev pub invariant-loop-done : goal.invariant-loop-done
 invariant-loop-done g l = l.done ≤ length l.bytes
