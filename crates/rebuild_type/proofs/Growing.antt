@@ -6,8 +6,7 @@ use mathlib.Core.List.{List, [], ◌∷◌, ◌++◌, append_assoc, append-nil}
 use native.Mathlib.Omega.{arith}
 use native.Mathlib.Numerals.{add-one}
 use lib.ListN.{length, take, drop, get_or, set, length-append, length-drop, get_or-append}
-use borrow.Rule.Slice.PartMut.{mid_of, put_mid}
-use lib.Seq.{drop-drop, sets, sets-eq, length-sets, take-suc, take_at, drop_at, take-take, take-add, length-take-le, get_or-take, get_or-drop}
+use lib.Seq.{sets, sets-eq, length-sets, take-suc, take_at, drop_at, take-take, take-add, length-take-le, get_or-take, get_or-drop}
 use Rattle.buffer.proofs.Laws.{part_length, sets-append}
 use Rattle.rebuild_rules.specs.Table.{to_words, EntriesFit}
 use Rattle.rebuild_rules.specs.Scans.{SpansTo, depth_of}
@@ -16,16 +15,6 @@ use Rattle.tree_words.specs.Numbered.{tree_at}
 use Rattle.rebuild_type.specs.Laid.{Grown, Lays, laid, over, GivesTo, given, too_long, rebuilt, full, WordRebuilds}
 
 -- ---- copying
-
--- a part of one list, put in place of a part of another
-pub put-sets : (o s : List ℕ) (p start count : ℕ) {b : List ℕ} → start + count ≤ length s → p + count ≤ length o → b ≡ mid_of start (start + count - start) s → put_mid p (p + count - p) o b ≡ sets o p (take count (drop start s))
-put-sets o s p start count {b} h k e =
-    let x : start + count - start ≡ count = omega arith in
-    let y : p + count - p ≡ count = omega arith in
-    let f : b ≡ take count (drop start s) = rw x at e in
-    let n : length b ≡ count = ap length f ∙ part_length s start count h in
-    let z : put_mid p count o b ≡ sets o p b = ap (λ l. take p o ++ (b ++ l)) (drop-drop count p o ∙ ap (λ i. drop (p + i) o) (sym n)) ∙ sym (append_assoc (take p o) b (drop (p + length b) o)) ∙ sym (sets-eq b o p (omega (arith, n))) in
-    rw y (z ∙ ap (sets o p) f)
 
 pub copy_more : (o s : List ℕ) (p start i : ℕ) → start + i < length s
     → set (sets o p (take i (drop start s))) (p + i) (get_or s (start + i) 0) ≡ sets o p (take (i + 1) (drop start s))

