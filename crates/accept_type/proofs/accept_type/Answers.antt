@@ -1,5 +1,4 @@
 use Rattle.std.specs.Prelude.{Ok}
-use Rattle.encoding.proofs.Reading.{handed-on}
 use mathlib.Core.Path.{◌∙◌, ap, refl, sym}
 use Rattle.encoding.specs.Scans.{ended}
 use Rattle.text_measure.proofs.Steps.{came-to-end, was-halted, went_on}
@@ -22,20 +21,20 @@ advance-requires c = (c.name_count-bound.ensures, c.requires.0, c.requires.1, c.
 
 pub loop-p-smaller : goal.loop-p-smaller
 loop-p-smaller c =
-    let w = went_on c.advance.ensures (ap pass_step (c.in_ok-p.was ∙ ap Ok c.in-On.is)) in
+    let w = went_on c.advance.ensures (ap pass_step (c.in-Ok-On.is ∙ ap Ok c.in-Ok-On.field-0-is)) in
     omega (arith, w.0.place, w.2)
 
 pub loop-p-preserved : goal.loop-p-preserved
 loop-p-preserved c =
-    let w = went_on c.advance.ensures (ap pass_step (c.in_ok-p.was ∙ ap Ok c.in-On.is)) in
+    let w = went_on c.advance.ensures (ap pass_step (c.in-Ok-On.is ∙ ap Ok c.in-Ok-On.field-0-is)) in
     (w.0, w.1 ∙ c.loop-p.invariant.1)
 
-pub returns-in-Ended : goal.returns-in-Ended
-returns-in-Ended c =
+pub returns-in-Ok-Ended : goal.returns-in-Ok-Ended
+returns-in-Ok-Ended c =
     let a = c.args in
-    start a.words.now a.pairs.now a.text.now _ a.at a.inside zero-levels (sym c.loop-p.invariant.1 ∙ came-to-end c.advance.ensures (ap pass_step (c.in_ok-p.was ∙ ap Ok c.in-Ended.is)))
+    start a.words.now a.pairs.now a.text.now _ a.at a.inside zero-levels (sym c.loop-p.invariant.1 ∙ came-to-end c.advance.ensures (ap pass_step (c.in-Ok-Ended.is ∙ ap Ok c.in-Ok-Ended.field-0-is)))
 
-pub returns-in_err-p : goal.returns-in_err-p
-returns-in_err-p c =
+pub returns-in-Err : goal.returns-in-Err
+returns-in-Err c =
     let a = c.args in
-    handed-on c.from_residual.ensures.1 ∙ start a.words.now a.pairs.now a.text.now _ a.at a.inside zero-levels (sym c.loop-p.invariant.1 ∙ was-halted c.advance.ensures (ap pass_step c.in_err-p.was))
+    start a.words.now a.pairs.now a.text.now _ a.at a.inside zero-levels (sym c.loop-p.invariant.1 ∙ was-halted c.advance.ensures (ap pass_step c.in-Err.is))
