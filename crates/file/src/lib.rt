@@ -5,6 +5,7 @@
 #![tactic(auto)]
 
 ghost use Rattle.std.specs.Prelude.{◌≡◌, ◌+◌, ◌*◌, ◌≤◌, ◌<◌, length};
+ghost use Rattle.std.specs.Io.{ReadsAtMost};
 ghost use Rattle.buffer.specs.Wrote.{Wrote};
 ghost use Rattle.encoding.specs.Words.{max_words, max_pairs, max_text};
 ghost use Rattle.encoding.specs.Filled.{filled};
@@ -12,11 +13,30 @@ ghost use Rattle.file.specs.File.{decimal, refusal_line, encoded_text, file_text
 
 use encoding::Refusal;
 use encoding::words::{MAX_PAIRS, MAX_TEXT, MAX_WORDS};
+use std::io;
+use std::io::Read;
 
 const HEADER_BYTES: usize = 12;
 
 // The longest text that is printed. The newline behind it is not counted.
 const MOST_PRINTED: usize = 65536;
+
+// Reads until `bytes` is full or the input ends. The answer is how many bytes were read.
+// For callers of this library, who lend the reader: the programs read by functions of their own (docs/DECISIONS.md, "How crates are cut and named").
+pub fn read_bytes(input: &mut impl Read, bytes: &mut [u8]) -> io::Result<usize>
+    ensures { ReadsAtMost result bytes.new }
+{
+    let mut done = 0;
+    // Kept: `while`, since each read says how far it came; `read_exact` says nothing of where an input ends early.
+    while done < bytes.len() {
+        let more = input.read(&mut bytes[done..])?;
+        if more == 0 {
+            break;
+        }
+        done += more;
+    }
+    Ok(done)
+}
 
 // The text of the declaration in a file of the length that its header gives, in the front of `out`.
 fn encoded_text(
@@ -112,4 +132,48 @@ pub fn print_file(file: &[u8], out: &mut [u8; 65537]) -> usize
     ensures { (result, out.new) ≡ at_front (printed_file file.now) out.old }
 {
     print_into(file, out)
+}
+
+#[cfg(test)]
+mod tests {
+    use super::*;
+    use std::io::{Error, ErrorKind};
+    use std::test::Fail;
+
+    #[derive(Drop)]
+    struct Broken;
+
+    impl Read for Broken {
+        fn read(&mut self, _buf: &mut [u8]) -> io::Result<usize> {
+            Err(Error::from(ErrorKind::TimedOut))
+        }
+    }
+
+    // An input in two pieces: a read gives no more than what is left of a piece. No contract says that `read_bytes` goes on behind it.
+    #[test]
+    fn reads_until_full_or_the_end(rt: HostRuntime) -> Result<(), Fail> {
+        let high: &[u8] = b"high";
+        let water: &[u8] = b"water";
+        let mut input = high.chain(water);
+        let mut bytes = [b'.'; 6];
+        assert_eq!(rt; read_bytes(&mut input, &mut [])?, 0);
+        assert_eq!(rt; read_bytes(&mut input, &mut bytes)?, 6);
+        assert_eq!(rt; bytes, *b"highwa");
+        assert_eq!(rt; read_bytes(&mut input, &mut bytes)?, 3);
+        assert_eq!(rt; bytes, *b"terhwa");
+        assert_eq!(rt; read_bytes(&mut input, &mut bytes)?, 0);
+        Ok(())
+    }
+
+    #[test]
+    fn hands_on_what_failed(rt: HostRuntime) {
+        let low: &[u8] = b"low";
+        let mut input = low.chain(Broken);
+        let mut bytes = [b'.'; 6];
+        match read_bytes(&mut input, &mut bytes) {
+            Ok(n) => assert!(rt; false, "{n} bytes"),
+            Err(e) => assert_eq!(rt; e.kind(), ErrorKind::TimedOut),
+        }
+        assert_eq!(rt; bytes, *b"low...");
+    }
 }

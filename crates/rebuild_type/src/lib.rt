@@ -22,7 +22,7 @@ use encoding::words::{MAX_DEPTH, PLAIN_KINDS};
 // ---- laying words down
 
 // `count` words of `src` from `start` on, copied to `out` from `pos` on.
-// Kept: the two indices; with `copy_from_slice`, slower (a type of 8,192 words that comes back as it is took a quarter longer).
+// By the index for no reason of speed: `copy_from_slice` takes as long (docs/LOOK-BACK.md, "Withdrawn").
 pub fn copy_words(src: &[u32], start: usize, count: usize, out: &mut [u32], pos: usize)
     requires { (start + count ≤ length src.now) × (pos + count ≤ length out.old) }
     ensures { out.new ≡ sets out.old pos (take count (drop start src.now)) }
